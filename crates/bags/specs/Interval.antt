@@ -1,0 +1,161 @@
+-- Intervals of repetitions (document 01, "Bags", second paragraph; section 8.2 of the paper).
+--   Interval, In, inside     a set of numbers of repetitions, and whether a number is in it
+--   meet, add                the intersection, and the sums of a number of each
+--   linkInterval, starInterval, plusInterval   those of a link, and of a star and a plus over a part's
+--   interval                 the interval of a part for some counts
+--   fits                     whether counts fit a part, by its interval
+-- This is a way to decide whether counts fit, for the evaluator and for tests; the promise is Bag's Fits.
+-- Assumes nothing.
+use Prim.Native.Nat.{ℕ, zero, suc, _+_, _/_, _≤_, min, max}
+use mathlib.Core.Bool.{Bool, true, false, _&&_, _||_}
+use mathlib.Core.List.{List, [], _∷_}
+use lib.ListN.{getD}
+use lib.Dec.{leb, eqb}
+use Rattle.bags.specs.Part.{Limit, at-most, no-limit}
+use Rattle.bags.specs.Part.{Part, nothing, star, plus, optional, choice, all, link, Parts, none, more}
+
+-- No number; lo to hi, both inside; lo up.
+pub data Interval : Type 0 where
+  empty : Interval
+  within : ℕ → ℕ → Interval
+  from : ℕ → Interval
+
+-- The number i is inside.
+abbrev pub In : ℕ → Interval → Type 0
+In i empty = ⊥
+In i (within lo hi) = (lo ≤ i) × (i ≤ hi)
+In i (from lo) = lo ≤ i
+
+-- Whether the number i is inside.
+abbrev pub inside : ℕ → Interval → Bool
+inside i empty = false
+inside i (within lo hi) = leb lo i && leb i hi
+inside i (from lo) = leb lo i
+
+-- The interval where the test says yes, else empty.
+abbrev pub keep : Bool → Interval → Interval
+keep true I = I
+keep false I = empty
+
+-- lo to hi, or empty.
+abbrev pub range : ℕ → ℕ → Interval
+range lo hi = keep (leb lo hi) (within lo hi)
+
+-- "All intersects them, and an empty interval makes either empty."
+abbrev pub meet : Interval → Interval → Interval
+meet empty J = empty
+meet (within a b) empty = empty
+meet (within a b) (within c d) = range (max a c) (min b d)
+meet (within a b) (from c) = range (max a c) b
+meet (from a) empty = empty
+meet (from a) (within c d) = range (max a c) d
+meet (from a) (from c) = from (max a c)
+
+-- "Choice adds intervals, and an empty interval makes either empty."
+abbrev pub add : Interval → Interval → Interval
+add empty J = empty
+add (within a b) empty = empty
+add (within a b) (within c d) = within (a + c) (b + d)
+add (within a b) (from c) = from (a + c)
+add (from a) empty = empty
+add (from a) (within c d) = from (a + c)
+add (from a) (from c) = from (a + c)
+
+-- Those i with i × low ≤ w.
+abbrev pub lowRoom : ℕ → ℕ → Interval
+lowRoom w zero = from 0
+lowRoom w (suc l) = within 0 (w / suc l)
+
+-- Those i with w ≤ i × high, "where no limit means i ≥ 1 or w = 0".
+abbrev pub highRoom : ℕ → Limit → Interval
+highRoom w no-limit = from (min w 1)
+highRoom w (at-most zero) = keep (eqb w 0) (from 0)
+highRoom w (at-most (suc h)) = from ((w + h) / suc h)
+
+-- "Link with count w: those i with i × low ≤ w ≤ i × high."
+abbrev pub linkInterval : ℕ → ℕ → Limit → Interval
+linkInterval w low high = meet (lowRoom w low) (highRoom w high)
+
+-- "1 up if the part's interval isn't empty; else empty."
+abbrev pub oneUp : Interval → Interval
+oneUp empty = empty
+oneUp (within lo hi) = from 1
+oneUp (from lo) = from 1
+
+-- "1 to the part's highest if not empty; else empty."
+abbrev pub oneToHighest : Interval → Interval
+oneToHighest empty = empty
+oneToHighest (within lo hi) = range 1 hi
+oneToHighest (from lo) = from 1
+
+-- "Star: 0 up if the counts of its part's kinds are all 0."
+abbrev pub starInterval : Bool → Interval → Interval
+starInterval true I = from 0
+starInterval false I = oneUp I
+
+-- "Plus: the part's own interval if all are 0." The paper's formula assumes that the part refuses the empty bag.
+abbrev pub plusInterval : Bool → Interval → Interval
+plusInterval true I = I
+plusInterval false I = oneToHighest I
+
+-- Whether the counts of all labels of a part are 0.
+abbrev mutual
+  pub allZero : Part → (ℕ → ℕ) → Bool
+  allZero nothing w = true
+  allZero (star p) w = allZero p w
+  allZero (plus p) w = allZero p w
+  allZero (optional p) w = allZero p w
+  allZero (choice ps) w = runAllZero ps w
+  allZero (all ps) w = runAllZero ps w
+  allZero (link label shape low high) w = eqb (w label) 0
+
+  pub runAllZero : Parts → (ℕ → ℕ) → Bool
+  runAllZero none w = true
+  runAllZero (more p ps) w = allZero p w && runAllZero ps w
+
+-- "The interval of repetitions i for which the counts of its kinds are a sum of i of its bags."
+abbrev mutual
+  pub interval : Part → (ℕ → ℕ) → Interval
+  interval nothing w = from 0
+  interval (star p) w = starInterval (allZero p w) (interval p w)
+  interval (plus p) w = plusInterval (allZero p w) (interval p w)
+  interval (optional p) w = add (from 0) (interval p w)
+  interval (choice ps) w = addRun ps w
+  interval (all ps) w = meetRun ps w
+  interval (link label shape low high) w = linkInterval (w label) low high
+
+  pub addRun : Parts → (ℕ → ℕ) → Interval
+  addRun none w = within 0 0
+  addRun (more p ps) w = add (interval p w) (addRun ps w)
+
+  pub meetRun : Parts → (ℕ → ℕ) → Interval
+  meetRun none w = from 0
+  meetRun (more p ps) w = meet (interval p w) (meetRun ps w)
+
+-- Whether a part, or a part of a run, names the label k.
+abbrev mutual
+  pub names : Part → ℕ → Bool
+  names nothing k = false
+  names (star p) k = names p k
+  names (plus p) k = names p k
+  names (optional p) k = names p k
+  names (choice ps) k = runNames ps k
+  names (all ps) k = runNames ps k
+  names (link label shape low high) k = eqb k label
+
+  pub runNames : Parts → ℕ → Bool
+  runNames none k = false
+  runNames (more p ps) k = names p k || runNames ps k
+
+-- The count of the label k in a list of counts, 0 past its end.
+abbrev pub count : List ℕ → ℕ → ℕ
+count xs k = getD xs k 0
+
+-- "A kind not named there must count 0": whether the labels from k on that the part does not name do.
+abbrev pub othersZero : Part → ℕ → List ℕ → Bool
+othersZero p k [] = true
+othersZero p k (x ∷ xs) = (names p k || eqb x 0) && othersZero p (suc k) xs
+
+-- "It fits if 1 is inside", and the labels not named count 0.
+abbrev pub fits : Part → List ℕ → Bool
+fits p xs = inside 1 (interval p (count xs)) && othersZero p 0 xs

@@ -1,0 +1,150 @@
+-- Parts of a template's shapes (document 01, "Template"): the bag expressions of section 2.1 over (label, shape).
+--   Part, Parts             a part; a run of parts, under choice and all
+--   Names, Declares         a label stands in the part; it stands there with a shape
+--   Single                  no label stands twice
+--   ShapesBelow, LabelsBelow   every link's shape, label is below a number
+--   depth                   how deep the parts stand in each other
+--   named                   the shape that a part names for a label, as an entry of a table
+-- A label is the number of a link's kind as the list of counts has it. Assumes nothing.
+use Prim.Native.Nat.{ℕ, zero, suc, _<_, max}
+use mathlib.Core.Path.{_≡_}
+use mathlib.Core.Logic.{_⊎_}
+use mathlib.Core.Bool.{Bool, true, false}
+use lib.Dec.{eqb}
+
+-- The high of a link.
+pub data Limit : Type 0 where
+  at-most : ℕ → Limit
+  no-limit : Limit
+
+mutual
+  -- The codes of document 01, "Template".
+  pub data Part : Type 0 where
+    nothing : Part
+    star : Part → Part
+    plus : Part → Part
+    optional : Part → Part
+    choice : Parts → Part
+    all : Parts → Part
+    -- label, shape, low, high
+    link : ℕ → ℕ → ℕ → Limit → Part
+
+  -- A run of parts.
+  pub data Parts : Type 0 where
+    none : Parts
+    more : Part → Parts → Parts
+
+-- The label k stands in a part, or in a part of a run.
+abbrev mutual
+  pub Names : Part → ℕ → Type 0
+  Names nothing k = ⊥
+  Names (star p) k = Names p k
+  Names (plus p) k = Names p k
+  Names (optional p) k = Names p k
+  Names (choice ps) k = RunNames ps k
+  Names (all ps) k = RunNames ps k
+  Names (link label shape low high) k = k ≡ label
+
+  pub RunNames : Parts → ℕ → Type 0
+  RunNames none k = ⊥
+  RunNames (more p ps) k = Names p k ⊎ RunNames ps k
+
+-- A part, or a part of a run, has a link of the label k with the shape s.
+abbrev mutual
+  pub Declares : Part → ℕ → ℕ → Type 0
+  Declares nothing k s = ⊥
+  Declares (star p) k s = Declares p k s
+  Declares (plus p) k s = Declares p k s
+  Declares (optional p) k s = Declares p k s
+  Declares (choice ps) k s = RunDeclares ps k s
+  Declares (all ps) k s = RunDeclares ps k s
+  Declares (link label shape low high) k s = (k ≡ label) × (s ≡ shape)
+
+  pub RunDeclares : Parts → ℕ → ℕ → Type 0
+  RunDeclares none k s = ⊥
+  RunDeclares (more p ps) k s = Declares p k s ⊎ RunDeclares ps k s
+
+-- "A kind stands at most once in a shape": no label stands twice.
+abbrev mutual
+  pub Single : Part → Type 0
+  Single nothing = Unit {0}
+  Single (star p) = Single p
+  Single (plus p) = Single p
+  Single (optional p) = Single p
+  Single (choice ps) = RunSingle ps
+  Single (all ps) = RunSingle ps
+  Single (link label shape low high) = Unit {0}
+
+  pub RunSingle : Parts → Type 0
+  RunSingle none = Unit {0}
+  RunSingle (more p ps) = Single p × RunSingle ps × ((k : ℕ) → Names p k → RunNames ps k → ⊥)
+
+-- Every link's shape is below S.
+abbrev mutual
+  pub ShapesBelow : ℕ → Part → Type 0
+  ShapesBelow S nothing = Unit {0}
+  ShapesBelow S (star p) = ShapesBelow S p
+  ShapesBelow S (plus p) = ShapesBelow S p
+  ShapesBelow S (optional p) = ShapesBelow S p
+  ShapesBelow S (choice ps) = RunShapesBelow S ps
+  ShapesBelow S (all ps) = RunShapesBelow S ps
+  ShapesBelow S (link label shape low high) = shape < S
+
+  pub RunShapesBelow : ℕ → Parts → Type 0
+  RunShapesBelow S none = Unit {0}
+  RunShapesBelow S (more p ps) = ShapesBelow S p × RunShapesBelow S ps
+
+-- Every link's label is below L.
+abbrev mutual
+  pub LabelsBelow : ℕ → Part → Type 0
+  LabelsBelow L nothing = Unit {0}
+  LabelsBelow L (star p) = LabelsBelow L p
+  LabelsBelow L (plus p) = LabelsBelow L p
+  LabelsBelow L (optional p) = LabelsBelow L p
+  LabelsBelow L (choice ps) = RunLabelsBelow L ps
+  LabelsBelow L (all ps) = RunLabelsBelow L ps
+  LabelsBelow L (link label shape low high) = label < L
+
+  pub RunLabelsBelow : ℕ → Parts → Type 0
+  RunLabelsBelow L none = Unit {0}
+  RunLabelsBelow L (more p ps) = LabelsBelow L p × RunLabelsBelow L ps
+
+-- "A shape's whole part has depth 1, a part inside another one more": the depth of the deepest part.
+abbrev mutual
+  pub depth : Part → ℕ
+  depth nothing = 1
+  depth (star p) = suc (depth p)
+  depth (plus p) = suc (depth p)
+  depth (optional p) = suc (depth p)
+  depth (choice ps) = suc (runDepth ps)
+  depth (all ps) = suc (runDepth ps)
+  depth (link label shape low high) = 1
+
+  pub runDepth : Parts → ℕ
+  runDepth none = 0
+  runDepth (more p ps) = max (depth p) (runDepth ps)
+
+-- The entry for a shape that a link names, if it does.
+abbrev pub entry : Bool → ℕ → ℕ
+entry true shape = suc shape
+entry false shape = 0
+
+-- The first of two entries that is one.
+abbrev pub firstEntry : ℕ → ℕ → ℕ
+firstEntry zero n = n
+firstEntry (suc m) n = suc m
+
+-- The shape that a part names for the label k, plus one; 0 where it names none. In a run the first that names it wins.
+abbrev mutual
+  pub named : Part → ℕ → ℕ
+  named nothing k = 0
+  named (star p) k = named p k
+  named (plus p) k = named p k
+  named (optional p) k = named p k
+  named (choice ps) k = runNamed ps k
+  named (all ps) k = runNamed ps k
+  named (link label shape low high) k = entry (eqb k label) shape
+
+  pub runNamed : Parts → ℕ → ℕ
+  runNamed none k = 0
+  runNamed (more p ps) k = firstEntry (named p k) (runNamed ps k)

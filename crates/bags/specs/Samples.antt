@@ -1,0 +1,71 @@
+-- The count samples P1 to P12 of document 01, as one table.
+--   samples     a part, the counts of the labels 0 and 1, and whether they fit
+--   AllHold     each row's answer is that of Fits
+-- Assumes nothing.
+use Prim.Native.Nat.{ℕ}
+use mathlib.Core.Bool.{Bool, true, false}
+use mathlib.Core.List.{List, [], _∷_}
+use Rattle.bags.specs.Part.{at-most, Part, nothing, star, plus, choice, all, link, Parts, none, more}
+use Rattle.bags.specs.Bag.{Fits}
+use Rattle.bags.specs.Interval.{count}
+
+-- A part, the counts of a and b, and the answer.
+pub data Sample : Type 0 where
+  sample : Part → ℕ → ℕ → Bool → Sample
+
+-- a[low;high].
+abbrev pub a : ℕ → ℕ → Part
+a low high = link 0 0 low (at-most high)
+
+-- b[low;high].
+abbrev pub b : ℕ → ℕ → Part
+b low high = link 1 0 low (at-most high)
+
+-- A run of two parts.
+abbrev pub two : Part → Part → Parts
+two p q = more p (more q none)
+
+-- "Entries after a label belong to it."
+abbrev pub samples : List Sample
+samples =
+    -- P1, P2
+    sample nothing 0 0 true
+    ∷ sample nothing 1 0 false
+    -- P3, P4, P5
+    ∷ sample (a 2 3) 1 0 false
+    ∷ sample (a 2 3) 2 0 true
+    ∷ sample (a 2 3) 3 0 true
+    ∷ sample (a 2 3) 4 0 false
+    -- P6, P7
+    ∷ sample (star (a 3 3)) 4 0 false
+    ∷ sample (star (a 3 3)) 6 0 true
+    -- P8
+    ∷ sample (star (all (two (a 1 1) (b 1 1)))) 2 1 false
+    ∷ sample (star (all (two (a 1 1) (b 1 1)))) 2 2 true
+    -- P9
+    ∷ sample (choice (two (a 1 1) (b 1 1))) 1 1 false
+    ∷ sample (choice (two (a 1 1) (b 1 1))) 1 0 true
+    ∷ sample (choice (two (a 1 1) (b 1 1))) 0 0 false
+    -- P10
+    ∷ sample (plus (a 0 1)) 0 0 true
+    -- P11
+    ∷ sample (plus (choice (two (a 1 1) (b 2 2)))) 1 4 true
+    ∷ sample (plus (choice (two (a 1 1) (b 2 2)))) 1 1 false
+    -- P12
+    ∷ sample (a 0 0) 1 0 false
+    ∷ sample (a 0 0) 0 0 true
+    ∷ []
+
+-- X where the answer is yes, and not X where it is no.
+abbrev pub Says : Bool → Type 0 → Type 0
+Says true X = X
+Says false X = X → ⊥
+
+-- A row is as the bags have it; both shapes of a table's links are 0, so 1 bounds them.
+abbrev pub Holds : Sample → Type 0
+Holds (sample p x y answer) = Says answer (Fits 1 p (count (x ∷ y ∷ [])))
+
+-- Every row is.
+abbrev pub AllHold : List Sample → Type 0
+AllHold [] = Unit {0}
+AllHold (s ∷ ss) = Holds s × AllHold ss

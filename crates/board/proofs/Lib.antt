@@ -1,0 +1,14 @@
+pub mod Bools
+pub mod Tally
+pub mod Grids
+pub mod Queues
+pub mod Rounds
+pub mod Levels
+pub mod Closure
+pub mod Boards
+pub mod Flood
+pub mod Worklist
+pub mod Lists
+pub mod Flips
+pub mod Search
+pub mod Flooding

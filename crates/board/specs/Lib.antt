@@ -1,0 +1,4 @@
+pub mod Grid
+pub mod Board
+pub mod Work
+pub mod Listing

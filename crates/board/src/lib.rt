@@ -1,0 +1,93 @@
+// A grid of bytes, 1 where a place is on, and a queue of places: what the searches for both typings do with them.
+ghost use mathlib.Core.Path.{_≡_};
+ghost use Prim.Native.Nat.{_<_, _≤_};
+ghost use lib.ListN.{length, replicate};
+ghost use Rattle.board.specs.Grid.{on, tally, Flipped, FirstMissing};
+ghost use Rattle.board.specs.Work.{work, strikeOne, Room};
+ghost use Rattle.board.specs.Listing.{Listed};
+
+// Strikes a place and queues it, if it still stands. Returns the queue's tail.
+pub fn strike_one(grid: &mut [u8], queue: &mut [u16], tail: usize, place: usize) -> usize
+    requires { ⌜ (place < length (now grid)) × (place < 65536) × Room (work (now grid) (now queue) tail) ⌝ }
+    ensures { λ r. ⌜ work (now (grid .exit)) (now (queue .exit)) r ≡ strikeOne (work (now (grid .entry)) (now (queue .entry)) tail) place ⌝ }
+{
+    if grid[place] == 1 {
+        grid[place] = 0;
+        queue[tail] = place as u16;
+        return tail + 1;
+    }
+    tail
+}
+
+// Queues the places that are not on, and returns how many.
+pub fn list_off(grid: &[u8], queue: &mut [u16]) -> usize
+    requires { ⌜ (length (now grid) ≤ length (now queue)) × (length (now grid) ≤ 65535) ⌝ }
+    ensures { λ r. ⌜ Listed (now (grid .entry)) (now (queue .exit)) r (length (now (grid .entry))) ⌝ }
+{
+    let mut listed = 0;
+    let mut place = 0;
+    while place < grid.len() {
+        if grid[place] != 1 {
+            queue[listed] = place as u16;
+            listed += 1;
+        }
+        place += 1;
+    }
+    listed
+}
+
+// Gives every byte the same value.
+pub fn fill(grid: &mut [u8], value: u8)
+    ensures { λ _. ⌜ now (grid .exit) ≡ replicate (length (now (grid .entry))) value ⌝ }
+{
+    let mut place = 0;
+    while place < grid.len() {
+        grid[place] = value;
+        place += 1;
+    }
+}
+
+// Counts the places that are on.
+pub fn count_on(grid: &[u8]) -> usize
+    ensures { λ r. ⌜ r ≡ tally (on (now (grid .entry))) (length (now (grid .entry))) ⌝ }
+{
+    let mut count = 0;
+    let mut place = 0;
+    while place < grid.len() {
+        if grid[place] == 1 {
+            count += 1;
+        }
+        place += 1;
+    }
+    count
+}
+
+// Turns every place round: 0 where it was on, else 1.
+pub fn flip(grid: &mut [u8])
+    ensures { λ _. ⌜ Flipped (now (grid .entry)) (now (grid .exit)) ⌝ }
+{
+    let mut place = 0;
+    while place < grid.len() {
+        if grid[place] == 1 {
+            grid[place] = 0;
+        } else {
+            grid[place] = 1;
+        }
+        place += 1;
+    }
+}
+
+// Finds the lowest place that is on in `wanted` and not in `had`: the length where there is none.
+pub fn first_missing(wanted: &[u8], had: &[u8]) -> usize
+    requires { ⌜ length (now had) ≡ length (now wanted) ⌝ }
+    ensures { λ r. ⌜ FirstMissing (now (wanted .entry)) (now (had .entry)) r ⌝ }
+{
+    let mut place = 0;
+    while place < wanted.len() {
+        if wanted[place] == 1 && had[place] != 1 {
+            return place;
+        }
+        place += 1;
+    }
+    place
+}
