@@ -1,0 +1,201 @@
+-- The proof of the cycle of calls {part, run}. The measure is twice the words left, and one more for a run, which
+-- starts with a part at its own place. A law of proofs/Laws answers each return.
+-- Assumes nothing.
+use Prim.Native.Nat.{ℕ, _<_, _+_, _-_, _*_}
+use borrow.Author.Needs.{needs}
+use native.Mathlib.Omega.{arith}
+use mathlib.Core.Path.{_∙_}
+use Rattle.template.proofs.Laws.{part-missing, part-deep, part-nothing, part-single}
+use Rattle.template.proofs.Laws.{part-low, part-middle, part-high, part-link}
+use Rattle.template.proofs.Laws.{group-short, group-few, group-many, group-run}
+use Rattle.template.proofs.Laws.{run-none, run-refused, run-next, reads-above}
+use borrow.Fn.Kinds.{In}
+use borrow.Fn.PlainCycle.{Measures, is, falls, and}
+use Rattle.template.proofs.part.Reads as part
+use Rattle.template.proofs.part.Kinds as part-kinds
+use Rattle.template.proofs.+part+run.Lts-part as part-lts
+use Rattle.template.proofs.run.Reads as run
+use Rattle.template.proofs.run.Kinds as run-kinds
+use Rattle.template.proofs.+part+run.Lts-run as run-lts
+use Rattle.template.proofs.link.Reads as link-reads
+use Rattle.template.proofs.+part+run.{statement}
+use Rattle.template.proofs.+part+run.Tie.{close}
+
+abbrev μ-part : Measures 2 part-kinds.ps ℕ
+μ-part κs a = 2 * (a .1 .1 .0 - a .1 .0)
+
+abbrev μ-run : Measures 2 run-kinds.ps ℕ
+μ-run κs a = 2 * (a .1 .1 .0 - a .1 .0) + 1
+
+-- what `part` is given at the measure t, and what a call of it asks below t
+abbrev part-at : ℕ → In 2 part-kinds.ps
+part-at t = and 2 part-kinds.ps (is 2 part-kinds.ps μ-part t) part.Pre
+
+abbrev part-below : ℕ → In 2 part-kinds.ps
+part-below t = and 2 part-kinds.ps (falls 2 part-kinds.ps _<_ μ-part t) part.Pre
+
+-- what `run` is given at the measure t, and what a call of it asks below t
+abbrev run-at : ℕ → In 2 run-kinds.ps
+run-at t = and 2 run-kinds.ps (is 2 run-kinds.ps μ-run t) run.Pre
+
+abbrev run-below : ℕ → In 2 run-kinds.ps
+run-below t = and 2 run-kinds.ps (falls 2 run-kinds.ps _<_ μ-run t) run.Pre
+
+-- the contracts that `part` goes by
+abbrev part-claims : ℕ → part-lts.Claims
+part-claims t = (part-below t, part.Post, run-below t, run.Post, link-reads.Asked, link-reads.Learnt)
+
+-- the contracts that `run` goes by
+abbrev run-claims : ℕ → run-lts.Claims
+run-claims t = (part-below t, part.Post, run-below t, run.Post)
+
+module _ (t : ℕ) where
+  part-returns : part-lts.Need-returns (part-claims t) (part-at t) part.Post
+  part-returns c = part-missing _ _ _ _ _ _ (omega arith)
+
+  part-returns-2 : part-lts.Need-returns-2 (part-claims t) (part-at t) part.Post
+  part-returns-2 c = part-deep _ _ _ _ _ _ (omega arith) (omega arith)
+
+  part-mul-code : part-lts.Need-mul-code (part-claims t) (part-at t) part.Post
+  part-mul-code c = search needs
+
+  part-shared-slice-read-code : part-lts.Need-shared-slice-read-code (part-claims t) (part-at t) part.Post
+  part-shared-slice-read-code c = search needs
+
+  part-add-t14 : part-lts.Need-add-t14 (part-claims t) (part-at t) part.Post
+  part-add-t14 c = search needs
+
+  part-add-part : part-lts.Need-add-part (part-claims t) (part-at t) part.Post
+  part-add-part c = search needs
+
+  part-sub-part : part-lts.Need-sub-part (part-claims t) (part-at t) part.Post
+  part-sub-part c = search needs
+
+  part-part-requires : part-lts.Need-part-requires (part-claims t) (part-at t) part.Post
+  part-part-requires c κs = search needs
+
+  part-sub-if6 : part-lts.Need-sub-if6 (part-claims t) (part-at t) part.Post
+  part-sub-if6 c = search needs
+
+  part-returns-3 : part-lts.Need-returns-3 (part-claims t) (part-at t) part.Post
+  part-returns-3 c = group-short _ _ _ _ _ _ (omega arith) (omega arith) (omega arith) (omega arith) (omega arith)
+
+  part-add-count : part-lts.Need-add-count (part-claims t) (part-at t) part.Post
+  part-add-count c = search needs
+
+  part-mul-count : part-lts.Need-mul-count (part-claims t) (part-at t) part.Post
+  part-mul-count c = search needs
+
+  part-shared-slice-read-count : part-lts.Need-shared-slice-read-count (part-claims t) (part-at t) part.Post
+  part-shared-slice-read-count c = search needs
+
+  part-add-t25 : part-lts.Need-add-t25 (part-claims t) (part-at t) part.Post
+  part-add-t25 c = search needs
+
+  part-returns-4 : part-lts.Need-returns-4 (part-claims t) (part-at t) part.Post
+  part-returns-4 c =
+      group-few _ _ _ _ _ _ (omega arith) (omega arith) (omega arith) (omega arith) (omega arith) (omega arith)
+
+  part-add-t26 : part-lts.Need-add-t26 (part-claims t) (part-at t) part.Post
+  part-add-t26 c = search needs
+
+  part-returns-5 : part-lts.Need-returns-5 (part-claims t) (part-at t) part.Post
+  part-returns-5 c =
+      group-many _ _ _ _ _ _ (omega arith) (omega arith) (omega arith) (omega arith) (omega arith) (omega arith)
+
+  part-add-run : part-lts.Need-add-run (part-claims t) (part-at t) part.Post
+  part-add-run c = search needs
+
+  part-sub-run : part-lts.Need-sub-run (part-claims t) (part-at t) part.Post
+  part-sub-run c = search needs
+
+  part-run-requires : part-lts.Need-run-requires (part-claims t) (part-at t) part.Post
+  part-run-requires c κs = search needs
+
+  part-link-requires : part-lts.Need-link-requires (part-claims t) (part-at t) part.Post
+  part-link-requires c κs = search needs
+
+  part-returns-6 : part-lts.Need-returns-6 (part-claims t) (part-at t) part.Post
+  part-returns-6 c = part-nothing _ _ _ _ _ _ (omega arith) (omega arith) (omega arith)
+
+  part-same-length : part-lts.Need-same-length (part-claims t) (part-at t) part.Post
+  part-same-length c = search needs
+
+  part-returns-7 : part-lts.Need-returns-7 (part-claims t) (part-at t) part.Post
+  part-returns-7 c =
+      c .before .before .part .ensures
+      ∙ part-single _ _ _ _ _ _ (omega arith) (omega arith) (omega arith) (omega arith)
+
+  part-returns-8 : part-lts.Need-returns-8 (part-claims t) (part-at t) part.Post
+  part-returns-8 c = part-low _ _ _ _ _ _ (omega arith) (omega arith) (omega arith) (omega arith)
+
+  part-same-length-2 : part-lts.Need-same-length-2 (part-claims t) (part-at t) part.Post
+  part-same-length-2 c = search needs
+
+  part-returns-9 : part-lts.Need-returns-9 (part-claims t) (part-at t) part.Post
+  part-returns-9 c =
+      c .before .before .run .ensures
+      ∙ group-run _ _ _ _ _ _ (omega arith) (omega arith) (omega arith) (omega arith) (omega arith)
+      (omega arith) (omega arith)
+
+  part-returns-10 : part-lts.Need-returns-10 (part-claims t) (part-at t) part.Post
+  part-returns-10 c = part-middle _ _ _ _ _ _ (omega arith) (omega arith) (omega arith) (omega arith)
+
+  part-same-length-3 : part-lts.Need-same-length-3 (part-claims t) (part-at t) part.Post
+  part-same-length-3 c = search needs
+
+  part-returns-11 : part-lts.Need-returns-11 (part-claims t) (part-at t) part.Post
+  part-returns-11 c =
+      c .before .before .link .ensures
+      ∙ part-link _ _ _ _ _ _ (omega arith) (omega arith) (omega arith) (omega arith)
+
+  part-returns-12 : part-lts.Need-returns-12 (part-claims t) (part-at t) part.Post
+  part-returns-12 c = part-high _ _ _ _ _ _ (omega arith) (omega arith) (omega arith)
+
+  run-returns : run-lts.Need-returns (run-claims t) (run-at t) run.Post
+  run-returns c = run-none _ _ _ _ (omega arith)
+
+  run-part-requires : run-lts.Need-part-requires (run-claims t) (run-at t) run.Post
+  run-part-requires c κs = search needs
+
+  run-enum-known-first : run-lts.Need-enum-known-first (run-claims t) (run-at t) run.Post
+  run-enum-known-first c = search needs
+
+  run-sub-run : run-lts.Need-sub-run (run-claims t) (run-at t) run.Post
+  run-sub-run c = search needs
+
+  run-run-requires : run-lts.Need-run-requires (run-claims t) (run-at t) run.Post
+  run-run-requires c κs =
+      let a = c .before .before in
+      let w = reads-above _ _ _ _ _ _ _ _ _ (a .first .given .1)
+      (a .before .before .before .before .part .ensures) in
+      omega arith
+
+  run-enum-known-first-2 : run-lts.Need-enum-known-first-2 (run-claims t) (run-at t) run.Post
+  run-enum-known-first-2 c = search needs
+
+  run-same-length : run-lts.Need-same-length (run-claims t) (run-at t) run.Post
+  run-same-length c = search needs
+
+  run-returns-2 : run-lts.Need-returns-2 (run-claims t) (run-at t) run.Post
+  run-returns-2 c = c .before .before .run .ensures ∙ run-next _ _ _ _ _ _ (omega arith) (cc)
+
+  run-same-length-2 : run-lts.Need-same-length-2 (run-claims t) (run-at t) run.Post
+  run-same-length-2 c = search needs
+
+  run-returns-3 : run-lts.Need-returns-3 (run-claims t) (run-at t) run.Post
+  run-returns-3 c = run-refused _ _ _ _ _ _ _ (omega arith) (cc)
+
+pub +part+run-spec : {M : Type 1} → statement M
++part+run-spec =
+    close μ-part μ-run
+    (λ t. part-lts.spec (part-claims t) (part-at t) part.Post (part-returns t) (part-returns-2 t) (part-mul-code t)
+    (part-shared-slice-read-code t) (part-add-t14 t) (part-add-part t) (part-sub-part t) (part-part-requires t)
+    (part-sub-if6 t) (part-returns-3 t) (part-add-count t) (part-mul-count t) (part-shared-slice-read-count t)
+    (part-add-t25 t) (part-returns-4 t) (part-add-t26 t) (part-returns-5 t) (part-add-run t) (part-sub-run t)
+    (part-run-requires t) (part-link-requires t) (part-returns-6 t) (part-same-length t) (part-returns-7 t)
+    (part-returns-8 t) (part-same-length-2 t) (part-returns-9 t) (part-returns-10 t) (part-same-length-3 t)
+    (part-returns-11 t) (part-returns-12 t))
+    (λ t. run-lts.spec (run-claims t) (run-at t) run.Post (run-returns t) (run-part-requires t)
+    (run-enum-known-first t) (run-sub-run t) (run-run-requires t) (run-enum-known-first-2 t) (run-same-length t)
+    (run-returns-2 t) (run-same-length-2 t) (run-returns-3 t))

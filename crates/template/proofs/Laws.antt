@@ -1,0 +1,359 @@
+-- Laws of specs/Reading: what a reading is under the tests that lead to each answer of the code.
+-- code-…             what a code starts, by its range
+-- link-…             a link: one law for each refusal, and `link-good`
+-- part-…, group-…    a part by its code, and a group
+-- run-…              a run of parts
+-- reads-above        the next place after a part is above it and not past the end
+-- Assumes nothing.
+use mathlib.Core.Path.{_≡_, refl, ap, sym, _∙_}
+use mathlib.Core.Bool.{Bool, true, false}
+use mathlib.Core.List.{List}
+use Prim.Native.Nat.{ℕ, zero, suc, _+_, _-_, _≤_, _<_}
+use native.Mathlib.Omega.{arith}
+use native.Mathlib.Numerals.{sub-one}
+use borrow.Author.Tests.{le-ltb, lt-ltb, le-leb, lt-leb, eq-eqb, ne-eqb, ltb-false, leb-false}
+use lib.ListN.{getD, set}
+use lib.Dec.{ltb, leb, eqb}
+use Rattle.bags.specs.Part.{Part, Parts}
+use Rattle.template.specs.declared.Read.{Read}
+use Rattle.template.specs.declared.Read.the-variants.{Next, Refused}
+use Rattle.template.specs.declared.Sizes.{Sizes}
+use Rattle.template.specs.Reading.{pick, Code, nothing, single, group, unknown, link, wrapped, gathered, codeOf}
+use Rattle.template.specs.Reading.{Reading, found, refused, Outcome, both, outcome, andThen, mapped}
+use Rattle.template.specs.Reading.{limitsOk, readLink, readRun, readGroup, readCode, readPart}
+
+-- What holds of both ways of a test holds of what it picks.
+pub pick-case :
+    {A : Type 0} (P : A → Type 0) (b : Bool) (x y : A) → (b ≡ true → P x) → (b ≡ false → P y) → P (pick b x y)
+pick-case P true x y f g = f refl
+pick-case P false x y f g = g refl
+
+pub bool-case : {A : Type 0} (b : Bool) → (b ≡ true → A) → (b ≡ false → A) → A
+bool-case true f g = f refl
+bool-case false f g = g refl
+
+-- Codes, by their ranges.
+pub code-nothing : (n : ℕ) → n ≡ 0 → codeOf n ≡ nothing
+code-nothing n h = simp (eq-eqb _ _ h)
+
+pub code-single : (n : ℕ) → 1 ≤ n → n ≤ 3 → codeOf n ≡ single (wrapped n)
+code-single n a b =
+    let e : n ≡ 0 → ⊥ = omega arith in
+    let f : n < 4 = omega arith in
+    simp (ne-eqb _ _ e, lt-ltb _ _ f)
+
+pub code-low : (n : ℕ) → 4 ≤ n → n ≤ 15 → codeOf n ≡ unknown
+code-low n a b =
+    let e : n ≡ 0 → ⊥ = omega arith in
+    let f : n < 16 = omega arith in
+    simp (ne-eqb _ _ e, le-ltb _ _ a, lt-ltb _ _ f)
+
+pub code-group : (n : ℕ) → 16 ≤ n → n ≤ 17 → codeOf n ≡ group (gathered n)
+code-group n a b =
+    let e : n ≡ 0 → ⊥ = omega arith in
+    let f : 4 ≤ n = omega arith in
+    let g : n < 18 = omega arith in
+    simp (ne-eqb _ _ e, le-ltb _ _ f, le-ltb _ _ a, lt-ltb _ _ g)
+
+pub code-middle : (n : ℕ) → 18 ≤ n → n ≤ 255 → codeOf n ≡ unknown
+code-middle n a b =
+    let e : n ≡ 0 → ⊥ = omega arith in
+    let f : 4 ≤ n = omega arith in
+    let g : 16 ≤ n = omega arith in
+    let h : n < 256 = omega arith in
+    simp (ne-eqb _ _ e, le-ltb _ _ f, le-ltb _ _ g, le-ltb _ _ a, lt-ltb _ _ h)
+
+pub code-link : (n : ℕ) → 256 ≤ n → n ≤ 319 → codeOf n ≡ link (n - 256)
+code-link n a b =
+    let e : n ≡ 0 → ⊥ = omega arith in
+    let f : 4 ≤ n = omega arith in
+    let g : 16 ≤ n = omega arith in
+    let h : 18 ≤ n = omega arith in
+    let i : n < 320 = omega arith in
+    simp (ne-eqb _ _ e, le-ltb _ _ f, le-ltb _ _ g, le-ltb _ _ h, le-ltb _ _ a, lt-ltb _ _ i)
+
+pub code-high : (n : ℕ) → 320 ≤ n → codeOf n ≡ unknown
+code-high n a =
+    let e : n ≡ 0 → ⊥ = omega arith in
+    let f : 4 ≤ n = omega arith in
+    let g : 16 ≤ n = omega arith in
+    let h : 18 ≤ n = omega arith in
+    let i : 256 ≤ n = omega arith in
+    simp (ne-eqb _ _ e, le-ltb _ _ f, le-ltb _ _ g, le-ltb _ _ h, le-ltb _ _ i, le-ltb _ _ a)
+
+-- What is made of a tree changes no answer.
+mapped-outcome : {A B : Type 0} (f : A → B) (x : Reading A) → outcome x ≡ outcome (mapped f x)
+mapped-outcome f (found a next row) = refl
+mapped-outcome f (refused number place row) = refl
+
+next-next : {m n : ℕ} {row row' : List ℕ} → both (Next m) row ≡ both (Next n) row' → (m ≡ n) × (row ≡ row')
+next-next {m} {n} e =
+    let q : Next m ≡ Next n = ap (λ (o : Outcome). o .read) e in
+    (cc, ap (λ (o : Outcome). o .row) e)
+
+next-refused : {m n p : ℕ} {row row' : List ℕ} → both (Next m) row ≡ both (Refused n p) row' → ⊥
+next-refused {m} {n} {p} e =
+    let q : Next m ≡ Refused n p = ap (λ (o : Outcome). o .read) e in
+    let z : _≡_ {A = ℕ} 0 1 = cc in
+    omega arith
+
+-- A link, in the order of its refusals.
+module _ (words : List ℕ) (end : ℕ) (sizes : Sizes) (at : ℕ) (row : List ℕ) where
+  pub link-short :
+      (kind : ℕ) → end - at < 4 → both (Refused 4 end) row ≡ outcome (readLink words end sizes at row kind)
+  unfolding readLink
+  link-short kind h = simp (lt-ltb _ _ h)
+
+  pub link-kind :
+      (kind : ℕ) → 4 ≤ end - at → sizes .kinds ≤ kind →
+      both (Refused 7 at) row ≡ outcome (readLink words end sizes at row kind)
+  unfolding readLink
+  link-kind kind h i = simp (le-ltb _ _ h, le-leb _ _ i)
+
+  pub link-again :
+      (kind : ℕ) → 4 ≤ end - at → kind < sizes .kinds → (getD row kind 0 ≡ 0 → ⊥) →
+      both (Refused 8 at) row ≡ outcome (readLink words end sizes at row kind)
+  unfolding readLink
+  link-again kind h i j = simp (le-ltb _ _ h, lt-leb _ _ i, ne-eqb _ _ j)
+
+  pub link-shape :
+      (kind : ℕ) → 4 ≤ end - at → kind < sizes .kinds → getD row kind 0 ≡ 0 → sizes .shapes ≤ getD words (at + 1) 0 →
+      both (Refused 9 (at + 1)) row ≡ outcome (readLink words end sizes at row kind)
+  unfolding readLink
+  link-shape kind h i e j = simp (le-ltb _ _ h, lt-leb _ _ i, eq-eqb _ _ e, le-leb _ _ j)
+
+  pub link-good :
+      (kind entry : ℕ) → 4 ≤ end - at → kind < sizes .kinds → getD row kind 0 ≡ 0 →
+      getD words (at + 1) 0 < sizes .shapes → entry ≡ getD words (at + 1) 0 + 1 →
+      limitsOk (getD words (at + 2) 0) (getD words (at + 3) 0) ≡ true →
+      both (Next (at + 4)) (set row kind entry) ≡ outcome (readLink words end sizes at row kind)
+  unfolding readLink
+  link-good kind entry h i e j q o = simp (q, le-ltb _ _ h, lt-leb _ _ i, eq-eqb _ _ e, lt-leb _ _ j, o)
+
+  pub link-limits :
+      (kind : ℕ) → 4 ≤ end - at → kind < sizes .kinds → getD row kind 0 ≡ 0 → getD words (at + 1) 0 < sizes .shapes →
+      limitsOk (getD words (at + 2) 0) (getD words (at + 3) 0) ≡ false →
+      both (Refused 10 (at + 2)) row ≡ outcome (readLink words end sizes at row kind)
+  unfolding readLink
+  link-limits kind h i e j o = simp (le-ltb _ _ h, lt-leb _ _ i, eq-eqb _ _ e, lt-leb _ _ j, o)
+
+-- A part whose code is missing, or that stands too deep.
+module _ (words : List ℕ) (end : ℕ) (sizes : Sizes) (at : ℕ) (row : List ℕ) where
+  pub part-missing :
+      (left : ℕ) → end ≤ at → both (Refused 4 end) row ≡ outcome (readPart left words end sizes at row)
+  unfolding readPart
+  part-missing zero h = simp (le-leb _ _ h)
+  part-missing (suc l) h = simp (le-leb _ _ h)
+
+  pub part-deep :
+      (left : ℕ) → at < end → left ≡ 0 → both (Refused 6 at) row ≡ outcome (readPart left words end sizes at row)
+  unfolding readPart
+  part-deep left h e = rw e (simp (lt-leb _ _ h))
+
+  part-by :
+      (left : ℕ) (code : Code) → at < end → 0 < left → codeOf (getD words at 0) ≡ code →
+      readCode code (readPart (left - 1) words end sizes) words end sizes at row
+      ≡ readPart left words end sizes at row
+  unfolding readPart
+  part-by zero code h p e = absurd (omega arith)
+  part-by (suc l) code h p e = rw (sub-one, ← e) (simp (lt-leb _ _ h))
+
+-- A part that has its code and may stand at this depth, by its code.
+module _
+    (left : ℕ) (words : List ℕ) (end : ℕ) (sizes : Sizes) (at : ℕ) (row : List ℕ) (h : at < end) (p : 0 < left) where
+  by-code :
+      (code : Code) → codeOf (getD words at 0) ≡ code →
+      outcome (readCode code (readPart (left - 1) words end sizes) words end sizes at row)
+      ≡ outcome (readPart left words end sizes at row)
+  by-code code e = ap outcome (part-by words end sizes at row left code h p e)
+
+  pub part-nothing :
+      getD words at 0 ≡ 0 → both (Next (at + 1)) row ≡ outcome (readPart left words end sizes at row)
+  part-nothing e = by-code nothing (code-nothing _ e)
+
+  pub part-single :
+      1 ≤ getD words at 0 → getD words at 0 ≤ 3 →
+      outcome (readPart (left - 1) words end sizes (at + 1) row) ≡ outcome (readPart left words end sizes at row)
+  part-single a b =
+      mapped-outcome (wrapped (getD words at 0)) (readPart (left - 1) words end sizes (at + 1) row)
+      ∙ by-code (single (wrapped (getD words at 0))) (code-single _ a b)
+
+  pub part-low :
+      4 ≤ getD words at 0 → getD words at 0 ≤ 15 →
+      both (Refused 5 at) row ≡ outcome (readPart left words end sizes at row)
+  part-low a b = by-code unknown (code-low _ a b)
+
+  pub part-middle :
+      18 ≤ getD words at 0 → getD words at 0 ≤ 255 →
+      both (Refused 5 at) row ≡ outcome (readPart left words end sizes at row)
+  part-middle a b = by-code unknown (code-middle _ a b)
+
+  pub part-high :
+      320 ≤ getD words at 0 → both (Refused 5 at) row ≡ outcome (readPart left words end sizes at row)
+  part-high a = by-code unknown (code-high _ a)
+
+  pub part-link :
+      256 ≤ getD words at 0 → getD words at 0 ≤ 319 →
+      outcome (readLink words end sizes at row (getD words at 0 - 256))
+      ≡ outcome (readPart left words end sizes at row)
+  part-link a b = by-code (link (getD words at 0 - 256)) (code-link _ a b)
+
+  module _ (a : 16 ≤ getD words at 0) (b : getD words at 0 ≤ 17) where
+    by-group :
+        outcome (readGroup (readPart (left - 1) words end sizes) words end at row)
+        ≡ outcome (readPart left words end sizes at row)
+    by-group =
+        mapped-outcome (gathered (getD words at 0)) (readGroup (readPart (left - 1) words end sizes) words end at row)
+        ∙ by-code (group (gathered (getD words at 0))) (code-group _ a b)
+
+    pub group-short : end - at < 2 → both (Refused 4 end) row ≡ outcome (readPart left words end sizes at row)
+    group-short i = simp (lt-ltb (end - at) 2 i) at by-group
+
+    pub group-few :
+        2 ≤ end - at → getD words (at + 1) 0 < 2 →
+        both (Refused 11 (at + 1)) row ≡ outcome (readPart left words end sizes at row)
+    group-few i j = simp (le-ltb (end - at) 2 i, lt-ltb _ 2 j) at by-group
+
+    pub group-many :
+        2 ≤ end - at → 16 < getD words (at + 1) 0 →
+        both (Refused 11 (at + 1)) row ≡ outcome (readPart left words end sizes at row)
+    group-many i j =
+        let k : 2 ≤ getD words (at + 1) 0 = omega arith in
+        simp (le-ltb (end - at) 2 i, le-ltb _ 2 k, lt-ltb 16 _ j) at by-group
+
+    pub group-run :
+        2 ≤ end - at → 2 ≤ getD words (at + 1) 0 → getD words (at + 1) 0 ≤ 16 →
+        outcome (readRun (readPart (left - 1) words end sizes) (getD words (at + 1) 0) (at + 2) row)
+        ≡ outcome (readPart left words end sizes at row)
+    group-run i j k = simp (le-ltb (end - at) 2 i, le-ltb _ 2 j, le-ltb 16 _ k) at by-group
+
+-- A run of parts, each read by `inner`.
+then-next :
+    (x : Reading Part) (rest : ℕ → List ℕ → Reading Parts) (m : ℕ) (row : List ℕ) →
+    both (Next m) row ≡ outcome x →
+    outcome (rest m row) ≡ outcome (andThen x (λ p next row'. mapped (Parts.more p) (rest next row')))
+then-next (found a n row') rest m row e =
+    rw (next-next e .0, next-next e .1) (mapped-outcome (Parts.more a) (rest n row'))
+then-next (refused n p row') rest m row e = absurd (next-refused e)
+
+then-refused :
+    (x : Reading Part) (rest : Part → ℕ → List ℕ → Reading Parts) (n p : ℕ) (row : List ℕ) →
+    both (Refused n p) row ≡ outcome x → both (Refused n p) row ≡ outcome (andThen x rest)
+then-refused (found a m row') rest n p row e = absurd (next-refused (sym e))
+then-refused (refused n' p' row') rest n p row e = e
+
+module _ (inner : ℕ → List ℕ → Reading Part) where
+  pub run-none :
+      (count at : ℕ) (row : List ℕ) → count ≡ 0 → both (Next at) row ≡ outcome (readRun inner count at row)
+  unfolding readRun
+  run-none count at row e = rw e
+
+  pub run-refused :
+      (count at : ℕ) (row : List ℕ) (n p : ℕ) (row' : List ℕ) → 0 < count →
+      both (Refused n p) row' ≡ outcome (inner at row) →
+      both (Refused n p) row' ≡ outcome (readRun inner count at row)
+  unfolding readRun
+  run-refused zero at row n p row' h e = absurd (omega arith)
+  run-refused (suc c) at row n p row' h e = then-refused (inner at row) _ n p row' e
+
+  pub run-next :
+      (count at : ℕ) (row : List ℕ) (m : ℕ) (row' : List ℕ) → 0 < count →
+      both (Next m) row' ≡ outcome (inner at row) →
+      outcome (readRun inner (count - 1) m row') ≡ outcome (readRun inner count at row)
+  unfolding readRun
+  run-next zero at row m row' h e = absurd (omega arith)
+  run-next (suc c) at row m row' h e = rw sub-one (then-next (inner at row) (readRun inner c) m row' e)
+
+-- The next place of what was found is from `low` up to `end`.
+abbrev Within : {A : Type 0} → ℕ → ℕ → Reading A → Type 0
+Within low end (found a next row) = (low ≤ next) × (next ≤ end)
+Within low end (refused number place row) = Unit {0}
+
+within-less :
+    {A : Type 0} (low low' end : ℕ) (r : Reading A) → low' ≤ low → Within low end r → Within low' end r
+within-less low low' end (found a next row) h w = omega arith
+within-less low low' end (refused number place row) h w = tt
+
+within-mapped :
+    {A B : Type 0} (low end : ℕ) (f : A → B) (r : Reading A) → Within low end r → Within low end (mapped f r)
+within-mapped low end f (found a next row) w = w
+within-mapped low end f (refused number place row) w = tt
+
+within-then :
+    (low end : ℕ) (r : Reading Part) (rest : Part → ℕ → List ℕ → Reading Parts) → Within low end r →
+    ((a : Part) (m : ℕ) (row : List ℕ) → m ≤ end → Within m end (rest a m row)) → Within low end (andThen r rest)
+within-then low end (found a next row) rest w h =
+    within-less next low end (rest a next row) (w .0) (h a next row (w .1))
+within-then low end (refused number place row) rest w h = tt
+
+within-run :
+    (inner : ℕ → List ℕ → Reading Part) (end : ℕ) →
+    ((at : ℕ) (row : List ℕ) → Within (at + 1) end (inner at row)) →
+    (n at : ℕ) (row : List ℕ) → at ≤ end → Within at end (readRun inner n at row)
+unfolding readRun
+within-run inner end h zero at row le = omega arith
+within-run inner end h (suc n) at row le =
+    within-then at end (inner at row) (λ p m left. mapped (Parts.more p) (readRun inner n m left))
+    (within-less (at + 1) at end (inner at row) (omega arith) (h at row))
+    (λ a m left b. within-mapped m end (Parts.more a) (readRun inner n m left) (within-run inner end h n m left b))
+
+within-link :
+    (words : List ℕ) (end : ℕ) (sizes : Sizes) (at : ℕ) (row : List ℕ) (kind : ℕ) →
+    Within (at + 1) end (readLink words end sizes at row kind)
+unfolding readLink
+within-link words end sizes at row kind =
+    pick-case (Within (at + 1) end) (ltb (end - at) 4) _ _ (λ e. tt)
+    (λ e. pick-case (Within (at + 1) end) (leb (sizes .kinds) kind) _ _ (λ e₂. tt)
+    (λ e₂. pick-case (Within (at + 1) end) (eqb (getD row kind 0) 0) _ _
+    (λ e₃. pick-case (Within (at + 1) end) (leb (sizes .shapes) (getD words (at + 1) 0)) _ _ (λ e₄. tt)
+    (λ e₄. pick-case (Within (at + 1) end) (limitsOk (getD words (at + 2) 0) (getD words (at + 3) 0)) _ _
+    (λ e₅. omega (arith, ltb-false (end - at) 4 e)) (λ e₅. tt)))
+    (λ e₃. tt)))
+
+within-code :
+    (code : Code) (inner : ℕ → List ℕ → Reading Part) (words : List ℕ) (end : ℕ) (sizes : Sizes) (at : ℕ)
+    (row : List ℕ) → at < end → ((m : ℕ) (l : List ℕ) → Within (m + 1) end (inner m l)) →
+    Within (at + 1) end (readCode code inner words end sizes at row)
+within-code nothing inner words end sizes at row h w = omega arith
+within-code (single f) inner words end sizes at row h w =
+    within-mapped (at + 1) end f (inner (at + 1) row)
+    (within-less (at + 1 + 1) (at + 1) end (inner (at + 1) row) (omega arith) (w (at + 1) row))
+within-code (group f) inner words end sizes at row h w =
+    within-mapped (at + 1) end f (readGroup inner words end at row)
+    (pick-case (Within (at + 1) end) (ltb (end - at) 2) _ _ (λ e. tt)
+    (λ e. pick-case (Within (at + 1) end) (ltb (getD words (at + 1) 0) 2) _ _ (λ e₂. tt)
+    (λ e₂. pick-case (Within (at + 1) end) (ltb 16 (getD words (at + 1) 0)) _ _ (λ e₃. tt)
+    (λ e₃. within-less (at + 2) (at + 1) end (readRun inner (getD words (at + 1) 0) (at + 2) row) (omega arith)
+    (within-run inner end w (getD words (at + 1) 0) (at + 2) row (omega (arith, ltb-false (end - at) 2 e)))))))
+within-code (link kind) inner words end sizes at row h w = within-link words end sizes at row kind
+within-code unknown inner words end sizes at row h w = tt
+
+within-part :
+    (left : ℕ) (words : List ℕ) (end : ℕ) (sizes : Sizes) (at : ℕ) (row : List ℕ) →
+    Within (at + 1) end (readPart left words end sizes at row)
+unfolding readPart
+within-part zero words end sizes at row = pick-case (Within (at + 1) end) (leb end at) _ _ (λ e. tt) (λ e. tt)
+within-part (suc l) words end sizes at row =
+    pick-case (Within (at + 1) end) (leb end at) _ _ (λ e. tt)
+    (λ e. within-code (codeOf (getD words at 0)) (readPart l words end sizes) words end sizes at row
+    (leb-false _ _ e) (λ m q. within-part l words end sizes m q))
+
+within-outcome :
+    {A : Type 0} (low end m : ℕ) (row : List ℕ) (r : Reading A) → Within low end r →
+    both (Next m) row ≡ outcome r → (low ≤ m) × (m ≤ end)
+within-outcome low end m row (found a next row') w e = let q = next-next e in omega arith
+within-outcome low end m row (refused n p row') w e = absurd (next-refused e)
+
+-- The next place after a part is past its code, and not past the end.
+pub reads-above :
+    (left : ℕ) (words : List ℕ) (end : ℕ) (sizes : Sizes) (at : ℕ) (row : List ℕ) (r : Read) (m : ℕ)
+    (row' : List ℕ) → r ≡ Next m → both r row' ≡ outcome (readPart left words end sizes at row) →
+    (at + 1 ≤ m) × (m ≤ end)
+reads-above left words end sizes at row r m row' q e =
+    within-outcome (at + 1) end m row' (readPart left words end sizes at row)
+    (within-part left words end sizes at row) (rw q at e)
+
+pub reads-within :
+    (left : ℕ) (words : List ℕ) (end : ℕ) (sizes : Sizes) (at : ℕ) (row : List ℕ) (p : Part) (m : ℕ)
+    (after : List ℕ) → readPart left words end sizes at row ≡ found p m after → (at + 1 ≤ m) × (m ≤ end)
+reads-within left words end sizes at row p m after e = rw e at (within-part left words end sizes at row)

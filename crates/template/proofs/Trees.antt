@@ -1,0 +1,360 @@
+-- What a part that was read obeys, and what the reading leaves in the row.
+-- LimitsOk        every link's low and high obey document 01
+-- PartRead        what is known of a part that was read: its tree, and the row before and after
+-- reads-part      a part that was read is so
+-- reads-names     read from a row that has no names, it leaves the names of the part
+-- Assumes nothing.
+use mathlib.Core.Path.{_≡_, refl, ap, sym, _∙_}
+use mathlib.Core.Bool.{true, false}
+use mathlib.Core.List.{List}
+use mathlib.Core.Logic.{inl, inr, ⊎-elim}
+use Prim.Native.Nat.{ℕ, zero, suc, _+_, _-_, _≤_, _<_, max}
+use native.Mathlib.Omega.{arith}
+use native.Mathlib.Nat.{max-le}
+use native.Mathlib.Numerals.{add-one}
+use borrow.Author.Tests.{leb-true, leb-false, ltb-false, eqb-true, eqb-false, eq-eqb}
+use lib.ListN.{length, getD, set, length-set, replicate}
+use lib.Seq.{getD-set-same, getD-set-other}
+use lib.Dec.{ltb, leb, eqb}
+use Rattle.bags.specs.Part.{Limit, at-most, no-limit, Part, Parts, Names, RunNames, Single, ShapesBelow, LabelsBelow}
+use Rattle.bags.specs.Part.{depth, runDepth, entry, firstEntry, named, runNamed}
+use Rattle.bags.specs.Span.{limitOf}
+use Rattle.template.specs.declared.Sizes.{Sizes}
+use Rattle.template.specs.Reading.{Code, nothing, single, link, wrapped, gathered, codeOf}
+use Rattle.template.specs.Reading.{Reading, found, refused, andThen, mapped}
+use Rattle.template.specs.Reading.{limitsOk, readLink, readRun, readGroup, readCode, readPart}
+use Rattle.template.specs.Template.{noNames}
+use Rattle.template.proofs.Laws.{pick-case, bool-case}
+
+-- "Low is 0 to 8,192; high is low to 8,192, or no limit."
+abbrev pub InLimits : ℕ → Limit → Type 0
+InLimits low (at-most high) = (low ≤ 8192) × (low ≤ high) × (high ≤ 8192)
+InLimits low no-limit = low ≤ 8192
+
+-- Every link has such limits.
+abbrev mutual
+  pub LimitsOk : Part → Type 0
+  LimitsOk Part.nothing = Unit {0}
+  LimitsOk (Part.star p) = LimitsOk p
+  LimitsOk (Part.plus p) = LimitsOk p
+  LimitsOk (Part.optional p) = LimitsOk p
+  LimitsOk (Part.choice ps) = RunLimitsOk ps
+  LimitsOk (Part.all ps) = RunLimitsOk ps
+  LimitsOk (Part.link label shape low high) = InLimits low high
+
+  pub RunLimitsOk : Parts → Type 0
+  RunLimitsOk Parts.none = Unit {0}
+  RunLimitsOk (Parts.more p ps) = LimitsOk p × RunLimitsOk ps
+
+-- The entries of a table.
+pub first-none : (n : ℕ) → firstEntry n 0 ≡ n
+first-none zero = refl
+first-none (suc n) = refl
+
+pub first-assoc : (a b c : ℕ) → firstEntry (firstEntry a b) c ≡ firstEntry a (firstEntry b c)
+first-assoc zero b c = refl
+first-assoc (suc a) b c = refl
+
+first-zero : (a b : ℕ) → firstEntry a b ≡ 0 → (a ≡ 0) × (b ≡ 0)
+first-zero zero b e = (refl, e)
+first-zero (suc a) b e = absurd (omega arith)
+
+pub no-entry : (n k : ℕ) → _≡_ {A = ℕ} (getD (replicate n 0) k 0) 0
+no-entry zero k = refl
+no-entry (suc n) zero = refl
+no-entry (suc n) (suc k) = no-entry n k
+
+-- A label that stands in a part has an entry.
+mutual
+  pub names-entry : (p : Part) (k : ℕ) → Names p k → named p k ≡ 0 → ⊥
+  names-entry Part.nothing k n e = n
+  names-entry (Part.star p) k n e = names-entry p k n e
+  names-entry (Part.plus p) k n e = names-entry p k n e
+  names-entry (Part.optional p) k n e = names-entry p k n e
+  names-entry (Part.choice ps) k n e = run-names-entry ps k n e
+  names-entry (Part.all ps) k n e = run-names-entry ps k n e
+  names-entry (Part.link label shape low high) k n e =
+      let q : entry true shape ≡ 0 = rw (eq-eqb _ _ n) at e in
+      omega arith
+
+  run-names-entry : (ps : Parts) (k : ℕ) → RunNames ps k → runNamed ps k ≡ 0 → ⊥
+  run-names-entry Parts.none k n e = n
+  run-names-entry (Parts.more p ps) k (inl n) e = names-entry p k n (first-zero (named p k) (runNamed ps k) e .0)
+  run-names-entry (Parts.more p ps) k (inr n) e = run-names-entry ps k n (first-zero (named p k) (runNamed ps k) e .1)
+
+-- What is known of a part that was read with so many levels left, and of the row after it.
+pub record PartRead (sizes : Sizes) (left : ℕ) (row : List ℕ) (p : Part) (after : List ℕ) : Type 0 where
+  -- no label stands twice
+  pub single : Single p
+  -- its shapes, labels, depth and limits are allowed
+  pub shapes : ShapesBelow (sizes .shapes) p
+  pub labels : LabelsBelow (sizes .kinds) p
+  pub deep : depth p ≤ left
+  pub limits : LimitsOk p
+  -- the labels that it names were not named before
+  pub fresh : (k : ℕ) → Names p k → getD row k 0 ≡ 0
+  -- the row has its names for the labels that were not named before, and is else unchanged
+  pub entries : (k : ℕ) → getD after k 0 ≡ firstEntry (getD row k 0) (named p k)
+  pub size : length after ≡ length row
+
+-- What was found has a property with the row that is left.
+abbrev Found : {A : Type 0} → (A → List ℕ → Type 0) → Reading A → Type 0
+Found P (found a next row) = P a row
+Found P (refused number place row) = Unit {0}
+
+found-mapped :
+    {A B : Type 0} (P : A → List ℕ → Type 0) (Q : B → List ℕ → Type 0) (f : A → B) →
+    ((a : A) (row : List ℕ) → P a row → Q (f a) row) → (r : Reading A) → Found P r → Found Q (mapped f r)
+found-mapped P Q f h (found a next row) w = h a row w
+found-mapped P Q f h (refused number place row) w = tt
+
+found-then :
+    {A B : Type 0} (P : A → List ℕ → Type 0) (Q : B → List ℕ → Type 0) (r : Reading A)
+    (rest : A → ℕ → List ℕ → Reading B) → Found P r →
+    ((a : A) (next : ℕ) (row : List ℕ) → P a row → Found Q (rest a next row)) → Found Q (andThen r rest)
+found-then P Q (found a next row) rest w h = h a next row w
+found-then P Q (refused number place row) rest w h = tt
+
+false-true : false ≡ true → ⊥
+false-true e = let z : _≡_ {A = ℕ} 0 1 = cc in omega arith
+
+-- The limits that the test lets pass.
+limits-in : (low high : ℕ) → limitsOk low high ≡ true → InLimits low (limitOf high)
+limits-in low high =
+    pick-case (λ b. b ≡ true → InLimits low (limitOf high)) (ltb 8192 low) _ _ (λ e o. absurd (false-true o))
+    (λ e. pick-case (λ b. b ≡ true → InLimits low (limitOf high)) (eqb high 65535) _ _
+    (λ e₂ o. rw e₂ (ltb-false _ _ e))
+    (λ e₂. pick-case (λ b. b ≡ true → InLimits low (limitOf high)) (ltb high low) _ _ (λ e₃ o. absurd (false-true o))
+    (λ e₃ o. rw e₂ (ltb-false _ _ e, ltb-false _ _ e₃, leb-true _ _ o))))
+
+-- The row after a link whose kind had no entry.
+link-entry :
+    (row : List ℕ) (kind shape k : ℕ) → kind < length row → getD row kind 0 ≡ 0 →
+    getD (set row kind (shape + 1)) k 0 ≡ firstEntry (getD row k 0) (entry (eqb k kind) shape)
+link-entry row kind shape k b e =
+    bool-case (eqb k kind)
+    (λ q. rw (q, eqb-true k kind q, e) (getD-set-same row kind (shape + 1) 0 b ∙ add-one shape))
+    (λ q. rw (q, first-none) (getD-set-other row kind k (shape + 1) 0 (eqb-false k kind q)))
+
+module _ (sizes : Sizes) where
+  -- A part inside star, plus or optional.
+  wrapped-read :
+      (n left : ℕ) (row : List ℕ) (p : Part) (after : List ℕ) → PartRead sizes left row p after →
+      PartRead sizes (suc left) row (wrapped n p) after
+  wrapped-read n left row p after w =
+      let P : Part → Type 0 = λ q. PartRead sizes (suc left) row q after in
+      let deep : suc (depth p) ≤ suc left = omega (arith, w .deep) in
+      pick-case P (eqb n 1) _ _
+      (λ e. record {
+        single = w .single;
+        shapes = w .shapes;
+        labels = w .labels;
+        deep = deep;
+        limits = w .limits;
+        fresh = w .fresh;
+        entries = w .entries;
+        size = w .size;
+      })
+      (λ e. pick-case P (eqb n 2) _ _
+      (λ e₂. record {
+        single = w .single;
+        shapes = w .shapes;
+        labels = w .labels;
+        deep = deep;
+        limits = w .limits;
+        fresh = w .fresh;
+        entries = w .entries;
+        size = w .size;
+      })
+      (λ e₂. record {
+        single = w .single;
+        shapes = w .shapes;
+        labels = w .labels;
+        deep = deep;
+        limits = w .limits;
+        fresh = w .fresh;
+        entries = w .entries;
+        size = w .size;
+      }))
+
+  -- The parts of a choice are those of an all.
+  gathered-read :
+      (n left : ℕ) (row : List ℕ) (ps : Parts) (after : List ℕ) → PartRead sizes left row (Part.choice ps) after →
+      PartRead sizes left row (gathered n ps) after
+  gathered-read n left row ps after w =
+      pick-case (λ q. PartRead sizes left row q after) (eqb n 16) _ _ (λ e. w)
+      (λ e. record {
+        single = w .single;
+        shapes = w .shapes;
+        labels = w .labels;
+        deep = w .deep;
+        limits = w .limits;
+        fresh = w .fresh;
+        entries = w .entries;
+        size = w .size;
+      })
+
+  nothing-read : (left : ℕ) (row : List ℕ) → PartRead sizes (suc left) row Part.nothing row
+  nothing-read left row =
+      record {
+        single = tt;
+        shapes = tt;
+        labels = tt;
+        deep = omega arith;
+        limits = tt;
+        fresh = λ k n. absurd n;
+        entries = λ k. sym (first-none _);
+        size = refl;
+      }
+
+  none-read : (left : ℕ) (row : List ℕ) → PartRead sizes (suc left) row (Part.choice Parts.none) row
+  none-read left row =
+      record {
+        single = tt;
+        shapes = tt;
+        labels = tt;
+        deep = omega arith;
+        limits = tt;
+        fresh = λ k n. absurd n;
+        entries = λ k. sym (first-none _);
+        size = refl;
+      }
+
+  -- A part, and then the rest of its run.
+  more-read :
+      (left : ℕ) (row : List ℕ) (p : Part) (mid : List ℕ) (ps : Parts) (after : List ℕ) →
+      PartRead sizes left row p mid → PartRead sizes (suc left) mid (Part.choice ps) after →
+      PartRead sizes (suc left) row (Part.choice (Parts.more p ps)) after
+  more-read left row p mid ps after a b =
+      let rest : runDepth ps ≤ left = omega (arith, b .deep) in
+      let m : max (depth p) (runDepth ps) ≤ left = max-le (a .deep) rest in
+      record {
+        single = (
+          a .single,
+          b .single,
+          λ k n o. names-entry p k n (first-zero (getD row k 0) (named p k) (sym (a .entries k) ∙ b .fresh k o) .1),
+        );
+        shapes = (a .shapes, b .shapes);
+        labels = (a .labels, b .labels);
+        deep = omega arith;
+        limits = (a .limits, b .limits);
+        fresh =
+            λ k n.
+            ⊎-elim (a .fresh k)
+            (λ o. first-zero (getD row k 0) (named p k) (sym (a .entries k) ∙ b .fresh k o) .0) n;
+        entries =
+            λ k. b .entries k ∙ ap (λ (x : ℕ). firstEntry x (runNamed ps k)) (a .entries k)
+            ∙ first-assoc (getD row k 0) (named p k) (runNamed ps k);
+        size = b .size ∙ a .size;
+      }
+
+  -- A link whose kind had no entry.
+  link-read :
+      (left : ℕ) (row : List ℕ) (kind shape low high : ℕ) → kind < sizes .kinds → sizes .kinds ≤ length row →
+      getD row kind 0 ≡ 0 → shape < sizes .shapes → limitsOk low high ≡ true →
+      PartRead sizes (suc left) row (Part.link kind shape low (limitOf high)) (set row kind (shape + 1))
+  link-read left row kind shape low high a b e c o =
+      record {
+        single = tt;
+        shapes = c;
+        labels = a;
+        deep = omega arith;
+        limits = limits-in low high o;
+        fresh = λ k n. rw n e;
+        entries = λ k. link-entry row kind shape k (omega arith) e;
+        size = length-set row kind (shape + 1);
+      }
+
+  -- A run of parts, each of which is read so.
+  run-reads :
+      (inner : ℕ → List ℕ → Reading Part) (left : ℕ) →
+      ((at : ℕ) (row : List ℕ) → sizes .kinds ≤ length row → Found (PartRead sizes left row) (inner at row)) →
+      (n at : ℕ) (row : List ℕ) → sizes .kinds ≤ length row →
+      Found (λ ps after. PartRead sizes (suc left) row (Part.choice ps) after) (readRun inner n at row)
+  unfolding readRun
+  run-reads inner left h zero at row b = none-read left row
+  run-reads inner left h (suc n) at row b =
+      found-then (PartRead sizes left row) (λ ps after. PartRead sizes (suc left) row (Part.choice ps) after)
+      (inner at row) (λ p next mid. mapped (Parts.more p) (readRun inner n next mid)) (h at row b)
+      (λ p next mid w.
+      found-mapped (λ ps after. PartRead sizes (suc left) mid (Part.choice ps) after)
+      (λ ps after. PartRead sizes (suc left) row (Part.choice ps) after) (Parts.more p)
+      (λ ps after v. more-read left row p mid ps after w v) (readRun inner n next mid)
+      (run-reads inner left h n next mid (omega (arith, w .size))))
+
+  module _ (words : List ℕ) (end : ℕ) where
+    link-reads :
+        (left at : ℕ) (row : List ℕ) (kind : ℕ) → sizes .kinds ≤ length row →
+        Found (PartRead sizes (suc left) row) (readLink words end sizes at row kind)
+    unfolding readLink
+    link-reads left at row kind b =
+        let P : Reading Part → Type 0 = Found (PartRead sizes (suc left) row) in
+        pick-case P (ltb (end - at) 4) _ _ (λ e. tt)
+        (λ e. pick-case P (leb (sizes .kinds) kind) _ _ (λ e₂. tt)
+        (λ e₂. pick-case P (eqb (getD row kind 0) 0) _ _
+        (λ e₃. pick-case P (leb (sizes .shapes) (getD words (at + 1) 0)) _ _ (λ e₄. tt)
+        (λ e₄. pick-case P (limitsOk (getD words (at + 2) 0) (getD words (at + 3) 0)) _ _
+        (λ e₅. link-read left row kind (getD words (at + 1) 0) (getD words (at + 2) 0) (getD words (at + 3) 0)
+        (leb-false _ _ e₂) b (eqb-true _ _ e₃) (leb-false _ _ e₄) e₅)
+        (λ e₅. tt)))
+        (λ e₃. tt)))
+
+    group-reads :
+        (left at : ℕ) (row : List ℕ) → sizes .kinds ≤ length row →
+        ((m : ℕ) (l : List ℕ) → sizes .kinds ≤ length l →
+        Found (PartRead sizes left l) (readPart left words end sizes m l)) →
+        Found (λ ps after. PartRead sizes (suc left) row (Part.choice ps) after)
+        (readGroup (readPart left words end sizes) words end at row)
+    group-reads left at row b h =
+        let P : Reading Parts → Type 0 = Found (λ ps after. PartRead sizes (suc left) row (Part.choice ps) after) in
+        pick-case P (ltb (end - at) 2) _ _ (λ e. tt)
+        (λ e. pick-case P (ltb (getD words (at + 1) 0) 2) _ _ (λ e₂. tt)
+        (λ e₂. pick-case P (ltb 16 (getD words (at + 1) 0)) _ _ (λ e₃. tt)
+        (λ e₃. run-reads (readPart left words end sizes) left h (getD words (at + 1) 0) (at + 2) row b)))
+
+    code-reads :
+        (n left at : ℕ) (row : List ℕ) → sizes .kinds ≤ length row →
+        ((m : ℕ) (l : List ℕ) → sizes .kinds ≤ length l →
+        Found (PartRead sizes left l) (readPart left words end sizes m l)) →
+        Found (PartRead sizes (suc left) row)
+        (readCode (codeOf n) (readPart left words end sizes) words end sizes at row)
+    code-reads n left at row b h =
+        let P : Code → Type 0 =
+        λ code. Found (PartRead sizes (suc left) row)
+        (readCode code (readPart left words end sizes) words end sizes at row) in
+        pick-case P (eqb n 0) _ _ (λ e. nothing-read left row)
+        (λ e. pick-case P (ltb n 4) _ _
+        (λ e₂. found-mapped (PartRead sizes left row) (PartRead sizes (suc left) row) (wrapped n)
+        (λ p after w. wrapped-read n left row p after w) (readPart left words end sizes (at + 1) row)
+        (h (at + 1) row b))
+        (λ e₂. pick-case P (ltb n 16) _ _ (λ e₃. tt)
+        (λ e₃. pick-case P (ltb n 18) _ _
+        (λ e₄. found-mapped (λ ps after. PartRead sizes (suc left) row (Part.choice ps) after)
+        (PartRead sizes (suc left) row) (gathered n)
+        (λ ps after w. gathered-read n (suc left) row ps after w)
+        (readGroup (readPart left words end sizes) words end at row) (group-reads left at row b h))
+        (λ e₄. pick-case P (ltb n 256) _ _ (λ e₅. tt)
+        (λ e₅. pick-case P (ltb n 320) _ _ (λ e₆. link-reads left at row (n - 256) b) (λ e₆. tt))))))
+
+    part-reads :
+        (left at : ℕ) (row : List ℕ) → sizes .kinds ≤ length row →
+        Found (PartRead sizes left row) (readPart left words end sizes at row)
+    unfolding readPart
+    part-reads zero at row b = pick-case (Found (PartRead sizes zero row)) (leb end at) _ _ (λ e. tt) (λ e. tt)
+    part-reads (suc left) at row b =
+        pick-case (Found (PartRead sizes (suc left) row)) (leb end at) _ _ (λ e. tt)
+        (λ e. code-reads (getD words at 0) left at row b (part-reads left))
+
+    -- A part that was read obeys document 01, and the row has its names.
+    pub reads-part :
+        (left at : ℕ) (row : List ℕ) (p : Part) (next : ℕ) (after : List ℕ) → sizes .kinds ≤ length row →
+        readPart left words end sizes at row ≡ found p next after → PartRead sizes left row p after
+    reads-part left at row p next after b e = rw e at (part-reads left at row b)
+
+    -- Read from a row that has no names, a part leaves its names there.
+    pub reads-names :
+        (left at : ℕ) (p : Part) (next : ℕ) (after : List ℕ) → sizes .kinds ≤ 64 →
+        readPart left words end sizes at noNames ≡ found p next after → (k : ℕ) → getD after k 0 ≡ named p k
+    reads-names left at p next after b e k =
+        let w = reads-part left at noNames p next after b e in
+        w .entries k ∙ ap (λ (n : ℕ). firstEntry n (named p k)) (no-entry 64 k)

@@ -1,0 +1,3 @@
+pub mod Answer
+pub mod Reading
+pub mod Template

@@ -1,0 +1,247 @@
+// Reading a template (a schema): the words of each shape (a type) are one part exactly. `part` reads a part and `run` a
+// run of parts, and each calls the other. The same reading fills the table of names.
+ghost use mathlib.Core.Path.{_≡_};
+ghost use mathlib.Core.List.{List};
+ghost use Prim.Native.Nat.{ℕ, _+_, _≤_, _<_};
+ghost use lib.ListN.{length, getD, replicate};
+ghost use Rattle.bags.specs.Part.{Part, named};
+ghost use Rattle.template.specs.Answer.{templateSaid};
+ghost use Rattle.template.specs.Reading.{limitsOk, both, outcome, readLink, readPart, readRun};
+ghost use Rattle.template.specs.Template.{ok, accepted, noNames, resultRead, readShape, readShapes, readTemplate, templateSays, Tabled};
+
+// The number of a kind: it counts the template's kinds from 0.
+pub struct Kind(pub u16);
+
+// The number of a shape: it counts the template's shapes from 0.
+pub struct Shape(pub u16);
+
+// The counts that a template starts with.
+pub struct Sizes {
+    pub kinds: u16,
+    pub shapes: u16,
+}
+
+// The next place after what was read, or the refusal's number and place.
+pub enum Read {
+    Next(usize),
+    Refused(u16, usize),
+}
+
+// A template's counts of kinds and of shapes, or what it is refused for: number and place.
+pub enum TemplateAnswer {
+    Counts(u16, u16),
+    Refused(u16, usize),
+}
+
+fn wide(x: u16) -> usize
+    ensures { λ r. ⌜ (r ≡ x) × (r < 65536) ⌝ }
+{
+    x as usize
+}
+
+// A shape's entry in the table of names: its number plus one.
+fn entry(shape: Shape) -> u8
+    requires { ⌜ shape .0 < 32 ⌝ }
+    ensures { λ r. ⌜ r ≡ shape .0 + 1 ⌝ }
+{
+    (shape.0 + 1) as u8
+}
+
+// Whether a link may have these limits: 65,535 is no limit.
+fn limits_ok(low: u16, high: u16) -> bool
+    ensures { λ r. ⌜ r ≡ limitsOk low high ⌝ }
+{
+    if 8192 < low {
+        return false;
+    }
+    if high == 65535 {
+        return true;
+    }
+    if high < low {
+        return false;
+    }
+    high <= 8192
+}
+
+// The link of this kind whose code is at `at`, below `end`. Its shape is entered in the row.
+fn link(words: &[u16], at: usize, end: usize, sizes: Sizes, row: &mut [u8], kind: Kind) -> Read
+    requires { ⌜ (at < end) × (end ≤ length (now words)) × (sizes .kinds ≤ length (now row)) × (sizes .shapes ≤ 32) ⌝ }
+    ensures { λ r. ⌜ both r (now (row .exit)) ≡ outcome (readLink (now (words .entry)) end sizes at (now (row .entry)) (kind .0)) ⌝ }
+{
+    if end - at < 4 {
+        return Read::Refused(4, end);
+    }
+    if sizes.kinds <= kind.0 {
+        return Read::Refused(7, at);
+    }
+    let label = kind.0 as usize;
+    if row[label] != 0 {
+        return Read::Refused(8, at);
+    }
+    let shape = Shape(words[at + 1]);
+    if sizes.shapes <= shape.0 {
+        return Read::Refused(9, at + 1);
+    }
+    if limits_ok(words[at + 2], words[at + 3]) {
+        row[label] = entry(shape);
+        Read::Next(at + 4)
+    } else {
+        Read::Refused(10, at + 2)
+    }
+}
+
+// The part at `at`, where `left` levels of parts are still allowed.
+fn part(words: &[u16], at: usize, end: usize, sizes: Sizes, left: usize, row: &mut [u8]) -> Read
+    requires { ⌜ (end ≤ length (now words)) × (sizes .kinds ≤ length (now row)) × (sizes .shapes ≤ 32) ⌝ }
+    ensures { λ r. ⌜ both r (now (row .exit)) ≡ outcome (readPart left (now (words .entry)) end sizes at (now (row .entry))) ⌝ }
+{
+    if end <= at {
+        return Read::Refused(4, end);
+    }
+    if left == 0 {
+        return Read::Refused(6, at);
+    }
+    let code = words[at];
+    match code {
+        0 => Read::Next(at + 1),
+        1..=3 => part(words, at + 1, end, sizes, left - 1, row),
+        4..=15 => Read::Refused(5, at),
+        16..=17 => {
+            if end - at < 2 {
+                return Read::Refused(4, end);
+            }
+            let count = words[at + 1];
+            if count < 2 {
+                return Read::Refused(11, at + 1);
+            }
+            if 16 < count {
+                return Read::Refused(11, at + 1);
+            }
+            run(words, at + 2, end, sizes, left - 1, row, count)
+        }
+        18..=255 => Read::Refused(5, at),
+        256..=319 => link(words, at, end, sizes, row, Kind(code - 256)),
+        _ => Read::Refused(5, at),
+    }
+}
+
+// `count` parts, one after the other.
+fn run(
+    words: &[u16],
+    at: usize,
+    end: usize,
+    sizes: Sizes,
+    left: usize,
+    row: &mut [u8],
+    count: u16,
+) -> Read
+    requires { ⌜ (end ≤ length (now words)) × (sizes .kinds ≤ length (now row)) × (sizes .shapes ≤ 32) ⌝ }
+    ensures { λ r. ⌜ both r (now (row .exit)) ≡ outcome (readRun (readPart left (now (words .entry)) end sizes) count at (now (row .entry))) ⌝ }
+{
+    if count == 0 {
+        return Read::Next(at);
+    }
+    let first = part(words, at, end, sizes, left, row);
+    match first {
+        Read::Next(next) => run(words, next, end, sizes, left, row, count - 1),
+        Read::Refused(number, place) => Read::Refused(number, place),
+    }
+}
+
+// The shape whose count of words stands at `at`. The row then has the shape that it names for each label.
+fn one_shape(words: &[u16], at: usize, sizes: Sizes, row: &mut [u8]) -> Read
+    requires { ⌜ (sizes .kinds ≤ 64) × (sizes .shapes ≤ 32) × (now row ≡ noNames) ⌝ }
+    ensures read { λ r. ⌜ r ≡ resultRead (readShape sizes (now (words .entry)) at) ⌝ }
+    ensures names { λ r. ⌜ ((p : Part) (n : ℕ) → readShape sizes (now (words .entry)) at ≡ ok p n → (k : ℕ) → getD (now (row .exit)) k 0 ≡ named p k) ⌝ }
+{
+    if words.len() <= at {
+        return Read::Refused(4, words.len());
+    }
+    let count = wide(words[at]);
+    let start = at + 1;
+    if words.len() - start < count {
+        return Read::Refused(4, words.len());
+    }
+    let end = start + count;
+    let whole = part(words, start, end, sizes, 12, row);
+    match whole {
+        Read::Next(next) => {
+            if next < end {
+                Read::Refused(12, next)
+            } else {
+                Read::Next(end)
+            }
+        }
+        Read::Refused(number, place) => Read::Refused(number, place),
+    }
+}
+
+// All shapes, and then the template's end. A table that is all 0 gets a row of 64 for each shape.
+fn all_shapes(words: &[u16], sizes: Sizes, names: &mut [u8]) -> Read
+    requires { ⌜ (sizes .kinds ≤ 64) × (sizes .shapes ≤ 32) × (now names ≡ replicate 2048 0) ⌝ }
+    ensures read { λ r. ⌜ r ≡ resultRead (readShapes sizes (now (words .entry)) (sizes .shapes) 2) ⌝ }
+    ensures table { λ r. ⌜ ((trees : List Part) (n : ℕ) → readShapes sizes (now (words .entry)) (sizes .shapes) 2 ≡ ok trees n → Tabled trees (now (names .exit))) ⌝ }
+{
+    let shapes = wide(sizes.shapes);
+    let mut at = 2;
+    let mut t = 0;
+    while t < shapes {
+        let base = t * 64;
+        let end = base + 64;
+        let first = one_shape(words, at, sizes, &mut names[base..end]);
+        match first {
+            Read::Next(next) => {
+                at = next;
+                t += 1;
+            }
+            Read::Refused(number, place) => {
+                return Read::Refused(number, place);
+            }
+        }
+    }
+    if at < words.len() {
+        return Read::Refused(12, at);
+    }
+    Read::Next(at)
+}
+
+// Reads a template and fills the table of names, which is all 0 before.
+pub fn read_names(template: &[u16], names: &mut [u8]) -> TemplateAnswer
+    requires { ⌜ now names ≡ replicate 2048 0 ⌝ }
+    ensures answer { λ r. ⌜ templateSaid r ≡ templateSays (now (template .entry)) ⌝ }
+    ensures table { λ r. ⌜ ((kinds shapes : ℕ) (trees : List Part) → readTemplate (now (template .entry)) ≡ accepted kinds shapes trees → Tabled trees (now (names .exit))) ⌝ }
+{
+    if template.len() < 2 {
+        return TemplateAnswer::Refused(1, 0);
+    }
+    if 4096 < template.len() {
+        return TemplateAnswer::Refused(1, 0);
+    }
+    let kinds = template[0];
+    if kinds < 1 {
+        return TemplateAnswer::Refused(2, 0);
+    }
+    if 64 < kinds {
+        return TemplateAnswer::Refused(2, 0);
+    }
+    let shapes = template[1];
+    if shapes < 1 {
+        return TemplateAnswer::Refused(3, 1);
+    }
+    if 32 < shapes {
+        return TemplateAnswer::Refused(3, 1);
+    }
+    let all = all_shapes(template, Sizes { kinds, shapes }, names);
+    match all {
+        Read::Next(_) => TemplateAnswer::Counts(kinds, shapes),
+        Read::Refused(number, place) => TemplateAnswer::Refused(number, place),
+    }
+}
+
+// Read a template: its counts of kinds and shapes, or the first refusal.
+pub fn read_template(template: &[u16]) -> TemplateAnswer
+    ensures { λ r. ⌜ templateSaid r ≡ templateSays (now (template .entry)) ⌝ }
+{
+    let mut names = [0u8; 2048];
+    read_names(template, &mut names)
+}
