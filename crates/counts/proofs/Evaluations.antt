@@ -1,0 +1,183 @@
+-- What the evaluator's steps answer for the tree at a place.
+-- evaluates-as, evaluates-from   the same answer for an equal tree, and from a place before
+-- part-small, run-small          a span is small enough to be added
+-- fits-one, fits-not             what the interval says of fitting
+-- nothing-.., link-.., wrap-.., none-.., join-..   the answer of each leaf, from what its span stands for
+-- Assumes nothing.
+use mathlib.Core.Path.{_≡_, refl, ap, ap₂, sym, _∙_, subst}
+use mathlib.Core.Bool.{Bool, true, false, _&&_}
+use mathlib.Core.List.{List}
+use Prim.Native.Nat.{ℕ, _+_, _-_, _*_, _≤_, _<_}
+use native.Mathlib.Omega.{arith}
+use borrow.Author.Tests.{eq-eqb, ne-eqb}
+use lib.ListN.{length}
+use lib.Dec.{eqb}
+use Rattle.bags.specs.Part.{Part, Parts, Limit}
+use Rattle.bags.specs.Interval.{from, add, meet, starInterval, plusInterval, linkInterval, interval, count, inside, othersZero, fits}
+use Rattle.bags.specs.Span.{view, Small}
+use Rattle.bags.specs.declared.Span.{Span}
+use Rattle.bags.proofs.Spans.{span, small-more, small-up}
+use Rattle.template.specs.Reading.{wrapped, gathered}
+use Rattle.counts.specs.declared.Eval.{Eval}
+use Rattle.counts.specs.Trees.{Placed, placed, onto, treesAt, treeAt}
+use Rattle.counts.specs.Evaluation.{Evaluates}
+use Rattle.counts.proofs.Sizes.{next-bound, nexts-bound}
+
+abbrev pub eval : ℕ → Bool → Span → Eval
+eval next zero x = record { next = next; zero = zero; span = x }
+
+and-one : (b : Bool) → (b && true) ≡ b
+and-one true = refl
+and-one false = refl
+
+and-none : (b : Bool) → (b && false) ≡ false
+and-none true = refl
+and-none false = refl
+
+module _ (w : ℕ → ℕ) (at : ℕ) where
+  -- An equal tree has the same answer.
+  pub evaluates-as : (s t : Placed Part) (e : Eval) → s ≡ t → Evaluates w at s e → Evaluates w at t e
+  evaluates-as s t e h v = subst (λ (u : Placed Part). Evaluates w at u e) h v
+
+  -- What is small for few words is so for more.
+  pub evaluates-from : (after : ℕ) (t : Placed Part) (e : Eval) → at ≤ after → Evaluates w after t e → Evaluates w at t e
+  evaluates-from after t e h v =
+      record {
+        next = v .next;
+        zero = v .zero;
+        span = v .span;
+        small = small-more (65535 * (t .next - after)) (65535 * (t .next - at)) (e .span) (omega arith) (v .small);
+      }
+
+  module _ (words : List ℕ) (bound : length words ≤ 4096) (left : ℕ) (e : Eval) where
+    pub part-small : Evaluates w at (treeAt left words at) e → Small 1000000000 (e .span)
+    part-small v =
+        let b = next-bound words left at in
+        small-more (65535 * (treeAt left words at .next - at)) 1000000000 (e .span) (omega arith) (v .small)
+
+    pub run-small :
+        (code n : ℕ) → Evaluates w at (onto (gathered code) (treesAt (treeAt left words) n at)) e → Small 1000000000 (e .span)
+    run-small code n v =
+        let b = nexts-bound words left n at in
+        small-more (65535 * (treesAt (treeAt left words) n at .next - at)) 1000000000 (e .span) (omega arith) (v .small)
+
+  -- Nothing has 0 up.
+  pub nothing-evaluates : (next : ℕ) → Evaluates w at (placed Part.nothing next) (eval next true (span 0 4294967295))
+  unfolding view
+  nothing-evaluates next = record { next = refl; zero = refl; span = refl; small = small-up _ 0 (omega arith) }
+
+  -- A link has the interval of its label's count.
+  pub link-evaluates :
+      (label shape low : ℕ) (high : Limit) (c : ℕ) (x : Span) → c ≡ w label → c < 65536 →
+      view x ≡ linkInterval c low high → Small c x →
+      Evaluates w at (placed (Part.link label shape low high) (at + 4)) (eval (at + 4) (eqb c 0) x)
+  link-evaluates label shape low high c x e b v s =
+      record {
+        next = refl;
+        zero = ap (λ (n : ℕ). eqb n 0) e;
+        span = v ∙ ap (λ (n : ℕ). linkInterval n low high) e;
+        small = small-more c (65535 * (at + 4 - at)) x (omega arith) s;
+      }
+
+  -- A star, a plus or an optional part, by its code.
+  module _ (code : ℕ) (t : Placed Part) (inner : Eval) (x : Span) (above : at < t .next)
+      (v : Evaluates w (at + 1) t inner)
+    where
+      wrap-small : (((n : ℕ) → 1 ≤ n → Small n (inner .span) → Small n x)) → Small (65535 * (t .next - at)) x
+      wrap-small s =
+          s (65535 * (t .next - at)) (omega arith)
+          (small-more (65535 * (t .next - (at + 1))) (65535 * (t .next - at)) (inner .span) (omega arith) (v .small))
+
+      pub wrap-star :
+          code ≡ 1 → view x ≡ starInterval (inner .zero) (view (inner .span)) →
+          (((n : ℕ) → 1 ≤ n → Small n (inner .span) → Small n x)) →
+          Evaluates w at (onto (wrapped code) t) (eval (inner .next) (inner .zero) x)
+      wrap-star h i s =
+          rw (eq-eqb code 1 h)
+          (record { next = v .next; zero = v .zero; span = i ∙ ap₂ starInterval (v .zero) (v .span); small = wrap-small s })
+
+      pub wrap-plus :
+          code ≡ 2 → view x ≡ plusInterval (inner .zero) (view (inner .span)) →
+          (((n : ℕ) → 1 ≤ n → Small n (inner .span) → Small n x)) →
+          Evaluates w at (onto (wrapped code) t) (eval (inner .next) (inner .zero) x)
+      wrap-plus h i s =
+          let d : code ≡ 1 → ⊥ = omega arith in
+          rw (ne-eqb code 1 d, eq-eqb code 2 h)
+          (record { next = v .next; zero = v .zero; span = i ∙ ap₂ plusInterval (v .zero) (v .span); small = wrap-small s })
+
+      pub wrap-optional :
+          (code ≡ 1 → ⊥) → (code ≡ 2 → ⊥) → view x ≡ add (from 0) (view (inner .span)) →
+          (((n : ℕ) → Small n (inner .span) → Small n x)) →
+          Evaluates w at (onto (wrapped code) t) (eval (inner .next) (inner .zero) x)
+      wrap-optional d f i s =
+          rw (ne-eqb code 1 d, ne-eqb code 2 f)
+          (record {
+            next = v .next;
+            zero = v .zero;
+            span = i ∙ ap (add (from 0)) (v .span);
+            small = wrap-small (λ n h. s n);
+          })
+
+  -- No parts of a choice, and of all.
+  module _ (code next : ℕ) where
+    pub none-choice : code ≡ 16 → Evaluates w at (onto (gathered code) (placed Parts.none next)) (eval next true (span 0 0))
+    unfolding view Small
+    none-choice h =
+        rw (eq-eqb code 16 h) (record { next = refl; zero = refl; span = refl; small = (omega arith, λ d. omega arith) })
+
+    pub none-all :
+        (e : Eval) → (code ≡ 16 → ⊥) → Evaluates w at (placed Part.nothing next) e →
+        Evaluates w at (onto (gathered code) (placed Parts.none next)) e
+    none-all e d v =
+        rw (ne-eqb code 16 d) (record { next = v .next; zero = v .zero; span = v .span; small = v .small })
+
+  -- The first part of a choice, and of all, with the rest.
+  module _
+      (code : ℕ) (t : Placed Part) (u : Placed Parts) (first rest : Eval) (zero : Bool) (x : Span)
+      (above : at ≤ t .next) (after : t .next ≤ u .next)
+      (v : Evaluates w at t first) (r : Evaluates w (t .next) (onto (gathered code) u) rest)
+      (both : zero ≡ (first .zero && rest .zero))
+    where
+      pub join-choice :
+          code ≡ 16 → view x ≡ add (view (first .span)) (view (rest .span)) →
+          ((m n : ℕ) → Small m (first .span) → Small n (rest .span) → Small (m + n) x) →
+          Evaluates w at (onto (gathered code) (onto (Parts.more (t .tree)) u)) (eval (rest .next) zero x)
+      join-choice h i s =
+          let q = rw (eq-eqb code 16 h) at r in
+          rw (eq-eqb code 16 h)
+          (record {
+            next = q .next;
+            zero = both ∙ ap₂ _&&_ (v .zero) (q .zero);
+            span = i ∙ ap₂ add (v .span) (q .span);
+            small = small-more _ _ x (omega arith) (s _ _ (v .small) (q .small));
+          })
+
+      pub join-all :
+          (code ≡ 16 → ⊥) → view x ≡ meet (view (first .span)) (view (rest .span)) →
+          (((n : ℕ) → Small n (first .span) → Small n (rest .span) → Small n x)) →
+          Evaluates w at (onto (gathered code) (onto (Parts.more (t .tree)) u)) (eval (rest .next) zero x)
+      join-all d i s =
+          let q = rw (ne-eqb code 16 d) at r in
+          let all : ℕ = 65535 * (u .next - at) in
+          rw (ne-eqb code 16 d)
+          (record {
+            next = q .next;
+            zero = both ∙ ap₂ _&&_ (v .zero) (q .zero);
+            span = i ∙ ap₂ meet (v .span) (q .span);
+            small = s all (small-more _ all (first .span) (omega arith) (v .small))
+                (small-more _ all (rest .span) (omega arith) (q .small));
+          })
+
+-- "It fits if 1 is inside", once the labels that are not named count 0.
+module _ (counts : List ℕ) (at : ℕ) (t : Placed Part) (r : Bool) (others : r ≡ othersZero (t .tree) 0 counts) where
+  pub fits-one :
+      (e : Eval) (one : Bool) → Evaluates (count counts) at t e → one ≡ inside 1 (view (e .span)) → r ≡ true →
+      one ≡ fits (t .tree) counts
+  fits-one e one v h y =
+      h ∙ ap (inside 1) (v .span) ∙ sym (and-one (inside 1 (interval (t .tree) (count counts))))
+      ∙ ap (λ (b : Bool). inside 1 (interval (t .tree) (count counts)) && b) (sym y ∙ others)
+
+  pub fits-not : r ≡ false → false ≡ fits (t .tree) counts
+  fits-not n =
+      sym (and-none (inside 1 (interval (t .tree) (count counts))))
+      ∙ ap (λ (b : Bool). inside 1 (interval (t .tree) (count counts)) && b) (sym n ∙ others)

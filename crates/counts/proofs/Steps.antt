@@ -1,0 +1,102 @@
+-- The steps of `part` and `run`: what each way of them answers is the answer for the tree, or the run, at their place.
+-- part-…    where no level is left, past the words' end, and for each range of codes
+-- run-…     for no parts, and for a first part and the rest
+-- Assumes nothing.
+use mathlib.Core.Path.{_≡_, ap, subst}
+use mathlib.Core.List.{List}
+use Prim.Native.Nat.{ℕ, _+_, _-_, _≤_, _<_}
+use native.Mathlib.Omega.{arith}
+use lib.ListN.{length, getD}
+use Rattle.bags.specs.Part.{Part, Parts}
+use Rattle.bags.specs.Span.{limitOf}
+use Rattle.template.specs.Reading.{Code, codeOf, wrapped, gathered}
+use Rattle.template.proofs.Laws.{code-nothing, code-single, code-low, code-group, code-middle, code-link, code-high}
+use Rattle.counts.specs.declared.Eval.{Eval}
+use Rattle.counts.specs.Trees.{Placed, placed, onto, treesAt, treeBy, treeAt}
+use Rattle.counts.specs.Evaluation.{Evaluates}
+use Rattle.counts.proofs.Places.{tree-deep, tree-past, tree-by, trees-none, trees-more}
+use Rattle.counts.proofs.Sizes.{next-bound, nexts-bound}
+use Rattle.counts.proofs.Evaluations.{evaluates-as, evaluates-from}
+
+module _ (w : ℕ → ℕ) (words : List ℕ) (left at : ℕ) (e : Eval) where
+  pub part-deep : left ≡ 0 → Evaluates w at (placed Part.nothing at) e → Evaluates w at (treeAt left words at) e
+  part-deep h v = evaluates-as w at _ _ e (tree-deep words at left h) v
+
+  pub part-past :
+      0 < left → length words ≤ at → Evaluates w at (placed Part.nothing at) e → Evaluates w at (treeAt left words at) e
+  part-past p h v = evaluates-as w at _ _ e (tree-past words at left p h) v
+
+  module _ (p : 0 < left) (h : at < length words) where
+    by-code :
+        (k : Code) → codeOf (getD words at 0) ≡ k → Evaluates w at (treeBy k (treeAt (left - 1) words) words at) e →
+        Evaluates w at (treeAt left words at) e
+    by-code k c v = evaluates-as w at _ _ e (tree-by words at left p h k c) v
+
+    pub part-nothing :
+        getD words at 0 ≡ 0 → Evaluates w at (placed Part.nothing (at + 1)) e → Evaluates w at (treeAt left words at) e
+    part-nothing a v = by-code Code.nothing (code-nothing _ a) v
+
+    pub part-low :
+        4 ≤ getD words at 0 → getD words at 0 ≤ 15 → Evaluates w at (placed Part.nothing (at + 1)) e →
+        Evaluates w at (treeAt left words at) e
+    part-low a b v = by-code Code.unknown (code-low _ a b) v
+
+    pub part-middle :
+        18 ≤ getD words at 0 → getD words at 0 ≤ 255 → Evaluates w at (placed Part.nothing (at + 1)) e →
+        Evaluates w at (treeAt left words at) e
+    part-middle a b v = by-code Code.unknown (code-middle _ a b) v
+
+    pub part-high :
+        320 ≤ getD words at 0 → Evaluates w at (placed Part.nothing (at + 1)) e → Evaluates w at (treeAt left words at) e
+    part-high a v = by-code Code.unknown (code-high _ a) v
+
+    pub part-single :
+        (inner : Eval) → 1 ≤ getD words at 0 → getD words at 0 ≤ 3 →
+        Evaluates w (at + 1) (treeAt (left - 1) words (at + 1)) inner →
+        ((v : ℕ → ℕ) (n : ℕ) (t : Placed Part) → n < t .next → Evaluates v (n + 1) t inner →
+        Evaluates v n (onto (wrapped (getD words at 0)) t) e) →
+        Evaluates w at (treeAt left words at) e
+    part-single inner a b v wrap =
+        let n = next-bound words (left - 1) (at + 1) in
+        by-code (Code.single (wrapped (getD words at 0))) (code-single _ a b)
+        (wrap w at (treeAt (left - 1) words (at + 1)) (omega arith) v)
+
+    pub part-group :
+        (parts : ℕ) → parts ≡ getD words (at + 1) 0 → 16 ≤ getD words at 0 → getD words at 0 ≤ 17 →
+        Evaluates w (at + 2) (onto (gathered (getD words at 0)) (treesAt (treeAt (left - 1) words) parts (at + 2))) e →
+        Evaluates w at (treeAt left words at) e
+    part-group parts q a b v =
+        by-code (Code.group (gathered (getD words at 0))) (code-group _ a b)
+        (evaluates-from w at (at + 2) _ e (omega arith) (rw q at v))
+
+    pub part-link :
+        (label : ℕ) → label ≡ getD words at 0 - 256 → 256 ≤ getD words at 0 → getD words at 0 ≤ 319 →
+        Evaluates w at
+        (placed
+        (Part.link label (getD words (at + 1) 0) (getD words (at + 2) 0) (limitOf (getD words (at + 3) 0)))
+        (at + 4))
+        e →
+        Evaluates w at (treeAt left words at) e
+    part-link label q a b v = by-code (Code.link (getD words at 0 - 256)) (code-link _ a b) (rw q at v)
+
+  pub run-none :
+      (code parts : ℕ) → parts ≡ 0 → Evaluates w at (onto (gathered code) (placed Parts.none at)) e →
+      Evaluates w at (onto (gathered code) (treesAt (treeAt left words) parts at)) e
+  run-none code parts h v =
+      evaluates-as w at _ _ e (ap (onto (gathered code)) (trees-none (treeAt left words) at parts h)) v
+
+  pub run-more :
+      (code parts : ℕ) (first rest : Eval) → 0 < parts → Evaluates w at (treeAt left words at) first →
+      Evaluates w (first .next) (onto (gathered code) (treesAt (treeAt left words) (parts - 1) (first .next))) rest →
+      ((v : ℕ → ℕ) (n : ℕ) (t : Placed Part) (u : Placed Parts) → n ≤ t .next → t .next ≤ u .next →
+      Evaluates v n t first → Evaluates v (t .next) (onto (gathered code) u) rest →
+      Evaluates v n (onto (gathered code) (onto (Parts.more (t .tree)) u)) e) →
+      Evaluates w at (onto (gathered code) (treesAt (treeAt left words) parts at)) e
+  run-more code parts first rest h v r join =
+      let t = treeAt left words at in
+      let u = treesAt (treeAt left words) (parts - 1) (t .next) in
+      let a = next-bound words left at in
+      let b = nexts-bound words left (parts - 1) (t .next) in
+      evaluates-as w at _ _ e (ap (onto (gathered code)) (trees-more (treeAt left words) at parts h))
+      (join w at t u (a .0) (b .0) v
+      (subst (λ (n : ℕ). Evaluates w n (onto (gathered code) (treesAt (treeAt left words) (parts - 1) n)) rest) (v .next) r))

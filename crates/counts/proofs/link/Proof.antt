@@ -1,0 +1,45 @@
+-- `link` meets its contract. Assumes nothing.
+use Rattle.counts.proofs.Evaluations.{link-evaluates}
+use borrow.Author.Needs.{needs}
+use Rattle.counts.proofs.link.Statement.{statement}
+use Rattle.counts.proofs.link.Tie as tie
+
+count-of-requires : tie.Need-count-of-requires
+count-of-requires c κs = search needs
+
+add-word : tie.Need-add-word
+add-word c = search needs
+
+word-requires : tie.Need-word-requires
+word-requires c κs = search needs
+
+add-word-2 : tie.Need-add-word-2
+add-word-2 c = search needs
+
+word-requires-2 : tie.Need-word-requires-2
+word-requires-2 c κs = search needs
+
+link-span-requires : tie.Need-link-span-requires
+link-span-requires c κs = search needs
+
+add-t8 : tie.Need-add-t8
+add-t8 c = search needs
+
+returns : tie.Need-returns
+returns c =
+    rw (← c .before .before .word .ensures, ← c .before .word2 .ensures)
+    (link-evaluates _ _ _ _ _ _ _ _ (c .before .before .before .count-of .ensures) (search needs) (c .link-span .ensures .0)
+    (c .link-span .ensures .1))
+
+pub link-spec : {M : Type 1} → statement M
+link-spec =
+    tie.close
+    (tie.spec
+    count-of-requires
+    add-word
+    word-requires
+    add-word-2
+    word-requires-2
+    link-span-requires
+    add-t8
+    returns)

@@ -1,0 +1,299 @@
+// Whether counts of links fit a shape: the interval of repetitions of its part, from the template's words.
+// `part` evaluates a part and `run` a run of parts, and each calls the other.
+ghost use mathlib.Core.Path.{_≡_};
+ghost use mathlib.Core.List.{List, [], _∷_};
+ghost use mathlib.Core.Bool.{_&&_, _||_, not};
+ghost use lib.Dec.{eqb};
+ghost use Prim.Native.Nat.{ℕ, _+_, _≤_, _<_};
+ghost use lib.ListN.{length, getD};
+ghost use Rattle.bags.specs.Part.{Part, Parts, named};
+ghost use Rattle.bags.specs.Interval.{count, othersZero, fits as countsFit};
+ghost use Rattle.bags.specs.Span.{Small, limitOf};
+ghost use Rattle.template.specs.Reading.{wrapped, gathered};
+ghost use Rattle.template.specs.Answer.{values};
+ghost use Rattle.template.specs.Template.{accepted, readTemplate, templateSays, shapePlace, Tabled};
+ghost use Rattle.counts.specs.Answer.{fitSaid};
+ghost use Rattle.counts.specs.Fit.{FirstOver, FitSays};
+ghost use Rattle.counts.specs.Trees.{Placed, placed, onto, treeAt, treesAt};
+ghost use Rattle.counts.specs.Evaluation.{Evaluates};
+use bags::Span;
+use bags::TOP;
+use bags::add_span;
+use bags::has_one;
+use bags::link_span;
+use bags::meet_span;
+use bags::optional_span;
+use bags::plus_span;
+use bags::star_span;
+use template::Shape;
+use template::TemplateAnswer;
+use template::read_names;
+
+// What evaluating a part finds: the next place, whether all counts of its labels are 0, and its interval.
+pub struct Eval {
+    pub next: usize,
+    pub zero: bool,
+    pub span: Span,
+}
+
+// Whether counts fit a shape, or what is refused: number and place.
+pub enum FitAnswer {
+    Yes,
+    No,
+    Refused(u16, usize),
+}
+
+fn wide(x: u16) -> usize
+    ensures { λ r. ⌜ (r ≡ x) × (r < 65536) ⌝ }
+{
+    x as usize
+}
+
+fn and(a: bool, b: bool) -> bool
+    ensures { λ r. ⌜ r ≡ (a && b) ⌝ }
+{
+    if a { b } else { false }
+}
+
+// The word at a place, 0 past the end.
+fn word(words: &[u16], at: usize) -> u16
+    ensures { λ r. ⌜ r ≡ getD (now (words .entry)) at 0 ⌝ }
+{
+    if at < words.len() { words[at] } else { 0 }
+}
+
+// The count of a label, 0 past the end.
+fn count_of(counts: &[u16], label: usize) -> u16
+    ensures { λ r. ⌜ r ≡ count (now (counts .entry)) label ⌝ }
+{
+    word(counts, label)
+}
+
+// Nothing, before the place `next`.
+fn nothing(next: usize) -> Eval
+    ensures { λ r. ⌜ ((w : ℕ → ℕ) (at : ℕ) → Evaluates w at (placed Part.nothing next) r) ⌝ }
+{
+    Eval {
+        next,
+        zero: true,
+        span: Span { lo: 0, hi: TOP },
+    }
+}
+
+// The link of this label whose code is at `at`.
+fn link(words: &[u16], counts: &[u16], at: usize, label: usize) -> Eval
+    requires { ⌜ at < 4096 ⌝ }
+    ensures { λ r. ⌜ Evaluates (count (now (counts .entry))) at (placed (Part.link label (getD (now (words .entry)) (at + 1) 0) (getD (now (words .entry)) (at + 2) 0) (limitOf (getD (now (words .entry)) (at + 3) 0))) (at + 4)) r ⌝ }
+{
+    let w = count_of(counts, label);
+    let span = link_span(w, word(words, at + 2), word(words, at + 3));
+    Eval {
+        next: at + 4,
+        zero: w == 0,
+        span,
+    }
+}
+
+// A star (1), a plus (2) or an optional part (3), from the part inside it.
+fn wrap(code: u16, inner: Eval) -> Eval
+    ensures { λ r. ⌜ ((w : ℕ → ℕ) (at : ℕ) (t : Placed Part) → at < t .next → Evaluates w (at + 1) t inner → Evaluates w at (onto (wrapped code) t) r) ⌝ }
+{
+    let next = inner.next;
+    let zero = inner.zero;
+    let x = inner.span;
+    if code == 1 {
+        let span = star_span(zero, x);
+        return Eval { next, zero, span };
+    }
+    if code == 2 {
+        let span = plus_span(zero, x);
+        return Eval { next, zero, span };
+    }
+    let span = optional_span(x);
+    Eval { next, zero, span }
+}
+
+// No parts of a choice (16) or of all (17), before the place `next`.
+fn none(code: u16, next: usize) -> Eval
+    ensures { λ r. ⌜ ((w : ℕ → ℕ) (at : ℕ) → Evaluates w at (onto (gathered code) (placed Parts.none next)) r) ⌝ }
+{
+    if code != 16 {
+        return nothing(next);
+    }
+    Eval {
+        next,
+        zero: true,
+        span: Span { lo: 0, hi: 0 },
+    }
+}
+
+// The first part of a choice (16) or of all (17), with the rest of them.
+fn join(code: u16, first: Eval, rest: Eval) -> Eval
+    requires { ⌜ (Small 1000000000 (first .span)) × (Small 1000000000 (rest .span)) ⌝ }
+    ensures { λ r. ⌜ ((w : ℕ → ℕ) (at : ℕ) (t : Placed Part) (u : Placed Parts) → at ≤ t .next → t .next ≤ u .next → Evaluates w at t first → Evaluates w (t .next) (onto (gathered code) u) rest → Evaluates w at (onto (gathered code) (onto (Parts.more (t .tree)) u)) r) ⌝ }
+{
+    let next = rest.next;
+    let zero = and(first.zero, rest.zero);
+    let x = first.span;
+    let y = rest.span;
+    if code == 16 {
+        let span = add_span(x, y);
+        Eval { next, zero, span }
+    } else {
+        let span = meet_span(x, y);
+        Eval { next, zero, span }
+    }
+}
+
+// The part at `at`, where `left` levels of parts are still allowed.
+fn part(words: &[u16], counts: &[u16], at: usize, left: usize) -> Eval
+    requires { ⌜ length (now words) ≤ 4096 ⌝ }
+    ensures { λ r. ⌜ Evaluates (count (now (counts .entry))) at (treeAt left (now (words .entry)) at) r ⌝ }
+{
+    if left == 0 {
+        return nothing(at);
+    }
+    if words.len() <= at {
+        return nothing(at);
+    }
+    let code = words[at];
+    match code {
+        0 => nothing(at + 1),
+        1..=3 => wrap(code, part(words, counts, at + 1, left - 1)),
+        4..=15 => nothing(at + 1),
+        16..=17 => run(words, counts, at + 2, left - 1, word(words, at + 1), code),
+        18..=255 => nothing(at + 1),
+        256..=319 => link(words, counts, at, wide(code - 256)),
+        _ => nothing(at + 1),
+    }
+}
+
+// So many parts of a choice (16) or of all (17), one after the other.
+fn run(words: &[u16], counts: &[u16], at: usize, left: usize, parts: u16, code: u16) -> Eval
+    requires { ⌜ length (now words) ≤ 4096 ⌝ }
+    ensures { λ r. ⌜ Evaluates (count (now (counts .entry))) at (onto (gathered code) (treesAt (treeAt left (now (words .entry))) parts at)) r ⌝ }
+{
+    if parts == 0 {
+        return none(code, at);
+    }
+    let first = part(words, counts, at, left);
+    let next = first.next;
+    let rest = run(words, counts, next, left, parts - 1, code);
+    join(code, first, rest)
+}
+
+// Where the count of words of a shape stands.
+pub fn shape_place(words: &[u16], shape: u16) -> usize
+    ensures { λ r. ⌜ r ≡ shapePlace (now (words .entry)) shape 2 ⌝ }
+{
+    let mut at = 2;
+    let mut left = shape;
+    while left > 0 {
+        at = at + 1 + wide(word(words, at));
+        left -= 1;
+    }
+    at
+}
+
+// Whether a label with this entry may have this count: only 0 where the row's part does not name it.
+fn allowed(entry: u8, count: u16) -> bool
+    ensures { λ r. ⌜ r ≡ (not (eqb entry 0) || eqb count 0) ⌝ }
+{
+    if entry != 0 {
+        return true;
+    }
+    count == 0
+}
+
+// Whether each label that has no entry in the row counts 0: those that the row's part does not name.
+fn others_zero(row: &[u8], counts: &[u16]) -> bool
+    requires { ⌜ length (now counts) ≤ length (now row) ⌝ }
+    ensures { λ r. ⌜ ((p : Part) → ((k : ℕ) → k < length (now (counts .entry)) → getD (now (row .entry)) k 0 ≡ named p k) → r ≡ othersZero p 0 (now (counts .entry))) ⌝ }
+{
+    let mut i = 0;
+    while i < counts.len() {
+        if allowed(row[i], counts[i]) {
+            i += 1;
+        } else {
+            return false;
+        }
+    }
+    true
+}
+
+// The place of the first count over 8,192, or the length of the counts.
+fn first_over(counts: &[u16]) -> usize
+    ensures { λ r. ⌜ FirstOver (now (counts .entry)) r ⌝ }
+{
+    let mut i = 0;
+    while i < counts.len() {
+        if 8192 < counts[i] {
+            return i;
+        }
+        i += 1;
+    }
+    i
+}
+
+// Whether the counts fit the shape whose count of words stands at `at`.
+// The row is the shape's in the table of names.
+pub fn fits(words: &[u16], at: usize, row: &[u8], counts: &[u16]) -> bool
+    requires { ⌜ (length (now words) ≤ 4096) × (at < length (now words)) × (length (now counts) ≤ length (now row)) × ((k : ℕ) → k < length (now counts) → getD (now row) k 0 ≡ named (treeAt 12 (now words) (at + 1) .tree) k) ⌝ }
+    ensures { λ r. ⌜ r ≡ countsFit (treeAt 12 (now (words .entry)) (at + 1) .tree) (now (counts .entry)) ⌝ }
+{
+    if others_zero(row, counts) {
+        let whole = part(words, counts, at + 1, 12);
+        let span = whole.span;
+        has_one(span)
+    } else {
+        false
+    }
+}
+
+// Whether the counts fit the shape of a template that is accepted, or the first refusal.
+// The table of names is the template's.
+fn fit_accepted(
+    template: &[u16],
+    names: &[u8],
+    kinds: u16,
+    shapes: u16,
+    shape: Shape,
+    counts: &[u16],
+) -> FitAnswer
+    requires { ⌜ (values (kinds ∷ shapes ∷ []) ≡ templateSays (now template)) × (length (now names) ≡ 2048) × ((trees : List Part) → readTemplate (now template) ≡ accepted kinds shapes trees → Tabled trees (now names)) ⌝ }
+    ensures { λ r. ⌜ FitSays (now (template .entry)) (shape .0) (now (counts .entry)) (fitSaid r) ⌝ }
+{
+    let n = shape.0;
+    if shapes <= n {
+        return FitAnswer::Refused(42, 0);
+    }
+    if counts.len() != wide(kinds) {
+        return FitAnswer::Refused(41, 0);
+    }
+    let over = first_over(counts);
+    if over < counts.len() {
+        return FitAnswer::Refused(43, over);
+    }
+    let base = wide(n) * 64;
+    let end = base + 64;
+    let at = shape_place(template, n);
+    if fits(template, at, &names[base..end], counts) {
+        FitAnswer::Yes
+    } else {
+        FitAnswer::No
+    }
+}
+
+// Fit counts: whether the counts fit the shape of the template, or the first refusal.
+pub fn fit_counts(template: &[u16], shape: Shape, counts: &[u16]) -> FitAnswer
+    ensures { λ r. ⌜ FitSays (now (template .entry)) (shape .0) (now (counts .entry)) (fitSaid r) ⌝ }
+{
+    let mut names = [0u8; 2048];
+    let read = read_names(template, &mut names);
+    match read {
+        TemplateAnswer::Refused(number, place) => FitAnswer::Refused(number, place),
+        TemplateAnswer::Counts(kinds, shapes) => {
+            fit_accepted(template, &names, kinds, shapes, shape, counts)
+        }
+    }
+}
