@@ -1,0 +1,9 @@
+pub mod Cases
+pub mod Cells
+pub mod Order
+pub mod Reading
+pub mod Cards
+pub mod Neighbours
+pub mod Chains
+pub mod WithTemplate
+pub mod Answers

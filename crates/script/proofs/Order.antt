@@ -1,0 +1,91 @@
+-- The order of a script's links.
+-- greater-by-from, greater-by-kind, greater-by-to   which word decides that a link is above another
+-- above-first, above-other                          the first link, and any other
+-- starts-rise                                       the cards that ascending links start at do not fall
+-- Assumes nothing.
+use Prim.Native.Nat.{ℕ, zero, suc, _+_, _-_, _≤_, _<_}
+use mathlib.Core.Path.{_≡_, refl, sym}
+use mathlib.Core.Logic.{⊎-elim}
+use mathlib.Core.Bool.{Bool, true, false}
+use mathlib.Core.List.{List}
+use native.Mathlib.Omega.{arith}
+use native.Mathlib.Nat.{le-refl, le-trans, add-zero, add-suc}
+use lib.Dec.{ltb}
+use borrow.Author.Tests.{le-ltb, eq-eqb, ne-eqb}
+use Rattle.template.specs.Reading.{pick}
+use Rattle.script.specs.Link.{fromAt, kindAt, toAt, greater, above, Ascending}
+use Rattle.script.proofs.Cases.{le-or-lt, false-true}
+
+pick-bool : (b : Bool) → pick b true false ≡ b
+pick-bool true = refl
+pick-bool false = refl
+
+pub greater-by-from : (script : List ℕ) (i j : ℕ) → (fromAt script i ≡ fromAt script j → ⊥)
+    → ltb (fromAt script j) (fromAt script i) ≡ greater script i j
+unfolding greater
+greater-by-from script i j ne =
+    rw (ne-eqb (fromAt script j) (fromAt script i) (λ e. ne (sym e)))
+    (sym (pick-bool (ltb (fromAt script j) (fromAt script i))))
+
+pub greater-by-kind : (script : List ℕ) (i j : ℕ) → fromAt script i ≡ fromAt script j
+    → (kindAt script i ≡ kindAt script j → ⊥)
+    → ltb (kindAt script j) (kindAt script i) ≡ greater script i j
+unfolding greater
+greater-by-kind script i j e ne =
+    let no-less = le-ltb (fromAt script j) (fromAt script i) (omega arith) in
+    let same = eq-eqb (fromAt script j) (fromAt script i) (sym e) in
+    rw (no-less, same, ne-eqb (kindAt script j) (kindAt script i) (λ q. ne (sym q)))
+    (sym (pick-bool (ltb (kindAt script j) (kindAt script i))))
+
+pub greater-by-to : (script : List ℕ) (i j : ℕ) → fromAt script i ≡ fromAt script j
+    → kindAt script i ≡ kindAt script j
+    → ltb (toAt script j) (toAt script i) ≡ greater script i j
+unfolding greater
+greater-by-to script i j e f =
+    let no-less = le-ltb (fromAt script j) (fromAt script i) (omega arith) in
+    let same = eq-eqb (fromAt script j) (fromAt script i) (sym e) in
+    let no-less-kind = le-ltb (kindAt script j) (kindAt script i) (omega arith) in
+    rw (no-less, same, no-less-kind, eq-eqb (kindAt script j) (kindAt script i) (sym f))
+    refl
+
+pub above-first : (script : List ℕ) (i : ℕ) → i ≡ 0 → true ≡ above script i
+unfolding above
+above-first script zero e = refl
+above-first script (suc i) e = absurd (omega arith)
+
+pub above-other : (script : List ℕ) (i : ℕ) → (i ≡ 0 → ⊥) → greater script i (i - 1) ≡ above script i
+unfolding above
+above-other script zero ne = absurd (ne refl)
+above-other script (suc i) ne = let e : suc i - 1 ≡ i = omega arith in rw e refl
+
+-- A link that is above another starts at no lower card.
+from-rises : (script : List ℕ) (i j : ℕ) → greater script i j ≡ true → fromAt script j ≤ fromAt script i
+unfolding greater
+from-rises script i j e =
+    ⊎-elim (λ h. h)
+    (λ l.
+    let no-less = le-ltb (fromAt script j) (fromAt script i) (omega arith) in
+    let other = ne-eqb (fromAt script j) (fromAt script i) (λ p. omega arith) in
+    false-true (rw (no-less, other) at e))
+    (le-or-lt (fromAt script j) (fromAt script i))
+
+above-rises : (script : List ℕ) (i : ℕ) → above script (suc i) ≡ true → fromAt script i ≤ fromAt script (suc i)
+unfolding above
+above-rises script i e = from-rises script (suc i) i e
+
+-- The first m links start at cards that do not fall.
+abbrev pub StartsRise : List ℕ → ℕ → Type 0
+StartsRise script m = (i j : ℕ) → i ≤ j → j < m → fromAt script i ≤ fromAt script j
+
+rise : (script : List ℕ) (m : ℕ) → Ascending script m → (i d : ℕ) → i + d < m
+    → fromAt script i ≤ fromAt script (i + d)
+rise script m a i zero h = rw add-zero (le-refl _)
+rise script m a i (suc d) h =
+    rw add-suc
+    (le-trans (rise script m a i d (omega arith))
+    (above-rises script (i + d) (a .rising (suc (i + d)) (omega arith))))
+
+pub starts-rise : (script : List ℕ) (m : ℕ) → Ascending script m → StartsRise script m
+starts-rise script m a i j l h =
+    let e : i + (j - i) ≡ j = omega arith in
+    rw e at (rise script m a i (j - i) (omega arith))

@@ -1,0 +1,11 @@
+-- Document 01's number and values for each case of the enum `ScriptAnswer`.
+-- Assumes nothing.
+use mathlib.Core.List.{[], _∷_}
+use Rattle.template.specs.Answer.{Said, values, refusal}
+use Rattle.script.specs.declared.ScriptAnswer.{ScriptAnswer}
+use Rattle.script.specs.declared.ScriptAnswer.the-variants.{Counts, Refused}
+
+-- Counts: N and M. Refused: a template's number and place, or 20 to 25 with theirs.
+abbrev pub scriptSaid : ScriptAnswer → Said
+scriptSaid (Counts cards links) = values (cards ∷ links ∷ [])
+scriptSaid (Refused number place) = refusal number (place ∷ [])

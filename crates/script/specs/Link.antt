@@ -1,0 +1,69 @@
+-- The links of a script's words (document 01, "Script"): three words each from place 2 on, from, kind and to.
+-- fromAt, kindAt, toAt   the words of link i
+-- greater, above         link i is above another, and above the link before it
+-- Ascending              the first m links stand in the script, each above the one before it
+-- cardWords              the words of a card's links, in order
+-- neighbours             the labels and far cards of a card's links: what a shape looks at
+-- below                  how many links start at a card below a number
+-- kindCount              how many links of a row of links have a kind
+-- Assumes nothing.
+use Prim.Native.Nat.{ℕ, zero, suc, _+_, _*_, _≤_, _<_}
+use mathlib.Core.Path.{_≡_}
+use mathlib.Core.List.{List, [], _∷_, _++_}
+use mathlib.Core.Bool.{Bool, true, false}
+use lib.ListN.{length, getD}
+use lib.Dec.{ltb, leb, eqb}
+use Rattle.bags.specs.Choice.{Neighbour, to}
+use Rattle.template.specs.Reading.{pick}
+
+unfoldable pub fromAt : List ℕ → ℕ → ℕ
+fromAt script i = getD script (2 + 3 * i) 0
+
+unfoldable pub kindAt : List ℕ → ℕ → ℕ
+kindAt script i = getD script (3 + 3 * i) 0
+
+unfoldable pub toAt : List ℕ → ℕ → ℕ
+toAt script i = getD script (4 + 3 * i) 0
+
+-- Link i is above link j: by its from, then its kind, then its to.
+unfoldable pub greater : List ℕ → ℕ → ℕ → Bool
+greater script i j =
+    pick (ltb (fromAt script j) (fromAt script i)) true
+    (pick (eqb (fromAt script j) (fromAt script i))
+    (pick (ltb (kindAt script j) (kindAt script i)) true
+    (pick (eqb (kindAt script j) (kindAt script i)) (ltb (toAt script j) (toAt script i)) false))
+    false)
+
+-- The first link is above none; any other is above the one before it.
+unfoldable pub above : List ℕ → ℕ → Bool
+above script zero = true
+above script (suc i) = greater script (suc i) i
+
+-- "M times from, kind, to, strictly ascending in that order of comparison", M at most 8,192.
+pub record Ascending (script : List ℕ) (m : ℕ) : Type 0 where
+  pub few : m ≤ 8192
+  pub size : 2 + 3 * m ≤ length script
+  pub rising : (i : ℕ) → i < m → above script i ≡ true
+
+-- Of the first m links, the words of those that start at a card.
+unfoldable pub cardWords : List ℕ → ℕ → ℕ → List ℕ
+cardWords script card zero = []
+cardWords script card (suc i) =
+    cardWords script card i
+    ++ pick (eqb (fromAt script i) card) (fromAt script i ∷ kindAt script i ∷ toAt script i ∷ []) []
+
+-- Of the first m links, the label and the far card of those that start at a card. A link's label is its kind.
+unfoldable pub neighbours : List ℕ → ℕ → ℕ → List Neighbour
+neighbours script card zero = []
+neighbours script card (suc i) =
+    neighbours script card i ++ pick (eqb (fromAt script i) card) (to (kindAt script i) (toAt script i) ∷ []) []
+
+-- Of the first m links, how many start at a card below c.
+unfoldable pub below : List ℕ → ℕ → ℕ → ℕ
+below script c zero = 0
+below script c (suc i) = below script c i + pick (ltb (fromAt script i) c) 1 0
+
+-- Of the links from link lo on and below link hi, how many have the kind k.
+unfoldable pub kindCount : List ℕ → ℕ → ℕ → ℕ → ℕ
+kindCount script k lo zero = 0
+kindCount script k lo (suc i) = kindCount script k lo i + pick (leb lo i) (pick (eqb k (kindAt script i)) 1 0) 0

@@ -1,0 +1,254 @@
+// Reading a script (a graph): its cards (nodes) and links (edges), the links of a card and the links by target.
+use template::TemplateAnswer;
+use template::read_template;
+ghost use mathlib.Core.Path.{_≡_};
+ghost use Prim.Native.Nat.{ℕ, suc, _+_, _*_, _≤_, _<_};
+ghost use lib.ListN.{length, getD};
+ghost use Rattle.script.specs.Link.{kindAt, toAt, greater, above, Ascending, cardWords, below, kindCount};
+ghost use Rattle.script.specs.Answer.{scriptSaid};
+ghost use Rattle.script.specs.Script.{ScriptReading, accepted, afterLink, readLinks, readScript};
+ghost use Rattle.script.specs.Script.{scriptAnswer, scriptSays, cardLinks};
+ghost use Rattle.script.specs.Chain.{Chained};
+
+// The number of a card: it counts the script's cards from 0.
+pub struct Card(pub u16);
+
+// A script's counts of cards and of links, or what it is refused for: number and place.
+pub enum ScriptAnswer {
+    Counts(u16, u16),
+    Refused(u16, usize),
+}
+
+// What the test of one link finds: nothing at fault, or a refusal's number and place.
+enum LinkTest {
+    Passed,
+    Refused(u16, usize),
+}
+
+// A word as a size.
+fn wide(x: u16) -> usize
+    ensures { λ r. ⌜ (r ≡ x) × (r < 65536) ⌝ }
+{
+    x as usize
+}
+
+// Whether link i is above link j: by its from, then its kind, then its to.
+fn is_greater(script: &[u16], i: usize, j: usize) -> bool
+    requires { ⌜ (i < 8192) × (j < 8192) ⌝ }
+    requires { ⌜ (5 + 3 * i ≤ length (now script)) × (5 + 3 * j ≤ length (now script)) ⌝ }
+    ensures { λ r. ⌜ r ≡ greater (now (script .entry)) i j ⌝ }
+{
+    let from = script[2 + 3 * i];
+    let other_from = script[2 + 3 * j];
+    if from != other_from {
+        return other_from < from;
+    }
+    let kind = script[3 + 3 * i];
+    let other_kind = script[3 + 3 * j];
+    if kind != other_kind {
+        return other_kind < kind;
+    }
+    let to = script[4 + 3 * i];
+    let other_to = script[4 + 3 * j];
+    other_to < to
+}
+
+// Whether link i is above the link before it; the first has none before it.
+fn is_above(script: &[u16], i: usize) -> bool
+    requires { ⌜ (i < 8192) × (5 + 3 * i ≤ length (now script)) ⌝ }
+    ensures { λ r. ⌜ r ≡ above (now (script .entry)) i ⌝ }
+{
+    if i == 0 {
+        return true;
+    }
+    is_greater(script, i, i - 1)
+}
+
+// Tests one link, in document 01's order: 23 from, 24 kind, 23 to, 25 its place among the links.
+fn test_link(kinds: u16, cards: u16, script: &[u16], i: usize) -> LinkTest
+    requires { ⌜ (i < 8192) × (5 + 3 * i ≤ length (now script)) ⌝ }
+    ensures { λ r. ⌜ ((n : ℕ) (done : ScriptReading) →
+        readLinks kinds cards (now (script .entry)) (suc n) i done
+        ≡ afterLink r (readLinks kinds cards (now (script .entry)) n (suc i) done)) ⌝ }
+{
+    if cards <= script[2 + 3 * i] {
+        return LinkTest::Refused(23, 2 + 3 * i);
+    }
+    if kinds <= script[3 + 3 * i] {
+        return LinkTest::Refused(24, 3 + 3 * i);
+    }
+    if cards <= script[4 + 3 * i] {
+        return LinkTest::Refused(23, 4 + 3 * i);
+    }
+    if is_above(script, i) {
+        return LinkTest::Passed;
+    }
+    LinkTest::Refused(25, 2 + 3 * i)
+}
+
+// Tests the links one by one: the counts, or the first refusal.
+fn read_links(kinds: u16, cards: u16, links: u16, script: &[u16]) -> ScriptAnswer
+    requires { ⌜ (links ≤ 8192) × (2 + 3 * links ≤ length (now script)) ⌝ }
+    ensures { λ r. ⌜ scriptSaid r
+        ≡ scriptAnswer (readLinks kinds cards (now (script .entry)) links 0 (accepted cards links)) ⌝ }
+{
+    let count = wide(links);
+    let mut i = 0;
+    while i < count {
+        let test = test_link(kinds, cards, script, i);
+        match test {
+            LinkTest::Passed => {
+                i += 1;
+            }
+            LinkTest::Refused(number, place) => {
+                return ScriptAnswer::Refused(number, place);
+            }
+        }
+    }
+    ScriptAnswer::Counts(cards, links)
+}
+
+// Reads a script under a template that has so many kinds.
+pub fn read_with_kinds(kinds: u16, script: &[u16]) -> ScriptAnswer
+    ensures { λ r. ⌜ scriptSaid r ≡ scriptAnswer (readScript kinds (now (script .entry))) ⌝ }
+{
+    if script.len() < 2 {
+        return ScriptAnswer::Refused(20, 0);
+    }
+    let cards = script[0];
+    if 1024 < cards {
+        return ScriptAnswer::Refused(21, 0);
+    }
+    let links = script[1];
+    if 8192 < links {
+        return ScriptAnswer::Refused(22, 1);
+    }
+    if script.len() != 2 + 3 * wide(links) {
+        return ScriptAnswer::Refused(20, 0);
+    }
+    read_links(kinds, cards, links, script)
+}
+
+// Reads a script with a template: the template's refusals come first.
+pub fn read_script(template: &[u16], script: &[u16]) -> ScriptAnswer
+    ensures { λ r. ⌜ scriptSaid r ≡ scriptSays (now (template .entry)) (now (script .entry)) ⌝ }
+{
+    let read = read_template(template);
+    match read {
+        TemplateAnswer::Counts(kinds, _) => read_with_kinds(kinds, script),
+        TemplateAnswer::Refused(number, place) => ScriptAnswer::Refused(number, place),
+    }
+}
+
+// How many of the links start at a card below `card`: a binary search.
+pub fn count_below(script: &[u16], links: usize, card: usize) -> usize
+    requires { ⌜ Ascending (now script) links ⌝ }
+    ensures { λ r. ⌜ r ≡ below (now (script .entry)) card links ⌝ }
+{
+    let mut lo = 0;
+    let mut hi = links;
+    while lo < hi {
+        let mid = lo + (hi - lo) / 2;
+        if wide(script[2 + 3 * mid]) < card {
+            lo = mid + 1;
+        } else {
+            hi = mid;
+        }
+    }
+    lo
+}
+
+// The links that start at a card, which lie side by side, as a part of an ascending script.
+pub fn card_part(script: &[u16], links: usize, card: usize) -> &[u16]
+    requires { ⌜ Ascending (now script) links ⌝ }
+    requires { ⌜ card < 65536 ⌝ }
+    ensures list { λ r. ⌜ now r ≡ cardWords (now (script .entry)) card links ⌝ }
+    ensures lent { λ r. ⌜ r .ptr .0 ≡ script .entry .ptr .0 ⌝ }
+{
+    let start = count_below(script, links, card);
+    let end = count_below(script, links, card + 1);
+    &script[2 + 3 * start..2 + 3 * end]
+}
+
+// The links of one card, as a part of the script: where it is empty, the readings tell why.
+pub fn links_of_card<'t, 's>(template: &'t [u16], script: &'s [u16], card: Card) -> &'s [u16]
+    ensures list { λ r. ⌜ now r ≡ cardLinks (now (template .entry)) (now (script .entry)) (card .0) ⌝ }
+    ensures lent { λ r. ⌜ r .ptr .0 ≡ script .entry .ptr .0 ⌝ }
+{
+    let none = &script[0..0];
+    let read = read_script(template, script);
+    match read {
+        ScriptAnswer::Counts(cards, links) => {
+            let number = card.0;
+            if cards <= number {
+                return none;
+            }
+            card_part(script, wide(links), wide(number))
+        }
+        ScriptAnswer::Refused(_, _) => none,
+    }
+}
+
+// Where the links of each card start: `starts[c]` is how many start at a card below c. The links of c end where those of
+// c + 1 start.
+pub fn link_starts(script: &[u16], links: usize, cards: usize, starts: &mut [u16])
+    requires { ⌜ Ascending (now script) links ⌝ }
+    requires { ⌜ cards < length (now starts) ⌝ }
+    ensures exact { λ _. ⌜ ((c : ℕ) → c ≤ cards → getD (now (starts .exit)) c 0 ≡ below (now (script .entry)) c links) ⌝ }
+    ensures size { λ _. ⌜ length (now (starts .exit)) ≡ length (now (starts .entry)) ⌝ }
+{
+    let mut c = 0;
+    while c <= cards {
+        starts[c] = count_below(script, links, c) as u16;
+        c += 1;
+    }
+}
+
+// Chains the links by their targets, in one pass: `first[m]` is one more than the last link to card m, or 0, and `next[i]`
+// one more than the last link before link i to the same card, or 0.
+pub fn chain(script: &[u16], links: usize, first: &mut [u16], next: &mut [u16])
+    requires { ⌜ (links ≤ 8192) × (2 + 3 * links ≤ length (now script)) ⌝ }
+    requires { ⌜ links ≤ length (now next) ⌝ }
+    requires { ⌜ ((i : ℕ) → i < links → toAt (now script) i < length (now first)) ⌝ }
+    requires { ⌜ ((m : ℕ) → m < length (now first) → getD (now first) m 0 ≡ 0) ⌝ }
+    ensures chained { λ _. ⌜ Chained (toAt (now (script .entry))) (now (first .exit)) (now (next .exit)) links ⌝ }
+    ensures sizes { λ _. ⌜ (length (now (first .exit)) ≡ length (now (first .entry)))
+        × (length (now (next .exit)) ≡ length (now (next .entry))) ⌝ }
+{
+    let mut i = 0;
+    while i < links {
+        let m = wide(script[4 + 3 * i]);
+        next[i] = first[m];
+        first[m] = (i + 1) as u16;
+        i += 1;
+    }
+}
+
+// Sets all counts to 0.
+fn clear(counts: &mut [u16])
+    ensures cleared { λ _. ⌜ ((k : ℕ) → k < length (now (counts .entry)) → getD (now (counts .exit)) k 0 ≡ 0) ⌝ }
+    ensures size { λ _. ⌜ length (now (counts .exit)) ≡ length (now (counts .entry)) ⌝ }
+{
+    let mut k = 0;
+    while k < counts.len() {
+        counts[k] = 0;
+        k += 1;
+    }
+}
+
+// How many of the links from lo to hi, hi not included, have each kind. What the counts were before does not matter.
+pub fn count_kinds(script: &[u16], lo: usize, hi: usize, counts: &mut [u16])
+    requires { ⌜ (lo ≤ hi) × (hi ≤ 8192) × (2 + 3 * hi ≤ length (now script)) ⌝ }
+    requires { ⌜ ((i : ℕ) → lo ≤ i → i < hi → kindAt (now script) i < length (now counts)) ⌝ }
+    ensures exact { λ _. ⌜ ((k : ℕ) → k < length (now (counts .entry)) →
+        getD (now (counts .exit)) k 0 ≡ kindCount (now (script .entry)) k lo hi) ⌝ }
+    ensures size { λ _. ⌜ length (now (counts .exit)) ≡ length (now (counts .entry)) ⌝ }
+{
+    clear(counts);
+    let mut i = lo;
+    while i < hi {
+        let kind = wide(script[3 + 3 * i]);
+        counts[kind] += 1;
+        i += 1;
+    }
+}
