@@ -1,0 +1,81 @@
+-- What each way out of a call answers, in document 01's order of refusals.
+--   largest-refused, largest-size, largest-done              of the call for the largest
+--   smallest-refused, smallest-list, smallest-size, smallest-done   of the call for the smallest
+--   both-refused, both-list, both-small, both-large, both-done      of the call for both
+-- Assumes nothing.
+use Prim.Native.Nat.{ℕ}
+use mathlib.Core.Path.{_≡_, refl}
+use mathlib.Core.List.{List, [], _∷_}
+use lib.ListN.{length}
+use borrow.Author.Tests.{eq-eqb, ne-eqb}
+use Rattle.template.specs.Answer.{Said, refusal}
+use Rattle.typing.specs.Sheet.{Sheet, size}
+use Rattle.typing.specs.Bookings.{BookingReading, readBookings}
+use Rattle.typing.specs.Answer.{BothSaid}
+use Rattle.typing.specs.Calls.{SheetReading, ask, turnedDown, readSheet, LargestFound, LargestSays}
+use Rattle.typing.specs.Calls.{SmallestFound, SmallestSays, BothFound, Grids, BothSays}
+
+-- One refusal for both calls.
+abbrev twice : ℕ → ℕ → BothSaid
+twice number place =
+    record { largest = refusal number (place ∷ []); smallest = refusal number (place ∷ []) }
+
+module _ (template script : List ℕ) where
+  module _ (grid : List ℕ) where
+    pub largest-refused : (number place : ℕ) → readSheet template script ≡ turnedDown number place
+        → LargestSays template script grid grid (refusal number (place ∷ []))
+    largest-refused number place h = rw h (refl, refl)
+
+    pub smallest-refused : (bookings : List ℕ) (number place : ℕ) → readSheet template script ≡ turnedDown number place
+        → SmallestSays template script bookings grid grid (refusal number (place ∷ []))
+    smallest-refused bookings number place h = rw h (refl, refl)
+
+  pub both-refused : (bookings : List ℕ) (grids : Grids) (number place : ℕ)
+      → readSheet template script ≡ turnedDown number place
+      → BothSays template script bookings grids grids (twice number place)
+  both-refused bookings grids number place h = rw h (refl, refl)
+
+  module _ (s : Sheet) (h : readSheet template script ≡ ask s) where
+    pub largest-size : (grid : List ℕ) → (length grid ≡ size s → ⊥)
+        → LargestSays template script grid grid (refusal 40 (0 ∷ []))
+    largest-size grid ne = rw (h, ne-eqb (length grid) (size s) ne) (refl, refl)
+
+    pub largest-done : (before after : List ℕ) (said : Said) → length before ≡ size s
+        → LargestFound s after said → LargestSays template script before after said
+    largest-done before after said e found = rw (h, eq-eqb (length before) (size s) e) found
+
+    module _ (bookings : List ℕ) where
+      module _ (number place : ℕ)
+          (l : readBookings (s .cards) (s .shapes) bookings ≡ BookingReading.turnedDown number place) where
+        pub smallest-list : (grid : List ℕ)
+            → SmallestSays template script bookings grid grid (refusal number (place ∷ []))
+        smallest-list grid = rw (h, l) (refl, refl)
+
+        pub both-list : (grids : Grids) → BothSays template script bookings grids grids (twice number place)
+        both-list grids = rw (h, l) (refl, refl)
+
+      module _ (count : ℕ)
+          (l : readBookings (s .cards) (s .shapes) bookings ≡ BookingReading.accepted count) where
+        pub smallest-size : (grid : List ℕ) → (length grid ≡ size s → ⊥)
+            → SmallestSays template script bookings grid grid (refusal 40 (0 ∷ []))
+        smallest-size grid ne = rw (h, l, ne-eqb (length grid) (size s) ne) (refl, refl)
+
+        pub smallest-done : (before after : List ℕ) (said : Said) → length before ≡ size s
+            → SmallestFound s bookings after said → SmallestSays template script bookings before after said
+        smallest-done before after said e found = rw (h, l, eq-eqb (length before) (size s) e) found
+
+        pub both-small : (grids : Grids) → (length (grids .small) ≡ size s → ⊥)
+            → BothSays template script bookings grids grids (twice 40 0)
+        both-small grids ne = rw (h, l, ne-eqb (length (grids .small)) (size s) ne) (refl, refl)
+
+        pub both-large : (grids : Grids) → length (grids .small) ≡ size s → (length (grids .large) ≡ size s → ⊥)
+            → BothSays template script bookings grids grids (twice 40 0)
+        both-large grids e ne =
+            rw (h, l, eq-eqb (length (grids .small)) (size s) e, ne-eqb (length (grids .large)) (size s) ne) (refl, refl)
+
+        pub both-done : (before after : Grids) (said : BothSaid)
+            → length (before .small) ≡ size s → length (before .large) ≡ size s
+            → BothFound s bookings (after .small) (after .large) said
+            → BothSays template script bookings before after said
+        both-done before after said e f found =
+            rw (h, l, eq-eqb (length (before .small)) (size s) e, eq-eqb (length (before .large)) (size s) f) found

@@ -1,0 +1,6 @@
+pub mod Places
+pub mod Walks
+pub mod Names
+pub mod Boards
+pub mod Needs
+pub mod Indexes

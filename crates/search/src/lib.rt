@@ -1,0 +1,226 @@
+// The two searches over pairs of a card and a shape, each linear in links times shapes: backwards from the pairs whose
+// counts do not fit, for the largest typing, and forwards from the bookings, for the smallest.
+ghost use mathlib.Core.Path.{_≡_};
+ghost use Prim.Native.Nat.{ℕ, suc, _+_, _*_, _<_, _≤_};
+ghost use lib.ListN.{length, getD};
+ghost use Rattle.board.specs.Grid.{on, Marks};
+ghost use Rattle.board.specs.Work.{work, Room, Swept};
+ghost use Rattle.board.specs.Listing.{Listed};
+ghost use Rattle.search.specs.Needs.{boardOf};
+ghost use Rattle.search.specs.Search.{Ready, entryKey, NameIndex, LinkIndex, Starts, NamedGood, TargetGood, CardGood, Searched, Followed};
+use board::list_off;
+use board::strike_one;
+
+// Rounds and pairs struck.
+pub struct Tally {
+    pub rounds: usize,
+    pub struck: usize,
+}
+
+fn wide(x: u16) -> usize
+    ensures { λ r. ⌜ (r ≡ x) × (r < 65536) ⌝ }
+{
+    x as usize
+}
+
+fn byte(x: u8) -> usize
+    ensures { λ r. ⌜ (r ≡ x) × (r < 256) ⌝ }
+{
+    x as usize
+}
+
+// By which the place p of the table is chained: 2,048 where it names no shape.
+fn entry_key(names: &[u8], p: usize) -> usize
+    requires { ⌜ (p < length (now names)) × (getD (now names) p 0 ≤ 32) ⌝ }
+    ensures { λ r. ⌜ (r ≡ entryKey (now (names .entry)) p) × (r < 2049) ⌝ }
+{
+    let entry = byte(names[p]);
+    if entry == 0 {
+        return 2048;
+    }
+    p % 64 * 32 + (entry - 1)
+}
+
+// Chains the table's places by label and shape named. `first` is all 0 before.
+pub fn index_names(names: &[u8], shapes: usize, first: &mut [u16], next: &mut [u16])
+    requires { ⌜ (shapes ≤ 32) × (shapes * 64 ≤ length (now names)) × (length (now first) ≡ 2049) × (shapes * 64 ≤ length (now next)) × ((p : ℕ) → p < shapes * 64 → getD (now names) p 0 ≤ 32) × ((m : ℕ) → m < 2049 → getD (now first) m 0 ≡ 0) ⌝ }
+    ensures { λ _. ⌜ NameIndex (now (names .entry)) shapes (now (first .exit)) (now (next .exit)) ⌝ }
+{
+    let mut p = 0;
+    while p < shapes * 64 {
+        let key = entry_key(names, p);
+        next[p] = first[key];
+        first[key] = (p + 1) as u16;
+        p += 1;
+    }
+}
+
+// Strikes the pairs of the card at `base` whose shape names u for the label.
+fn strike_named(
+    names: &[u8],
+    shapes: usize,
+    named: &[u16],
+    alike: &[u16],
+    label: usize,
+    base: usize,
+    u: usize,
+    grid: &mut [u8],
+    queue: &mut [u16],
+    tail: usize,
+) -> usize
+    requires { ⌜ NameIndex (now names) shapes (now named) (now alike) × (shapes ≤ 32) × (shapes * 64 ≤ length (now names)) × ((p : ℕ) → p < shapes * 64 → getD (now names) p 0 ≤ 32) × (label < 64) × (u < 32) × (base + shapes ≤ length (now grid)) × (length (now grid) ≤ 65535) × Room (work (now grid) (now queue) tail) ⌝ }
+    ensures { λ r. ⌜ Swept (NamedGood (now (names .entry)) shapes label base u) (work (now (grid .entry)) (now (queue .entry)) tail) (work (now (grid .exit)) (now (queue .exit)) r) ⌝ }
+{
+    let mut end = tail;
+    let mut at = wide(named[label * 32 + u]);
+    while 0 < at {
+        let p = at - 1;
+        end = strike_one(grid, queue, end, base + p / 64);
+        at = wide(alike[p]);
+    }
+    end
+}
+
+// Strikes what needs the pair of card m and shape u, by the chain of the links to m.
+fn strike_target(
+    script: &[u16],
+    first: &[u16],
+    next: &[u16],
+    names: &[u8],
+    shapes: usize,
+    named: &[u16],
+    alike: &[u16],
+    m: usize,
+    u: usize,
+    grid: &mut [u8],
+    queue: &mut [u16],
+    tail: usize,
+) -> usize
+    requires { ⌜ Ready (now script) (now names) shapes × LinkIndex (now script) (now first) (now next) × NameIndex (now names) shapes (now named) (now alike) × (m < getD (now script) 0 0) × (u < shapes) × (length (now grid) ≡ getD (now script) 0 0 * shapes) × Room (work (now grid) (now queue) tail) ⌝ }
+    ensures { λ r. ⌜ Swept (TargetGood (now (script .entry)) (now (names .entry)) shapes m u) (work (now (grid .entry)) (now (queue .entry)) tail) (work (now (grid .exit)) (now (queue .exit)) r) ⌝ }
+{
+    let mut end = tail;
+    let mut at = wide(first[m]);
+    while 0 < at {
+        let i = at - 1;
+        let from = wide(script[2 + 3 * i]);
+        let kind = wide(script[3 + 3 * i]);
+        end = strike_named(
+            names,
+            shapes,
+            named,
+            alike,
+            kind,
+            from * shapes,
+            u,
+            grid,
+            queue,
+            end,
+        );
+        at = wide(next[i]);
+    }
+    end
+}
+
+// Strikes rounds from the pairs in the grid, those whose counts fit, until one strikes nothing.
+pub fn strike_rounds(
+    script: &[u16],
+    first: &[u16],
+    next: &[u16],
+    names: &[u8],
+    shapes: usize,
+    named: &[u16],
+    alike: &[u16],
+    grid: &mut [u8],
+    queue: &mut [u16],
+) -> Tally
+    requires { ⌜ Ready (now script) (now names) shapes × LinkIndex (now script) (now first) (now next) × NameIndex (now names) shapes (now named) (now alike) × (length (now grid) ≡ getD (now script) 0 0 * shapes) × (length (now grid) ≤ length (now queue)) ⌝ }
+    ensures { λ r. ⌜ Searched (boardOf (now (script .entry)) (now (names .entry)) shapes (now (grid .entry))) (on (now (grid .exit))) (r .rounds) (r .struck) × (length (now (grid .exit)) ≡ length (now (grid .entry))) × (Marks (now (grid .entry)) → Marks (now (grid .exit))) ⌝ }
+{
+    let mut tail = list_off(grid, queue);
+    let mut head = 0;
+    let mut end = 0;
+    let mut round = 0;
+    while head < tail {
+        if head == end {
+            round += 1;
+            end = tail;
+        }
+        let q = wide(queue[head]);
+        tail = strike_target(
+            script,
+            first,
+            next,
+            names,
+            shapes,
+            named,
+            alike,
+            q / shapes,
+            q % shapes,
+            grid,
+            queue,
+            tail,
+        );
+        head += 1;
+    }
+    Tally {
+        rounds: round + 1,
+        struck: tail,
+    }
+}
+
+// Strikes what the links lo up to hi of a card lead to from its shape t.
+fn strike_needs(
+    script: &[u16],
+    names: &[u8],
+    shapes: usize,
+    lo: usize,
+    hi: usize,
+    t: usize,
+    grid: &mut [u8],
+    queue: &mut [u16],
+    tail: usize,
+) -> usize
+    requires { ⌜ Ready (now script) (now names) shapes × (t < shapes) × (lo ≤ hi) × (hi ≤ getD (now script) 1 0) × (length (now grid) ≡ getD (now script) 0 0 * shapes) × Room (work (now grid) (now queue) tail) ⌝ }
+    ensures { λ r. ⌜ Swept (CardGood (now (script .entry)) (now (names .entry)) shapes lo hi t) (work (now (grid .entry)) (now (queue .entry)) tail) (work (now (grid .exit)) (now (queue .exit)) r) ⌝ }
+{
+    let mut end = tail;
+    let mut i = lo;
+    while i < hi {
+        let kind = wide(script[3 + 3 * i]);
+        let m = wide(script[4 + 3 * i]);
+        let entry = byte(names[t * 64 + kind]);
+        if 0 < entry {
+            end = strike_one(grid, queue, end, m * shapes + (entry - 1));
+        }
+        i += 1;
+    }
+    end
+}
+
+// Follows the links from the pairs that are queued, those that are 0 in the grid: what is then 0 is their closure. Returns
+// its number of pairs.
+pub fn flood(
+    script: &[u16],
+    starts: &[u16],
+    names: &[u8],
+    shapes: usize,
+    grid: &mut [u8],
+    queue: &mut [u16],
+    booked: usize,
+) -> usize
+    requires { ⌜ Ready (now script) (now names) shapes × Starts (now script) (now starts) × (length (now grid) ≡ getD (now script) 0 0 * shapes) × (length (now grid) ≤ length (now queue)) × Listed (now grid) (now queue) booked (length (now grid)) ⌝ }
+    ensures { λ r. ⌜ Followed (now (script .entry)) (now (names .entry)) shapes (now (grid .entry)) (now (grid .exit)) r ⌝ }
+{
+    let mut tail = booked;
+    let mut head = 0;
+    while head < tail {
+        let q = wide(queue[head]);
+        let n = q / shapes;
+        let lo = wide(starts[n]);
+        let hi = wide(starts[n + 1]);
+        tail = strike_needs(script, names, shapes, lo, hi, q % shapes, grid, queue, tail);
+        head += 1;
+    }
+    tail
+}

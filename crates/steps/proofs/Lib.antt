@@ -1,0 +1,4 @@
+pub mod Bookings
+pub mod Rows
+pub mod Marks
+pub mod Closures

@@ -1,0 +1,97 @@
+-- The text of a printed sheet (document 01, "One sheet printed"), as a list of bytes.
+-- digits        a number in base ten
+-- shapeText, shapesText   a shape, and the shapes of a card, ascending, a space before each
+-- cardLine, cardLines   a line for a card, and the lines for all cards
+-- twoNumbers    two numbers that end a line
+-- largestLine, smallestLine, notMetLine, refusedLine   the other lines
+-- Assumes nothing.
+use Prim.Native.Nat.{ℕ, zero, suc, _+_, _*_, _/_, _%_}
+use mathlib.Core.List.{List, [], _∷_, _++_}
+use mathlib.Core.Bool.{Bool, true, false}
+use lib.Dec.{ltb}
+use Rattle.board.specs.Grid.{on}
+
+-- A text if a test passes, else nothing.
+abbrev pub whenOn : Bool → List ℕ → List ℕ
+whenOn true text = text
+whenOn false text = []
+
+-- The first text if a test passes, else the second.
+abbrev pub pick : Bool → List ℕ → List ℕ → List ℕ
+pick true a b = a
+pick false a b = b
+
+-- A digit's byte.
+abbrev pub digit : ℕ → ℕ
+digit d = 48 + d
+
+-- A number's digits by so many steps at most, the last digit last: below ten its own digit, else those of the tenth
+-- part and the rest.
+unfoldable pub digitsBy : ℕ → ℕ → List ℕ
+digitsBy zero n = []
+digitsBy (suc steps) n = pick (ltb n 10) (digit n ∷ []) (digitsBy steps (n / 10) ++ (digit (n % 10) ∷ []))
+
+-- A number below 10^20 in base ten.
+unfoldable pub digits : ℕ → List ℕ
+digits n = digitsBy 20 n
+
+-- The bytes of a space and of a line's end.
+abbrev pub space : ℕ
+space = 32
+
+abbrev pub newline : ℕ
+newline = 10
+
+-- "largest ", "smallest ", "no ", "card ", "refused "
+abbrev pub largestWord : List ℕ
+largestWord = 108 ∷ 97 ∷ 114 ∷ 103 ∷ 101 ∷ 115 ∷ 116 ∷ 32 ∷ []
+
+abbrev pub smallestWord : List ℕ
+smallestWord = 115 ∷ 109 ∷ 97 ∷ 108 ∷ 108 ∷ 101 ∷ 115 ∷ 116 ∷ 32 ∷ []
+
+abbrev pub noWord : List ℕ
+noWord = 110 ∷ 111 ∷ 32 ∷ []
+
+abbrev pub cardWord : List ℕ
+cardWord = 99 ∷ 97 ∷ 114 ∷ 100 ∷ 32 ∷ []
+
+abbrev pub refusedWord : List ℕ
+refusedWord = 114 ∷ 101 ∷ 102 ∷ 117 ∷ 115 ∷ 101 ∷ 100 ∷ 32 ∷ []
+
+-- Two numbers, a space between them, and the end of the line.
+unfoldable pub twoNumbers : ℕ → ℕ → List ℕ
+twoNumbers a b = digits a ++ (space ∷ (digits b ++ (newline ∷ [])))
+
+-- "First line: rounds, struck, cards with no shape."
+unfoldable pub largestLine : ℕ → ℕ → ℕ → List ℕ
+largestLine rounds struck bare = largestWord ++ (digits rounds ++ (space ∷ twoNumbers struck bare))
+
+-- "Then pairs."
+unfoldable pub smallestLine : ℕ → List ℕ
+smallestLine pairs = smallestWord ++ (digits pairs ++ (newline ∷ []))
+
+-- "The one line `smallest no 0 1`, the card and shape of 50."
+unfoldable pub notMetLine : ℕ → ℕ → List ℕ
+notMetLine card shape = smallestWord ++ (noWord ++ twoNumbers card shape)
+
+-- "Any refusal but 50 prints only `refused NUMBER PLACE`."
+unfoldable pub refusedLine : ℕ → ℕ → List ℕ
+refusedLine number place = refusedWord ++ twoNumbers number place
+
+-- A shape, "a space before each", where the grid has its place.
+abbrev pub shapeText : List ℕ → ℕ → ℕ → List ℕ
+shapeText grid place shape = whenOn (on grid place) (space ∷ digits shape)
+
+-- Of the shapes below t, those of the card whose row starts at `base`: "its shapes ascending".
+unfoldable pub shapesText : List ℕ → ℕ → ℕ → List ℕ
+shapesText grid base zero = []
+shapesText grid base (suc t) = shapesText grid base t ++ shapeText grid (base + t) t
+
+-- "A card line."
+unfoldable pub cardLine : List ℕ → ℕ → ℕ → List ℕ
+cardLine grid shapes n = cardWord ++ (digits n ++ (58 ∷ (shapesText grid (n * shapes) shapes ++ (newline ∷ []))))
+
+-- The lines of the cards below n, in order.
+unfoldable pub cardLines : List ℕ → ℕ → ℕ → List ℕ
+cardLines grid shapes zero = []
+cardLines grid shapes (suc n) = cardLines grid shapes n ++ cardLine grid shapes n

@@ -1,0 +1,133 @@
+-- For every sheet that is read there is a board that stands for it, so the contracts leave no choice on any input.
+--   listOf             a list by its entries
+--   namesOf, countsOf, fitsOf   a sheet's table of names, a card's counts, and the grid of fits
+--   represented        a board stands for each sheet of a template and a script
+--   largest-no-choice, smallest-no-choice, both-no-choice   two answers to one call are the same, and so are the grids
+-- Assumes nothing.
+use Prim.Native.Nat.{ℕ, zero, suc, _+_, _*_, _/_, _%_, _≤_, _<_}
+use mathlib.Core.Path.{_≡_, refl, sym, ap, _∙_}
+use mathlib.Core.Logic.{⊎-elim}
+use mathlib.Core.Bool.{Bool, true, false}
+use mathlib.Core.List.{List, [], _∷_}
+use native.Mathlib.Omega.{arith}
+use native.Mathlib.Nat.{le-of-suc-le-suc, not-suc-le-zero}
+use lib.ListN.{length, getD}
+use Rattle.bags.specs.Part.{named}
+use Rattle.bags.specs.Interval.{fits}
+use Rattle.bags.specs.Choice.{labelCount}
+use Rattle.template.specs.Template.{Tabled}
+use Rattle.script.specs.Link.{neighbours}
+use Rattle.board.specs.Grid.{on, bit}
+use Rattle.board.specs.Board.{Board}
+use Rattle.board.proofs.Bools.{true-or-false}
+use Rattle.board.proofs.Tally.{bit-true, bit-false}
+use Rattle.board.proofs.Grids.{on-yes, on-no}
+use Rattle.search.specs.Needs.{boardOf}
+use Rattle.search.proofs.Places.{place-in, card-of, shape-of}
+use Rattle.typing.specs.declared.LargestAnswer.{LargestAnswer}
+use Rattle.typing.specs.declared.SmallestAnswer.{SmallestAnswer}
+use Rattle.typing.specs.declared.BothAnswer.{BothAnswer}
+use Rattle.typing.specs.Sheet.{Sheet, partOf, place, size}
+use Rattle.typing.specs.Answer.{largestSaid, smallestSaid, bothSaid}
+use Rattle.typing.specs.Calls.{readSheet, Grids, LargestSays, SmallestSays, BothSays}
+use Rattle.typing.proofs.Represents.{Represents}
+use Rattle.typing.proofs.Unique.{Represented, largest-says-unique, smallest-says-unique, both-says-unique}
+use Rattle.typing.proofs.Instance.{SheetRead, sheet-read, FitsGrid, CountsOf, counts-all, fits-grid, represents}
+
+-- f 0, f 1, .., f (n - 1).
+listOf : (ℕ → ℕ) → ℕ → List ℕ
+listOf f zero = []
+listOf f (suc n) = f 0 ∷ listOf (λ i. f (suc i)) n
+
+list-length : (f : ℕ → ℕ) (n : ℕ) → length (listOf f n) ≡ n
+unfolding listOf
+list-length f zero = refl
+list-length f (suc n) = ap suc (list-length (λ i. f (suc i)) n)
+
+list-at : (f : ℕ → ℕ) (n i : ℕ) → i < n → getD (listOf f n) i 0 ≡ f i
+unfolding listOf
+list-at f zero i l = absurd (not-suc-le-zero l)
+list-at f (suc n) zero l = refl
+list-at f (suc n) (suc i) l = list-at (λ j. f (suc j)) n i (le-of-suc-le-suc l)
+
+on-bit : (grid : List ℕ) (p : ℕ) (b : Bool) → getD grid p 0 ≡ bit b → on grid p ≡ b
+on-bit grid p b e = ⊎-elim
+    (λ (yes-b : b ≡ true). on-yes grid p (e ∙ bit-true b yes-b) ∙ sym yes-b)
+    (λ (no-b : b ≡ false). on-no grid p (λ o. absurd (omega (arith, e, bit-false b no-b, o))) ∙ sym no-b)
+    (true-or-false b)
+
+-- A sheet's table of names.
+namesOf : Sheet → List ℕ
+namesOf s = listOf (λ p. named (partOf s (p / 64)) (p % 64)) (s .shapes * 64)
+
+-- The counts of the labels of card n.
+countsOf : Sheet → ℕ → ℕ → List ℕ
+countsOf s kinds n = listOf (λ k. labelCount (neighbours (s .script) n (s .links)) k) kinds
+
+-- 1 where a card's counts fit a shape.
+fitsOf : Sheet → ℕ → List ℕ
+fitsOf s kinds = listOf (λ p. bit (fits (partOf s (p % s .shapes)) (countsOf s kinds (p / s .shapes)))) (size s)
+
+module _ {words : List ℕ} {kinds : ℕ} {s : Sheet} (read : SheetRead words kinds s) where
+  names-tabled : Tabled (s .parts) (namesOf s)
+  unfolding namesOf
+  names-tabled t k lt lk =
+      let some : 0 < 64 = omega arith in
+      let here : t < s .shapes = omega (arith, read .shapes .trees-length) in
+      list-at (λ p. named (partOf s (p / 64)) (p % 64)) (s .shapes * 64) (t * 64 + k)
+      (place-in (s .shapes) 64 t k here lk)
+      ∙ ap (λ (x : ℕ). named (partOf s x) ((t * 64 + k) % 64)) (card-of 64 some t k lk)
+      ∙ ap (λ (x : ℕ). named (partOf s t) x) (shape-of 64 some t k lk)
+
+  names-room : s .shapes * 64 ≤ length (namesOf s)
+  unfolding namesOf
+  names-room = omega (arith, list-length (λ p. named (partOf s (p / 64)) (p % 64)) (s .shapes * 64))
+
+  counts-right : (n : ℕ) → CountsOf s n (countsOf s kinds n)
+  unfolding countsOf
+  counts-right n =
+      let f : ℕ → ℕ = λ k. labelCount (neighbours (s .script) n (s .links)) k in
+      counts-all read n (countsOf s kinds n) (omega (arith, list-length f kinds))
+      (λ k l. list-at f kinds k (omega (arith, list-length f kinds)))
+
+  fits-right : FitsGrid s (fitsOf s kinds)
+  unfolding fitsOf
+  fits-right = fits-grid read (fitsOf s kinds) (λ n t ln lt.
+      let f : ℕ → ℕ = λ p. bit (fits (partOf s (p % s .shapes)) (countsOf s kinds (p / s .shapes))) in (
+        countsOf s kinds n,
+        counts-right n,
+        on-bit (fitsOf s kinds) (place s n t) (fits (partOf s t) (countsOf s kinds n))
+            (list-at f (size s) (place s n t) (place-in (s .cards) (s .shapes) n t ln lt)
+            ∙ ap (λ (x : ℕ). bit (fits (partOf s x) (countsOf s kinds (place s n t / s .shapes))))
+            (shape-of (s .shapes) (read .shapes .shapes-low) n t lt)
+            ∙ ap (λ (x : ℕ). bit (fits (partOf s t) (countsOf s kinds x)))
+            (card-of (s .shapes) (read .shapes .shapes-low) n t lt)),
+      ))
+
+  some-board : (B : Board) × Represents s B
+  some-board = (
+    boardOf (s .script) (namesOf s) (s .shapes) (fitsOf s kinds),
+    represents read (namesOf s) names-tabled names-room (fitsOf s kinds) fits-right,
+  )
+
+pub represented : (template script : List ℕ) → Represented (readSheet template script)
+represented template script s e = let (kinds, read, same) = sheet-read template script s e in some-board read
+
+-- ---- the contracts leave no choice
+module _ (template script : List ℕ) where
+  pub largest-no-choice : (before g h : List ℕ) (a b : LargestAnswer)
+      → LargestSays template script before g (largestSaid a) → LargestSays template script before h (largestSaid b)
+      → (a ≡ b) × (g ≡ h)
+  largest-no-choice = largest-says-unique template script (represented template script)
+
+  pub smallest-no-choice : (bookings before g h : List ℕ) (a b : SmallestAnswer)
+      → SmallestSays template script bookings before g (smallestSaid a)
+      → SmallestSays template script bookings before h (smallestSaid b)
+      → (a ≡ b) × (g ≡ h)
+  smallest-no-choice = smallest-says-unique template script (represented template script)
+
+  pub both-no-choice : (bookings : List ℕ) (before g h : Grids) (a b : BothAnswer)
+      → BothSays template script bookings before g (bothSaid a)
+      → BothSays template script bookings before h (bothSaid b)
+      → (a ≡ b) × (g ≡ h)
+  both-no-choice = both-says-unique template script (represented template script)

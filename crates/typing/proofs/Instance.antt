@@ -1,0 +1,260 @@
+-- The board of a template's table of names, a script and a grid of fits stands for their sheet.
+--   SheetRead    a sheet whose template and script are read
+--   sheet-asked, sheet-made, sheet-read   the readings ask for the sheet that they make, and for no other
+--   FitsGrid     a grid is 1 just where a card's counts fit a shape
+--   CountsOf     a list has the counts of a card's labels; counts-all: enough that it has those below its length
+--   fits-counted the test of such a list says whether the card's counts fit; fits-grid: and the grid of these tests
+--   entry-exact  an entry of the table is the shape declared
+--   ready        a template and a script that are read are ready to be searched
+--   represents   the board stands for the sheet
+-- Assumes nothing.
+use Prim.Native.Nat.{ℕ, zero, suc, _*_, _≤_, _<_}
+use mathlib.Core.Path.{_≡_, refl, sym, ap, _∙_, subst, fun-ext}
+use mathlib.Core.Logic.{⊎-elim, _↔_}
+use mathlib.Core.Bool.{true}
+use mathlib.Core.List.{List, List·Memᴰ}
+use native.Mathlib.Omega.{arith}
+use lib.ListN.{length, getD, List·getD-eq-default}
+use Rattle.bags.specs.Part.{Part, Names, Declares}
+use Rattle.bags.specs.Bag.{Fits}
+use Rattle.bags.specs.Interval.{count, fits}
+use Rattle.bags.specs.Choice.{to, labelCount}
+use Rattle.bags.proofs.Naming.{names-dec, names-declares, declares-below, declares-unique, named-exact}
+use Rattle.bags.proofs.Exact.{fits-exact}
+use Rattle.bags.proofs.Decide.{fits-decided}
+use Rattle.bags.proofs.Choosing.{met-exact}
+use Rattle.template.specs.Template.{TemplateReading, readTemplate, Tabled}
+use Rattle.template.proofs.Accepted as template
+use Rattle.script.specs.Link.{kindAt, toAt, neighbours}
+use Rattle.script.specs.Script.{ScriptReading, readScript}
+use Rattle.script.proofs.Reading as script
+use Rattle.script.proofs.Neighbours.{neighbours-exact}
+use Rattle.board.specs.Grid.{on}
+use Rattle.board.specs.Board.{Lawful}
+use Rattle.board.proofs.Bools.{le-or-lt}
+use Rattle.search.specs.Needs.{entryAt, Needs, metTest, boardOf}
+use Rattle.search.specs.Search.{Ready}
+use Rattle.search.proofs.Places.{card-of, shape-of}
+use Rattle.search.proofs.Boards.{board-lawful}
+use Rattle.typing.specs.Sheet.{Sheet, partOf, neighboursOf, place, size}
+use Rattle.typing.specs.Typing.{Pairs, Has, Met}
+use Rattle.typing.specs.Calls.{ask, withScript, withTemplate, readSheet}
+use Rattle.typing.proofs.Represents.{Follows, Represents}
+use Rattle.typing.proofs.Neighbours.{targets-of, targets-at, label-counted, label-none}
+
+-- The sheet's shapes are those of a template with so many kinds that is read, its links those of a script that is.
+pub record SheetRead (words : List ℕ) (kinds : ℕ) (s : Sheet) : Type 0 where
+  pub shapes : template.Accepted words kinds (s .shapes) (s .parts)
+  pub links : script.Accepted kinds (s .script) (s .cards) (s .links)
+
+-- The sheet of what the two readings found.
+abbrev pub sheetOf : ℕ → List Part → ℕ → ℕ → List ℕ → Sheet
+sheetOf shapes parts cards links script =
+    record { shapes = shapes; parts = parts; cards = cards; links = links; script = script }
+
+module _ (words list : List ℕ) (kinds shapes : ℕ) (parts : List Part) (cards links : ℕ)
+    (t : readTemplate words ≡ TemplateReading.accepted kinds shapes parts)
+    (a : readScript kinds list ≡ ScriptReading.accepted cards links) where
+  pub sheet-asked : readSheet words list ≡ ask (sheetOf shapes parts cards links list)
+  unfolding readSheet
+  sheet-asked = rw (t, a)
+
+  pub sheet-made : SheetRead words kinds (sheetOf shapes parts cards links list)
+  sheet-made = record {
+    shapes = template.template-accepted words kinds shapes parts t;
+    links = script.script-accepted kinds list cards links a;
+  }
+
+pub sheet-read : (words list : List ℕ) (s : Sheet) → readSheet words list ≡ ask s
+    → (kinds : ℕ) × SheetRead words kinds s × (s .script ≡ list)
+unfolding readSheet
+sheet-read words list s e = by-template (readTemplate words) refl e
+  where
+    by-script : (kinds shapes : ℕ) (parts : List Part)
+        → readTemplate words ≡ TemplateReading.accepted kinds shapes parts
+        → (r : ScriptReading) → readScript kinds list ≡ r → withScript shapes parts list r ≡ ask s
+        → (k : ℕ) × SheetRead words k s × (s .script ≡ list)
+    by-script kinds shapes parts t (ScriptReading.turnedDown number at) a e =
+        let z : _≡_ {A = ℕ} 0 1 = cc in absurd (omega arith)
+    by-script kinds shapes parts t (ScriptReading.accepted cards links) a e =
+        let same : sheetOf shapes parts cards links list ≡ s = cc in
+        subst (λ (x : Sheet). (k : ℕ) × SheetRead words k x × (x .script ≡ list)) same
+        (kinds, sheet-made words list kinds shapes parts cards links t a, refl)
+
+    by-template : (r : TemplateReading) → readTemplate words ≡ r → withTemplate r list ≡ ask s
+        → (k : ℕ) × SheetRead words k s × (s .script ≡ list)
+    by-template (TemplateReading.turnedDown number at) t e = let z : _≡_ {A = ℕ} 0 1 = cc in absurd (omega arith)
+    by-template (TemplateReading.accepted kinds shapes parts) t e =
+        by-script kinds shapes parts t (readScript kinds list) refl e
+
+-- A grid is 1 just where the counts of a card's links fit a shape.
+abbrev pub FitsGrid : Sheet → List ℕ → Type 0
+FitsGrid s grid = (n t : ℕ) → n < s .cards → t < s .shapes
+    → (on grid (place s n t) ≡ true) ↔ Fits (s .shapes) (partOf s t) (labelCount (neighboursOf s n t))
+
+-- The list has the counts of the labels of card n, and 0 for others.
+abbrev pub CountsOf : Sheet → ℕ → List ℕ → Type 0
+CountsOf s n counts = (k : ℕ) → getD counts k 0 ≡ labelCount (neighbours (s .script) n (s .links)) k
+
+module _ {words : List ℕ} {kinds : ℕ} {s : Sheet} (read : SheetRead words kinds s) where
+  -- ---- counts
+  -- no neighbour has a label that is not below the count of kinds
+  pub counts-all : (n : ℕ) (counts : List ℕ) → kinds ≤ length counts
+      → ((k : ℕ) → k < length counts → getD counts k 0 ≡ labelCount (neighbours (s .script) n (s .links)) k)
+      → CountsOf s n counts
+  counts-all n counts room each k = ⊎-elim
+      (λ l. List·getD-eq-default counts 0 l
+      ∙ sym (label-none (neighbours (s .script) n (s .links)) k (λ label far m e.
+      let (i, li, f, g, h) = neighbours-exact (s .script) n label far (s .links) .0 m in
+      omega (arith, read .links .kind-below i li, g, e))))
+      (λ l. each k l)
+      (le-or-lt (length counts) k)
+
+  pub fits-counted : (n t : ℕ) (counts : List ℕ) → t < s .shapes → CountsOf s n counts
+      → (fits (partOf s t) counts ≡ true) ↔ Fits (s .shapes) (partOf s t) (labelCount (neighboursOf s n t))
+  fits-counted n t counts lt c =
+      let same : count counts ≡ labelCount (neighboursOf s n t) = fun-ext c in
+      let decided = fits-decided (s .shapes) (partOf s t) counts (read .shapes .single t lt)
+      (read .shapes .shapes-below t lt) in (
+        λ e. subst (λ (w : ℕ → ℕ). Fits (s .shapes) (partOf s t) w) same (decided .1 e),
+        λ f. decided .0 (subst (λ (w : ℕ → ℕ). Fits (s .shapes) (partOf s t) w) (sym same) f),
+      )
+
+  pub fits-grid : (grid : List ℕ) → ((n t : ℕ) → n < s .cards → t < s .shapes
+      → (counts : List ℕ) × CountsOf s n counts × (on grid (place s n t) ≡ fits (partOf s t) counts)) → FitsGrid s grid
+  fits-grid grid tested n t ln lt =
+      let (counts, those, here) = tested n t ln lt in
+      let exact = fits-counted n t counts lt those in
+      (λ e. exact .0 (sym here ∙ e), λ f. here ∙ exact .1 f)
+
+  -- the counts fit, so the part names the label of each neighbour
+  neighbour-declared : (n t label far : ℕ) → t < s .shapes
+      → Fits (s .shapes) (partOf s t) (labelCount (neighboursOf s n t))
+      → List·Memᴰ (to label far) (neighboursOf s n t) → (u : ℕ) × Declares (partOf s t) label u
+  neighbour-declared n t label far lt f m = by-name (names-dec (partOf s t) label)
+    where
+      by-name : Dec (Names (partOf s t) label) → (u : ℕ) × Declares (partOf s t) label u
+      by-name (yes h) = names-declares (partOf s t) label h
+      by-name (no h) =
+          let exact = fits-exact (s .shapes) (partOf s t) (labelCount (neighboursOf s n t))
+          (read .shapes .single t lt) (read .shapes .shapes-below t lt) in
+          absurd (omega (arith, exact .0 f .1 label h, label-counted (neighboursOf s n t) label far m))
+
+  -- ---- the table
+  kind-in : (i : ℕ) → i < s .links → kindAt (s .script) i < 64
+  kind-in i l = omega (arith, read .links .kind-below i l, read .shapes .kinds-high)
+
+  -- the script's own count of links
+  links-below : {i : ℕ} → i < getD (s .script) 1 0 → i < s .links
+  links-below {i} l = subst (λ (x : ℕ). i < x) (sym (read .links .links)) l
+
+  module _ (names : List ℕ) (table : Tabled (s .parts) names) where
+    pub entry-exact : (t k u : ℕ) → t < s .shapes → k < 64
+        → (entryAt names t k ≡ suc u) ↔ Declares (partOf s t) k u
+    entry-exact t k u lt lk =
+        let here = table t k (omega (arith, read .shapes .trees-length)) lk in
+        let exact = named-exact (partOf s t) (read .shapes .single t lt) k u in
+        (λ e. exact .0 (sym here ∙ e), λ d. here ∙ exact .1 d)
+
+    entry-in : (t k : ℕ) → t < s .shapes → k < 64 → entryAt names t k ≤ s .shapes
+    entry-in t k lt lk = bounded (entryAt names t k) refl
+      where
+        bounded : (e : ℕ) → entryAt names t k ≡ e → e ≤ s .shapes
+        bounded zero e = omega arith
+        bounded (suc u) e =
+            declares-below (s .shapes) (partOf s t) (read .shapes .shapes-below t lt) k u (entry-exact t k u lt lk .0 e)
+
+    pub ready : s .shapes * 64 ≤ length names → Ready (s .script) names (s .shapes)
+    ready room = record {
+      one-shape = read .shapes .shapes-low;
+      few-shapes = read .shapes .shapes-high;
+      few-cards = omega (arith, read .links .cards, read .links .cards-bound);
+      few-links = omega (arith, read .links .links, read .links .links-bound);
+      words = omega (arith, read .links .links, read .links .size);
+      from-in = λ i l. omega (arith, read .links .from-below i (links-below l), read .links .cards);
+      kind-in = λ i l. kind-in i (links-below l);
+      to-in = λ i l. omega (arith, read .links .to-below i (links-below l), read .links .cards);
+      table = room;
+      entry-in = entry-in;
+    }
+
+    -- ---- what a pair needs
+    needs-follows : (n t q : ℕ) → t < s .shapes → Needs (s .script) names (s .shapes) (place s n t) q → Follows s n t q
+    needs-follows n t q lt d =
+        let l = links-below (d .below) in
+        record {
+          link = d .link;
+          shape = d .shape;
+          below = l;
+          starts = d .starts ∙ card-of (s .shapes) (read .shapes .shapes-low) n t lt;
+          declares = entry-exact t (kindAt (s .script) (d .link)) (d .shape) lt (kind-in (d .link) l) .0
+              (ap (λ (x : ℕ). entryAt names x (kindAt (s .script) (d .link)))
+              (sym (shape-of (s .shapes) (read .shapes .shapes-low) n t lt)) ∙ d .names-it);
+          leads = d .leads;
+        }
+
+    follows-needs : (n t q : ℕ) → t < s .shapes → Follows s n t q → Needs (s .script) names (s .shapes) (place s n t) q
+    follows-needs n t q lt f = record {
+      link = f .link;
+      below = subst (λ (x : ℕ). f .link < x) (read .links .links) (f .below);
+      starts = f .starts ∙ sym (card-of (s .shapes) (read .shapes .shapes-low) n t lt);
+      shape = f .shape;
+      names-it = ap (λ (x : ℕ). entryAt names x (kindAt (s .script) (f .link)))
+          (shape-of (s .shapes) (read .shapes .shapes-low) n t lt)
+          ∙ entry-exact t (kindAt (s .script) (f .link)) (f .shape) lt (kind-in (f .link) (f .below)) .1 (f .declares);
+      leads = f .leads;
+    }
+
+    -- ---- Proposition 8.1 on the board
+    module _ (room : s .shapes * 64 ≤ length names) (grid : List ℕ) (right : FitsGrid s grid) where
+      abbrev law : Lawful (boardOf (s .script) names (s .shapes) grid)
+      law = board-lawful (ready room) grid
+
+      test-met : (X : Pairs) (n t : ℕ) → n < s .cards → t < s .shapes
+          → metTest (s .script) names (s .shapes) grid X (place s n t) ≡ true → Met s X n t
+      test-met X n t ln lt e =
+          let f = right n t ln lt .0 (law .met-ok X (place s n t) e) in
+          met-exact (s .shapes) (Has s X) (neighboursOf s n t) (partOf s t) (read .shapes .single t lt)
+          (read .shapes .shapes-below t lt) .1 (
+            f,
+            targets-of (Has s X) (partOf s t) (neighboursOf s n t) (λ label far m.
+                let (u, d) = neighbour-declared n t label far lt f m in
+                let (i, li, from, kind, far-is) = neighbours-exact (s .script) n label far (s .links) .0 m in (
+                  u,
+                  d,
+                  law .met-dep X (place s n t) (place s far u) e (follows-needs n t (place s far u) lt (record {
+                    link = i;
+                    shape = u;
+                    below = li;
+                    starts = from;
+                    declares = subst (λ (k : ℕ). Declares (partOf s t) k u) (sym kind) d;
+                    leads = ap (λ (x : ℕ). place s x u) (sym far-is);
+                  })),
+                )),
+          )
+
+      met-test : (X : Pairs) (n t : ℕ) → n < s .cards → t < s .shapes
+          → Met s X n t → metTest (s .script) names (s .shapes) grid X (place s n t) ≡ true
+      met-test X n t ln lt m =
+          let (f, targets) = met-exact (s .shapes) (Has s X) (neighboursOf s n t) (partOf s t)
+          (read .shapes .single t lt) (read .shapes .shapes-below t lt) .0 m in
+          law .met-of X (place s n t) (right n t ln lt .1 f) (λ q d.
+          let w = needs-follows n t q lt d in
+          let k = kindAt (s .script) (w .link) in
+          let far = toAt (s .script) (w .link) in
+          let (u, declares, has) = targets-at (Has s X) (partOf s t) (neighboursOf s n t) targets k far
+          (neighbours-exact (s .script) n k far (s .links) .1 (w .link, w .below, w .starts, refl, refl)) in
+          let same = declares-unique (partOf s t) (read .shapes .single t lt) k u (w .shape) declares (w .declares) in
+          subst (λ (x : ℕ). X x ≡ true) (ap (λ (x : ℕ). place s far x) same ∙ sym (w .leads)) has)
+
+      pub represents : Represents s (boardOf (s .script) names (s .shapes) grid)
+      represents = record {
+        sized = ap (λ (x : ℕ). x * s .shapes) (sym (read .links .cards));
+        one-shape = read .shapes .shapes-low;
+        lawful = law;
+        met-exact = λ X n t ln lt. (test-met X n t ln lt, met-test X n t ln lt);
+        needs-exact = λ n t q ln lt. (needs-follows n t q lt, follows-needs n t q lt);
+        target-in = read .links .to-below;
+        declared-in = λ t k u lt d.
+            declares-below (s .shapes) (partOf s t) (read .shapes .shapes-below t lt) k u d;
+      }

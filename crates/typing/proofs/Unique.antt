@@ -1,0 +1,233 @@
+-- The contracts of the calls for the typings leave no choice: two answers to one call are the same.
+--   typing-unique           a typing is its pairs
+--   largest-found-unique, smallest-found-unique, both-found-unique   of one sheet there is one answer
+--   largest-said-unique, smallest-said-unique, both-said-unique      of one saying one case of the enum
+--   largest-says-unique, smallest-says-unique, both-says-unique      of one input one answer and one grid
+-- Assumes nothing.
+use Prim.Native.Nat.{ℕ, _<_}
+use mathlib.Core.Path.{_≡_, refl, sym, ap, _∙_}
+use mathlib.Core.Logic.{_⊎_, inl, inr, ⊎-elim}
+use mathlib.Core.List.{List}
+use native.Mathlib.Omega.{arith}
+use lib.ListN.{getD}
+use lib.Seq.{ext-getD}
+use Rattle.board.specs.Grid.{on}
+use Rattle.board.specs.Board.{Board}
+use Rattle.board.proofs.Bools.{le-or-lt}
+use Rattle.board.proofs.Grids.{on-yes, on-byte}
+use Rattle.board.proofs.Tally.{tally-ext}
+use Rattle.template.specs.Answer.{Said}
+use Rattle.template.specs.declared.Shape.{Shape}
+use Rattle.script.specs.declared.Card.{Card}
+use Rattle.typing.specs.declared.LargestAnswer.{LargestAnswer}
+use Rattle.typing.specs.declared.LargestAnswer.the-variants as large
+use Rattle.typing.specs.declared.SmallestAnswer.{SmallestAnswer}
+use Rattle.typing.specs.declared.SmallestAnswer.the-variants as small
+use Rattle.typing.specs.declared.BothAnswer.{BothAnswer}
+use Rattle.typing.specs.declared.BothAnswer.the-variants as both
+use Rattle.typing.specs.Sheet.{Sheet, place, size}
+use Rattle.typing.specs.Typing.{Typing}
+use Rattle.typing.specs.Bookings.{Booked}
+use Rattle.typing.specs.Smallest.{Accepted, TurnedDown}
+use Rattle.typing.specs.Demand3.{Outcome, pairs, notMet}
+use Rattle.typing.specs.Answer.{largestSaid, smallestSaid, BothSaid, bothSaid}
+use Rattle.typing.specs.Calls.{SheetReading, ask, turnedDown, readSheet, withBookings, withGrid}
+use Rattle.typing.specs.Calls.{Leaves, outcomeSaid, Grids, LargestFound, LargestAnswered, LargestSays}
+use Rattle.typing.specs.Calls.{SmallestFound, SmallestAnswered, SmallestSays}
+use Rattle.typing.specs.Calls.{BothFound, BothAnswered, BothSays}
+use Rattle.typing.proofs.Places.{place-unique}
+use Rattle.typing.proofs.Represents.{Represents, Alike}
+use Rattle.typing.proofs.Largest.{largest-unique, bare-alike}
+use Rattle.typing.proofs.Smallest.{BookedIn, closure-in, closure-unique, met-again}
+use Rattle.typing.proofs.Booked.{grid-asked, bookings-asked}
+
+pub typing-unique : {s : Sheet} {g h : List ℕ} → Typing s g → Typing s h → Alike s (on g) (on h) → g ≡ h
+typing-unique {s} {g} {h} x y e = ext-getD 0 g h (x .full ∙ sym (y .full)) (λ p l.
+    let here : p < size s = omega (arith, x .full) in
+    same-byte p (x .bytes p here) (y .bytes p here) (e p here))
+  where
+    same-byte : (p : ℕ) → (getD g p 0 ≡ 0) ⊎ (getD g p 0 ≡ 1) → (getD h p 0 ≡ 0) ⊎ (getD h p 0 ≡ 1) → on g p ≡ on h p
+        → getD g p 0 ≡ getD h p 0
+    same-byte p (inl a) (inl b) f = a ∙ sym b
+    same-byte p (inl a) (inr b) f = on-byte g p (f ∙ on-yes h p b) ∙ sym b
+    same-byte p (inr a) (inl b) f = a ∙ sym (on-byte h p (sym f ∙ on-yes g p a))
+    same-byte p (inr a) (inr b) f = a ∙ sym b
+
+module _ {s : Sheet} {B : Board} (rep : Represents s B) where
+  pub largest-found-unique : {g h : List ℕ} {a b : Said} → LargestFound s g a → LargestFound s h b → (a ≡ b) × (g ≡ h)
+  largest-found-unique {g} {h} {a} {b} x y =
+      let (rounds, struck, alike) = largest-unique rep (x .largest) (y .largest) in
+      let bares : x .bare ≡ y .bare = x .counted ∙ bare-alike rep (on g) (on h) alike ∙ sym (y .counted) in
+      (x .says ∙ rw (rounds, struck, bares) (sym (y .says)), typing-unique (x .typing) (y .typing) alike)
+
+  module _ {Wanted : ℕ → ℕ → Type 0} (inside : BookedIn s Wanted) where
+    -- bookings that are accepted are not turned down
+    not-both : {g h : List ℕ} {m n t : ℕ} → Accepted s Wanted g m → TurnedDown s Wanted h n t → ⊥
+    not-both {g} {h} {m} {n} {t} x y =
+        y .unmet (met-again rep inside (y .set) (y .closure) (y .inside) (on g) (x .met n t (y .inside)))
+
+    -- the pair of one 50 is not below that of another
+    not-below : {g h : List ℕ} {n t m u : ℕ} → TurnedDown s Wanted g n t → TurnedDown s Wanted h m u
+        → place s n t < place s m u → ⊥
+    not-below {g} {h} {n} {t} x y l =
+        x .unmet (met-again rep inside (x .set) (x .closure) (x .inside) (y .set) (y .lowest n t (x .inside) l))
+
+    turned-down-unique : {g h : List ℕ} {n t m u : ℕ} → TurnedDown s Wanted g n t → TurnedDown s Wanted h m u
+        → (n ≡ m) × (t ≡ u)
+    turned-down-unique {g} {h} {n} {t} {m} {u} x y =
+        let (ln, lt) = closure-in rep inside (x .inside) in
+        let (lm, lu) = closure-in rep inside (y .inside) in
+        place-unique (s .shapes) (rep .one-shape) n t m u lt lu (⊎-elim
+        (λ a. ⊎-elim (λ b. omega arith) (λ b. absurd (not-below x y b)) (le-or-lt (place s m u) (place s n t)))
+        (λ a. absurd (not-below y x a))
+        (le-or-lt (place s n t) (place s m u)))
+
+    pub outcome-unique : {g h : List ℕ} (o q : Outcome) → Leaves s Wanted g o → Leaves s Wanted h q → (o ≡ q) × (g ≡ h)
+    outcome-unique {g} {h} (pairs m) (pairs k) x y =
+        let alike = closure-unique rep inside (on g) (on h) (x .closure) (y .closure) in (
+          ap pairs (x .counted ∙ tally-ext (on g) (on h) (size s) alike ∙ sym (y .counted)),
+          typing-unique (x .typing) (y .typing) alike,
+        )
+    outcome-unique (pairs m) (notMet n t) x y = absurd (not-both x y)
+    outcome-unique (notMet n t) (pairs m) x y = absurd (not-both y x)
+    outcome-unique (notMet n t) (notMet m u) x y =
+        let (card, shape) = turned-down-unique x y in
+        (rw (card, shape), x .zeros ∙ sym (y .zeros))
+
+  module _ {bookings : List ℕ} (inside : BookedIn s (Booked bookings)) where
+    pub smallest-found-unique : {g h : List ℕ} {a b : Said}
+        → SmallestFound s bookings g a → SmallestFound s bookings h b → (a ≡ b) × (g ≡ h)
+    smallest-found-unique {g} {h} {a} {b} x y =
+        let (o, e) = outcome-unique inside (x .outcome) (y .outcome) (x .leaves) (y .leaves) in
+        (x .says ∙ ap outcomeSaid o ∙ sym (y .says), e)
+
+    pub both-found-unique : {g h k m : List ℕ} {a b : BothSaid}
+        → BothFound s bookings g h a → BothFound s bookings k m b
+        → (a .largest ≡ b .largest) × (a .smallest ≡ b .smallest) × (g ≡ k) × (h ≡ m)
+    both-found-unique x y =
+        let (l, el) = largest-found-unique (x .largest) (y .largest) in
+        let (m, em) = smallest-found-unique (x .smallest) (y .smallest) in
+        (l, m, em, el)
+
+-- ---- of one saying one case of the enum
+card-unique : {n m : Card} → n .0 ≡ m .0 → n ≡ m
+card-unique e = ap (λ (x : ℕ). record { 0 = x }) e
+
+shape-unique : {t u : Shape} → t .0 ≡ u .0 → t ≡ u
+shape-unique e = ap (λ (x : ℕ). record { 0 = x }) e
+
+pub largest-said-unique : (a b : LargestAnswer) → largestSaid a ≡ largestSaid b → a ≡ b
+largest-said-unique (large.Typed r m n) (large.Typed r′ m′ n′) e = cc
+largest-said-unique (large.Typed r m n) (large.Refused number at) e = cc
+largest-said-unique (large.Refused number at) (large.Typed r m n) e = cc
+largest-said-unique (large.Refused number at) (large.Refused number′ at′) e = cc
+
+pub smallest-said-unique : (a b : SmallestAnswer) → smallestSaid a ≡ smallestSaid b → a ≡ b
+smallest-said-unique (small.Pairs m) (small.Pairs m′) e = cc
+smallest-said-unique (small.Pairs m) (small.NotMet n t) e = cc
+smallest-said-unique (small.Pairs m) (small.Refused number at) e = cc
+smallest-said-unique (small.NotMet n t) (small.Pairs m) e = cc
+smallest-said-unique (small.NotMet n t) (small.NotMet n′ t′) e =
+    let card : n ≡ n′ = card-unique (cc) in
+    let shape : t ≡ t′ = shape-unique (cc) in
+    cc
+smallest-said-unique (small.NotMet n t) (small.Refused number at) e = cc
+smallest-said-unique (small.Refused number at) (small.Pairs m) e = cc
+smallest-said-unique (small.Refused number at) (small.NotMet n t) e = cc
+smallest-said-unique (small.Refused number at) (small.Refused number′ at′) e = cc
+
+pub both-said-unique : (a b : BothAnswer) → bothSaid a .largest ≡ bothSaid b .largest
+    → bothSaid a .smallest ≡ bothSaid b .smallest → a ≡ b
+both-said-unique (both.Typed r m n k) (both.Typed r′ m′ n′ k′) e f = cc
+both-said-unique (both.Typed r m n k) (both.NotMet r′ m′ n′ c t) e f = cc
+both-said-unique (both.Typed r m n k) (both.Refused number at) e f = cc
+both-said-unique (both.NotMet r m n c t) (both.Typed r′ m′ n′ k′) e f = cc
+both-said-unique (both.NotMet r m n c t) (both.NotMet r′ m′ n′ c′ t′) e f =
+    let card : c ≡ c′ = card-unique (cc) in
+    let shape : t ≡ t′ = shape-unique (cc) in
+    cc
+both-said-unique (both.NotMet r m n c t) (both.Refused number at) e f = cc
+both-said-unique (both.Refused number at) (both.Typed r m n k) e f = cc
+both-said-unique (both.Refused number at) (both.NotMet r m n c t) e f = cc
+both-said-unique (both.Refused number at) (both.Refused number′ at′) e f = cc
+
+-- ---- of one input one answer and one grid
+-- A board stands for each sheet that a reading finds.
+abbrev pub Represented : SheetReading → Type 1
+Represented r = (s : Sheet) → r ≡ ask s → (B : Board) × Represents s B
+
+-- The bookings are in each sheet that a reading finds.
+abbrev ListedIn : SheetReading → List ℕ → Type 0
+ListedIn r bookings = (s : Sheet) → r ≡ ask s → BookedIn s (Booked bookings)
+
+largest-answered-unique : (r : SheetReading) → Represented r → (before g h : List ℕ) (a b : Said)
+    → LargestAnswered r before g a → LargestAnswered r before h b → (a ≡ b) × (g ≡ h)
+largest-answered-unique (turnedDown number at) sheets before g h a b x y = (x .0 ∙ sym (y .0), x .1 ∙ sym (y .1))
+largest-answered-unique (ask s) sheets before g h a b x y = largest-found-unique (sheets s refl .1) x y
+
+smallest-answered-unique : (r : SheetReading) → Represented r → (bookings : List ℕ) → ListedIn r bookings
+    → (before g h : List ℕ) (a b : Said)
+    → SmallestAnswered r bookings before g a → SmallestAnswered r bookings before h b → (a ≡ b) × (g ≡ h)
+smallest-answered-unique (turnedDown number at) sheets bookings inside before g h a b x y =
+    (x .0 ∙ sym (y .0), x .1 ∙ sym (y .1))
+smallest-answered-unique (ask s) sheets bookings inside before g h a b x y =
+    smallest-found-unique (sheets s refl .1) (inside s refl) x y
+
+grids-unique : {g h : Grids} → g .small ≡ h .small → g .large ≡ h .large → g ≡ h
+grids-unique {g} {h} e f =
+    ap (λ (z : List ℕ). record { small = z; large = g .large }) e
+    ∙ ap (λ (z : List ℕ). record { small = h .small; large = z }) f
+
+both-answered-unique : (r : SheetReading) → Represented r → (bookings : List ℕ) → ListedIn r bookings
+    → (before g h : Grids) (a b : BothSaid) → BothAnswered r bookings before g a → BothAnswered r bookings before h b
+    → (a .largest ≡ b .largest) × (a .smallest ≡ b .smallest) × (g ≡ h)
+both-answered-unique (turnedDown number at) sheets bookings inside before g h a b x y =
+    let same : a ≡ b = x .0 ∙ sym (y .0) in
+    (ap (λ (z : BothSaid). z .largest) same, ap (λ (z : BothSaid). z .smallest) same, x .1 ∙ sym (y .1))
+both-answered-unique (ask s) sheets bookings inside before g h a b x y =
+    let (l, m, e, f) = both-found-unique (sheets s refl .1) (inside s refl) x y in
+    (l, m, grids-unique e f)
+
+module _ (template script : List ℕ) (sheets : Represented (readSheet template script)) where
+  pub largest-says-unique : (before g h : List ℕ) (a b : LargestAnswer)
+      → LargestSays template script before g (largestSaid a) → LargestSays template script before h (largestSaid b)
+      → (a ≡ b) × (g ≡ h)
+  largest-says-unique before g h a b x y =
+      let (e, f) = largest-answered-unique (withGrid before (readSheet template script))
+      (λ s r. sheets s (grid-asked before (readSheet template script) s r .0))
+      before g h (largestSaid a) (largestSaid b) x y in
+      (largest-said-unique a b e, f)
+
+  module _ (bookings : List ℕ) where
+    abbrev listed : SheetReading
+    listed = withBookings bookings (readSheet template script)
+
+    listed-sheets : Represented listed
+    listed-sheets s r = sheets s (bookings-asked bookings (readSheet template script) s r .0)
+
+    listed-in : ListedIn listed bookings
+    listed-in s r = bookings-asked bookings (readSheet template script) s r .1
+
+    pub smallest-says-unique : (before g h : List ℕ) (a b : SmallestAnswer)
+        → SmallestSays template script bookings before g (smallestSaid a)
+        → SmallestSays template script bookings before h (smallestSaid b)
+        → (a ≡ b) × (g ≡ h)
+    smallest-says-unique before g h a b x y =
+        let (e, f) = smallest-answered-unique (withGrid before listed)
+        (λ s r. listed-sheets s (grid-asked before listed s r .0)) bookings
+        (λ s r. listed-in s (grid-asked before listed s r .0)) before g h (smallestSaid a) (smallestSaid b) x y in
+        (smallest-said-unique a b e, f)
+
+    pub both-says-unique : (before g h : Grids) (a b : BothAnswer)
+        → BothSays template script bookings before g (bothSaid a)
+        → BothSays template script bookings before h (bothSaid b)
+        → (a ≡ b) × (g ≡ h)
+    both-says-unique before g h a b x y =
+        let (l, m, f) = both-answered-unique (withGrid (before .large) (withGrid (before .small) listed))
+        (λ s r. listed-sheets s (asked s r)) bookings (λ s r. listed-in s (asked s r))
+        before g h (bothSaid a) (bothSaid b) x y in
+        (both-said-unique a b l m, f)
+      where
+        asked : (s : Sheet) → withGrid (before .large) (withGrid (before .small) listed) ≡ ask s → listed ≡ ask s
+        asked s r =
+            grid-asked (before .small) listed s (grid-asked (before .large) (withGrid (before .small) listed) s r .0) .0

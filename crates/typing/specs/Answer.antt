@@ -1,0 +1,35 @@
+-- Document 01's number and values for each case of the enums `LargestAnswer`, `SmallestAnswer` and `BothAnswer`.
+-- Assumes nothing.
+use Prim.Native.Nat.{ℕ}
+use mathlib.Core.List.{[], _∷_}
+use Rattle.template.specs.Answer.{Said, values, refusal}
+use Rattle.typing.specs.declared.LargestAnswer.{LargestAnswer}
+use Rattle.typing.specs.declared.LargestAnswer.the-variants as large
+use Rattle.typing.specs.declared.SmallestAnswer.{SmallestAnswer}
+use Rattle.typing.specs.declared.SmallestAnswer.the-variants as small
+use Rattle.typing.specs.declared.BothAnswer.{BothAnswer}
+use Rattle.typing.specs.declared.BothAnswer.the-variants as both
+
+-- Typed: rounds, pairs struck, cards with no shape. Refused: a template's or a script's number and place, or 40.
+abbrev pub largestSaid : LargestAnswer → Said
+largestSaid (large.Typed rounds struck bare) = values (rounds ∷ struck ∷ bare ∷ [])
+largestSaid (large.Refused number place) = refusal number (place ∷ [])
+
+-- Pairs: the closure's number of pairs. NotMet: 50, with a card and a shape for its place. Refused: the others.
+abbrev pub smallestSaid : SmallestAnswer → Said
+smallestSaid (small.Pairs pairs) = values (pairs ∷ [])
+smallestSaid (small.NotMet card shape) = refusal 50 (card .0 ∷ shape .0 ∷ [])
+smallestSaid (small.Refused number place) = refusal number (place ∷ [])
+
+-- What the two calls say that one call of both stands for.
+pub record BothSaid : Type 0 where
+  pub largest : Said
+  pub smallest : Said
+
+abbrev pub bothSaid : BothAnswer → BothSaid
+bothSaid (both.Typed rounds struck bare pairs) =
+    record { largest = values (rounds ∷ struck ∷ bare ∷ []); smallest = values (pairs ∷ []) }
+bothSaid (both.NotMet rounds struck bare card shape) =
+    record { largest = values (rounds ∷ struck ∷ bare ∷ []); smallest = refusal 50 (card .0 ∷ shape .0 ∷ []) }
+bothSaid (both.Refused number place) =
+    record { largest = refusal number (place ∷ []); smallest = refusal number (place ∷ []) }

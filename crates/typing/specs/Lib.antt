@@ -1,0 +1,8 @@
+pub mod Sheet
+pub mod Typing
+pub mod Largest
+pub mod Bookings
+pub mod Smallest
+pub mod Demand3
+pub mod Answer
+pub mod Calls

@@ -1,0 +1,42 @@
+-- The smallest typing that holds the bookings (document 01, "Smallest").
+-- Closure     the least set with the bookings and what follows from them
+-- IsClosure   a set of pairs is the closure
+-- Accepted    the answer where every pair of the closure is met; TurnedDown: 50
+-- Assumes nothing.
+use Prim.Native.Nat.{ℕ, _<_}
+use mathlib.Core.Path.{_≡_}
+use mathlib.Core.List.{List}
+use mathlib.Core.Bool.{Bool, true}
+use lib.ListN.{length, getD, replicate}
+use Rattle.bags.specs.Part.{Declares}
+use Rattle.board.specs.Grid.{on, tally}
+use Rattle.script.specs.Link.{fromAt, kindAt, toAt}
+use Rattle.typing.specs.Sheet.{Sheet, partOf, place, size}
+use Rattle.typing.specs.Typing.{Pairs, Has, Met, Typing}
+
+-- "The least set of pairs with the bookings and, for (n, t) in it and a link of n whose kind t names with shape u,
+-- the pair (target, u)."
+pub data Closure (s : Sheet) (Booked : ℕ → ℕ → Type 0) : ℕ → ℕ → Type 0 where
+  booked : {n t : ℕ} → Booked n t → Closure s Booked n t
+  follow : {n t u : ℕ} → Closure s Booked n t → (i : ℕ) → i < s .links → fromAt (s .script) i ≡ n
+      → Declares (partOf s t) (kindAt (s .script) i) u → Closure s Booked (toAt (s .script) i) u
+
+pub record IsClosure (s : Sheet) (Booked : ℕ → ℕ → Type 0) (X : Pairs) : Type 0 where
+  pub has : (n t : ℕ) → Closure s Booked n t → Has s X n t
+  pub only : (n t : ℕ) → n < s .cards → t < s .shapes → Has s X n t → Closure s Booked n t
+
+-- "If each pair of it is met, the grid is the closure and the answer its number of pairs."
+pub record Accepted (s : Sheet) (Booked : ℕ → ℕ → Type 0) (grid : List ℕ) (pairs : ℕ) : Type 0 where
+  pub typing : Typing s grid
+  pub closure : IsClosure s Booked (on grid)
+  pub met : (n t : ℕ) → Closure s Booked n t → Met s (on grid) n t
+  pub counted : pairs ≡ tally (on grid) (size s)
+
+-- "50 bookings not met, with the lowest card and then lowest shape of the closure that isn't met; the grid is then all 0."
+pub record TurnedDown (s : Sheet) (Booked : ℕ → ℕ → Type 0) (grid : List ℕ) (n t : ℕ) : Type 0 where
+  pub zeros : grid ≡ replicate (size s) 0
+  pub set : Pairs
+  pub closure : IsClosure s Booked set
+  pub inside : Closure s Booked n t
+  pub unmet : Met s set n t → ⊥
+  pub lowest : (m u : ℕ) → Closure s Booked m u → place s m u < place s n t → Met s set m u

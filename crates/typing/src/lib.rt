@@ -1,0 +1,25 @@
+// The two typings of a script: the largest that it allows, and the smallest that holds the bookings. Here are the answers of
+// the calls; the definitions are in specs/, the theory up to demand 3 in proofs/.
+use script::Card;
+use template::Shape;
+
+// Rounds, pairs struck and cards with no shape; or what is refused: number and place.
+pub enum LargestAnswer {
+    Typed(usize, usize, usize),
+    Refused(u16, usize),
+}
+
+// The number of pairs; the lowest pair of the closure that is not met; or what else is refused: number and place.
+pub enum SmallestAnswer {
+    Pairs(usize),
+    NotMet(Card, Shape),
+    Refused(u16, usize),
+}
+
+// Rounds, pairs struck, cards with no shape, and the number of pairs of the smallest or the pair that is not met; or what
+// else is refused: number and place.
+pub enum BothAnswer {
+    Typed(usize, usize, usize, usize),
+    NotMet(usize, usize, usize, Card, Shape),
+    Refused(u16, usize),
+}

@@ -1,0 +1,39 @@
+//! *Fit counts*: are these counts, one per kind, those of a bag of a shape's part?
+//! Refusals: the template's, then 42, 41, 43.
+
+pub mod bags;
+pub mod intervals;
+
+use crate::numbers::Shape;
+use crate::refusal::Refusal;
+use crate::template::{self, Part, MOST_COUNT};
+
+/// The answer by intervals.
+pub fn fit(template_words: &[u16], shape: u16, counts: &[u16]) -> Result<bool, Refusal> {
+    fit_by(intervals::fits, template_words, shape, counts)
+}
+
+/// The answer by enumeration of bags; only for small counts.
+pub fn fit_by_bags(template_words: &[u16], shape: u16, counts: &[u16]) -> Result<bool, Refusal> {
+    fit_by(bags::fits, template_words, shape, counts)
+}
+
+/// The refusals, then the answer of one of the two methods.
+fn fit_by(
+    fits: fn(&Part, &[u16]) -> bool,
+    template_words: &[u16],
+    shape: u16,
+    counts: &[u16],
+) -> Result<bool, Refusal> {
+    let template = template::read(template_words)?;
+    if shape >= template.shapes() {
+        return Err(Refusal::at(42, 0));
+    }
+    if counts.len() != usize::from(template.kinds) {
+        return Err(Refusal::at(41, 0));
+    }
+    if let Some(place) = counts.iter().position(|count| *count > MOST_COUNT) {
+        return Err(Refusal::at(43, place));
+    }
+    Ok(fits(template.part(Shape(shape)), counts))
+}

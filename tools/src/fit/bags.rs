@@ -1,0 +1,107 @@
+//! The definition of section 2.1, taken at its word: the set of a part's bags is written out, and the counts
+//! fit if one of them has these counts. No interval is used here.
+//!
+//! A set may be infinite, so each bag that passes the counts in some kind is left out. Nothing that matters is
+//! lost: bags are only ever added to, so a bag that is too large stays too large.
+
+use crate::numbers::{Kind, Shape};
+use crate::template::{Link, Part};
+use std::collections::{BTreeMap, BTreeSet};
+
+/// How many copies of each (kind, shape); pairs with no copy aren't in the map.
+pub type Bag = BTreeMap<(Kind, Shape), u16>;
+
+/// A set of bags.
+pub type Bags = BTreeSet<Bag>;
+
+/// Whether the counts, one per kind, are those of a bag of the part.
+pub fn fits(part: &Part, counts: &[u16]) -> bool {
+    bags(part, counts)
+        .iter()
+        .any(|bag| kind_counts(bag, counts.len()) == counts)
+}
+
+/// The bags of a part that don't pass the counts in any kind.
+pub fn bags(part: &Part, counts: &[u16]) -> Bags {
+    match part {
+        Part::Nothing => only_empty(),
+        Part::Link(link) => copies(link, counts[link.kind.index()]),
+        Part::Choice(parts) => parts.iter().flat_map(|part| bags(part, counts)).collect(),
+        Part::All(parts) => {
+            let start = only_empty();
+            parts.iter().fold(start, |sums_so_far, part| {
+                sums(&sums_so_far, &bags(part, counts), counts)
+            })
+        }
+        Part::Optional(part) => {
+            let mut all = bags(part, counts);
+            all.insert(Bag::new());
+            all
+        }
+        Part::Star(part) => any_sums(&bags(part, counts), counts),
+        Part::Plus(part) => {
+            let once = bags(part, counts);
+            sums(&once, &any_sums(&once, counts), counts)
+        }
+    }
+}
+
+/// The set that has the empty bag alone.
+fn only_empty() -> Bags {
+    Bags::from([Bag::new()])
+}
+
+/// The bags of low to high copies, up to `count`.
+fn copies(link: &Link, count: u16) -> Bags {
+    let most = link.high.unwrap_or(count).min(count);
+    (link.low..=most)
+        .map(|number| {
+            if number == 0 {
+                Bag::new()
+            } else {
+                Bag::from([((link.kind, link.shape), number)])
+            }
+        })
+        .collect()
+}
+
+/// The sums of one bag from each set.
+fn sums(ones: &Bags, twos: &Bags, counts: &[u16]) -> Bags {
+    let pairs = ones.iter().flat_map(|one| twos.iter().map(move |two| (one, two)));
+    pairs.filter_map(|(one, two)| sum(one, two, counts)).collect()
+}
+
+/// The sum of two bags, unless it passes the counts.
+fn sum(one: &Bag, two: &Bag, counts: &[u16]) -> Option<Bag> {
+    let mut total = one.clone();
+    for (pair, number) in two {
+        *total.entry(*pair).or_insert(0) += number;
+    }
+    let within = kind_counts(&total, counts.len())
+        .iter()
+        .zip(counts)
+        .all(|(number, most)| number <= most);
+    within.then_some(total)
+}
+
+/// The sums of zero or more bags of the set: one bag more each time, until nothing new comes.
+fn any_sums(once: &Bags, counts: &[u16]) -> Bags {
+    let mut all = only_empty();
+    loop {
+        let longer = sums(&all, once, counts);
+        let before = all.len();
+        all.extend(longer);
+        if all.len() == before {
+            return all;
+        }
+    }
+}
+
+/// How many copies a bag has of each kind, whatever the shape.
+fn kind_counts(bag: &Bag, kinds: usize) -> Vec<u16> {
+    let mut counts = vec![0; kinds];
+    for ((kind, _), number) in bag {
+        counts[kind.index()] += number;
+    }
+    counts
+}

@@ -1,0 +1,167 @@
+//! The way of section 8.2: the interval of repetitions i for which the counts of a part's kinds are a sum of
+//! i of its bags. The counts fit the part if 1 is inside, and if no other kind counts anything.
+
+use crate::template::{Link, Part};
+
+/// An interval of repetitions that isn't empty: `low` up to `high`, or up without end.
+#[derive(Clone, Copy, PartialEq, Eq, Debug)]
+pub struct Interval {
+    /// The lowest repetition.
+    pub low: u64,
+    /// The highest repetition; none for no end.
+    pub high: Option<u64>,
+}
+
+/// What one part says about the counts.
+#[derive(Clone, Copy, Debug)]
+pub struct Verdict {
+    /// The interval of repetitions; none if it is empty.
+    pub interval: Option<Interval>,
+    /// Whether the counts of the part's kinds are all 0.
+    pub all_zero: bool,
+}
+
+/// Whether the counts, one per kind, fit the whole part of a shape.
+pub fn fits(part: &Part, counts: &[u16]) -> bool {
+    let one_is_inside = verdict(part, counts)
+        .interval
+        .is_some_and(|interval| interval.has(1));
+    one_is_inside && others_are_zero(part, counts)
+}
+
+/// Whether each kind that the part doesn't name counts 0.
+fn others_are_zero(part: &Part, counts: &[u16]) -> bool {
+    let named = part.named(counts.len() as u16);
+    counts
+        .iter()
+        .zip(named)
+        .all(|(count, shape)| *count == 0 || shape.is_some())
+}
+
+/// The interval of a part.
+pub fn verdict(part: &Part, counts: &[u16]) -> Verdict {
+    match part {
+        Part::Nothing => Verdict {
+            interval: Some(Interval::up_from(0)),
+            all_zero: true,
+        },
+        Part::Link(link) => {
+            let count = counts[link.kind.index()];
+            Verdict {
+                interval: link_interval(link, u64::from(count)),
+                all_zero: count == 0,
+            }
+        }
+        Part::Choice(parts) => group(
+            parts,
+            counts,
+            Interval {
+                low: 0,
+                high: Some(0),
+            },
+            |a, b| Some(a.plus(b)),
+        ),
+        Part::All(parts) => group(parts, counts, Interval::up_from(0), Interval::and),
+        Part::Optional(part) => {
+            let inner = verdict(part, counts);
+            let interval = inner.interval.map(|interval| Interval::up_from(0).plus(interval));
+            Verdict { interval, ..inner }
+        }
+        Part::Star(part) => {
+            let inner = verdict(part, counts);
+            let interval = if inner.all_zero {
+                Some(Interval::up_from(0))
+            } else {
+                inner.interval.map(|_| Interval::up_from(1))
+            };
+            Verdict { interval, ..inner }
+        }
+        Part::Plus(part) => {
+            let inner = verdict(part, counts);
+            let interval = if inner.all_zero {
+                inner.interval
+            } else {
+                inner.interval.map(|interval| Interval { low: 1, ..interval })
+            };
+            Verdict { interval, ..inner }
+        }
+    }
+}
+
+/// Those i with i × low ≤ count ≤ i × high.
+fn link_interval(link: &Link, count: u64) -> Option<Interval> {
+    let low = match link.high {
+        _ if count == 0 => 0,
+        None => 1,
+        Some(0) => return None,
+        Some(high) => count.div_ceil(u64::from(high)),
+    };
+    let high = if link.low == 0 {
+        None
+    } else {
+        Some(count / u64::from(link.low))
+    };
+    Interval::new(low, high)
+}
+
+/// Joins the intervals of all parts, from `start`; an empty one makes the whole empty.
+fn group(
+    parts: &[Part],
+    counts: &[u16],
+    start: Interval,
+    join: fn(Interval, Interval) -> Option<Interval>,
+) -> Verdict {
+    let mut whole = Verdict {
+        interval: Some(start),
+        all_zero: true,
+    };
+    for part in parts {
+        let one = verdict(part, counts);
+        whole.all_zero &= one.all_zero;
+        whole.interval = match (whole.interval, one.interval) {
+            (Some(before), Some(this)) => join(before, this),
+            _ => None,
+        };
+    }
+    whole
+}
+
+impl Interval {
+    /// The interval with these ends, unless it is empty.
+    fn new(low: u64, high: Option<u64>) -> Option<Interval> {
+        match high {
+            Some(high) if high < low => None,
+            _ => Some(Interval { low, high }),
+        }
+    }
+
+    /// This number and all above it.
+    fn up_from(low: u64) -> Interval {
+        Interval { low, high: None }
+    }
+
+    fn has(self, number: u64) -> bool {
+        self.low <= number && self.high.is_none_or(|high| number <= high)
+    }
+
+    /// All sums of a number from each.
+    fn plus(self, other: Interval) -> Interval {
+        let high = match (self.high, other.high) {
+            (Some(one), Some(two)) => Some(one + two),
+            _ => None,
+        };
+        Interval {
+            low: self.low + other.low,
+            high,
+        }
+    }
+
+    /// The numbers in both.
+    fn and(self, other: Interval) -> Option<Interval> {
+        let high = match (self.high, other.high) {
+            (Some(one), Some(two)) => Some(one.min(two)),
+            (one, two) => one.or(two),
+        };
+        Interval::new(self.low.max(other.low), high)
+    }
+}

@@ -1,0 +1,215 @@
+//! Random inputs for the sheet printer: sheets of all sizes up to the limits, and damaged ones.
+//!
+//! | here       | what                                                              |
+//! |------------|-------------------------------------------------------------------|
+//! | `parts`    | random parts and templates, and random bags of a part             |
+//! | `scripts`  | scripts derived from the shapes, and loose ones                   |
+//! | `bookings` | bookings that are met, and others                                 |
+//! | `special`  | the sheets of document 01, long chains, everything at its limit   |
+//! | `layout`   | where the parts, links and groups of a template stand             |
+//! | `damage`   | faults aimed at one refusal, or several at once                   |
+//! | `knots`    | faults that meet at one place                                     |
+//! | `edges`    | each limit from both sides, the same in every run                 |
+
+pub mod bookings;
+pub mod damage;
+pub mod edges;
+pub mod knots;
+pub mod layout;
+pub mod parts;
+pub mod scripts;
+pub mod special;
+
+use crate::random::Random;
+use crate::sheet::Files;
+use crate::template::{self, Template};
+use crate::typing::Setting;
+
+/// One input with a name that says how it was made.
+#[derive(Clone, PartialEq, Eq, Debug)]
+pub struct Case {
+    /// How it was made.
+    pub name: String,
+    /// The input of the sheet printer.
+    pub bytes: Vec<u8>,
+}
+
+/// How large the numbers of a random sheet may become.
+#[derive(Clone, Copy, PartialEq, Eq, Debug)]
+pub struct Scale {
+    /// A word for the scale.
+    pub name: &'static str,
+    /// The most kinds.
+    pub kinds: u16,
+    /// The most shapes.
+    pub shapes: u16,
+    /// The most kinds that one shape names.
+    pub kinds_in_shape: usize,
+    /// The most cards.
+    pub cards: u16,
+    /// The most links.
+    pub links: usize,
+    /// The most bookings.
+    pub bookings: u16,
+}
+
+/// A sheet that can be followed by eye.
+pub const TINY: Scale = Scale {
+    name: "tiny",
+    kinds: 3,
+    shapes: 3,
+    kinds_in_shape: 3,
+    cards: 5,
+    links: 12,
+    bookings: 4,
+};
+/// A sheet of one page.
+pub const SMALL: Scale = Scale {
+    name: "small",
+    kinds: 6,
+    shapes: 6,
+    kinds_in_shape: 4,
+    cards: 30,
+    links: 120,
+    bookings: 12,
+};
+/// A sheet of some pages.
+pub const MIDDLE: Scale = Scale {
+    name: "middle",
+    kinds: 20,
+    shapes: 12,
+    kinds_in_shape: 10,
+    cards: 200,
+    links: 1500,
+    bookings: 60,
+};
+/// Up to the limits of document 01.
+pub const FULL: Scale = Scale {
+    name: "full",
+    kinds: 64,
+    shapes: 32,
+    kinds_in_shape: 64,
+    cards: 1024,
+    links: 8192,
+    bookings: 1024,
+};
+
+/// The inputs of one seed: the fixed ones first, then as many random ones as are asked for.
+pub fn cases(seed: u64, count: usize) -> impl Iterator<Item = Case> {
+    let mut random = Random::new(seed);
+    special::fixed()
+        .into_iter()
+        .chain(edges::edges())
+        .chain(std::iter::repeat_with(move || case(&mut random)))
+        .take(count)
+}
+
+/// One random input.
+pub fn case(random: &mut Random) -> Case {
+    match random.below(100) {
+        0..=39 => {
+            let scale = scale(random);
+            Case {
+                name: format!("derived-{}", scale.name),
+                bytes: derived(random, scale).bytes(),
+            }
+        }
+        40..=51 => {
+            let scale = scale(random);
+            Case {
+                name: format!("loose-{}", scale.name),
+                bytes: loose(random, scale).bytes(),
+            }
+        }
+        52..=57 => special::random(random),
+        58..=84 => aimed(random),
+        85..=92 => {
+            let mut files = whole(random);
+            knots::tie(random, &mut files);
+            Case {
+                name: "knot".to_string(),
+                bytes: files.bytes(),
+            }
+        }
+        _ => several_faults(random),
+    }
+}
+
+/// A scale; the small ones come more often.
+pub fn scale(random: &mut Random) -> Scale {
+    match random.below(20) {
+        0..=7 => TINY,
+        8..=14 => SMALL,
+        15..=17 => MIDDLE,
+        _ => FULL,
+    }
+}
+
+/// A sheet whose script is derived from its shapes, so that many pairs survive.
+pub fn derived(random: &mut Random, scale: Scale) -> Files {
+    let template = parts::template(random, scale);
+    let script = scripts::derived(random, &template, scale);
+    with_bookings(random, template, script, scale)
+}
+
+/// A sheet whose script knows nothing of the shapes.
+pub fn loose(random: &mut Random, scale: Scale) -> Files {
+    let template = parts::template(random, scale);
+    let script = scripts::loose(random, &template, scale);
+    with_bookings(random, template, script, scale)
+}
+
+fn with_bookings(random: &mut Random, template: Template, script: Vec<u16>, scale: Scale) -> Files {
+    let template = template::write(&template);
+    let bookings = match Setting::read(&template, &script) {
+        Ok(setting) => bookings::bookings(random, &setting, scale.bookings),
+        Err(refusal) => panic!("a generated sheet has a fault, {refusal}"),
+    };
+    Files {
+        template,
+        script,
+        bookings,
+    }
+}
+
+/// A sheet, small most of the time, for damage.
+fn whole(random: &mut Random) -> Files {
+    let scale = random.pick(&[TINY, TINY, SMALL, SMALL, SMALL, MIDDLE]);
+    if random.chance(1, 3) {
+        loose(random, scale)
+    } else {
+        derived(random, scale)
+    }
+}
+
+/// A sheet with one fault, aimed at one refusal.
+fn aimed(random: &mut Random) -> Case {
+    let number = random.pick(&damage::AIMS);
+    let mut files = whole(random);
+    let bytes = if number == 60 {
+        damage::of_bytes(random, &files)
+    } else {
+        damage::aimed(random, &mut files, number);
+        files.bytes()
+    };
+    Case {
+        name: format!("aimed-{number}"),
+        bytes,
+    }
+}
+
+/// A sheet with several faults.
+fn several_faults(random: &mut Random) -> Case {
+    let mut files = whole(random);
+    let count = random.between(2, 4);
+    damage::several(random, &mut files, count);
+    let bytes = if random.chance(1, 20) {
+        damage::of_bytes(random, &files)
+    } else {
+        files.bytes()
+    };
+    Case {
+        name: "several-faults".to_string(),
+        bytes,
+    }
+}

@@ -1,0 +1,219 @@
+//! The edges of document 01's limits, each from both sides, and faults that meet at one place. These inputs come
+//! first in every run, so that a limit that is off by one is found whatever the seed.
+
+use super::parts::filler;
+use super::special::{document, DOCUMENT_SCRIPT, DOCUMENT_TEMPLATE};
+use super::Case;
+use crate::sheet::Files;
+use crate::template::MOST_WORDS;
+
+/// All edges.
+pub fn edges() -> Vec<Case> {
+    let mut cases = Vec::new();
+    let templates = [template_counts(), template_parts(), template_links()].concat();
+    for (number, template) in templates.into_iter().enumerate() {
+        let files = Files {
+            template,
+            script: vec![1, 0],
+            bookings: vec![0],
+        };
+        cases.push(Case {
+            name: format!("edge-template-{number}"),
+            bytes: files.bytes(),
+        });
+    }
+    for (number, script) in scripts().into_iter().enumerate() {
+        let files = Files {
+            template: DOCUMENT_TEMPLATE.to_vec(),
+            script,
+            bookings: vec![0],
+        };
+        cases.push(Case {
+            name: format!("edge-script-{number}"),
+            bytes: files.bytes(),
+        });
+    }
+    for (number, bookings) in booking_lists().into_iter().enumerate() {
+        cases.push(Case {
+            name: format!("edge-bookings-{number}"),
+            bytes: document(&bookings).bytes(),
+        });
+    }
+    for (number, bytes) in inputs().into_iter().enumerate() {
+        cases.push(Case {
+            name: format!("edge-input-{number}"),
+            bytes,
+        });
+    }
+    cases
+}
+
+/// A template with L kinds and these parts.
+fn template(kinds: u16, parts: &[&[u16]]) -> Vec<u16> {
+    let mut words = vec![kinds, parts.len() as u16];
+    for part in parts {
+        words.push(part.len() as u16);
+        words.extend(*part);
+    }
+    words
+}
+
+/// Counts of words, kinds and shapes, and counts that don't match.
+fn template_counts() -> Vec<Vec<u16>> {
+    let nothing: &[u16] = &[0];
+    vec![
+        vec![],
+        vec![1],
+        vec![1, 1],
+        template(1, &[&filler(MOST_WORDS - 3).words()]),
+        template(1, &[&filler(MOST_WORDS - 2).words()]),
+        template(64, &[nothing]),
+        template(65, &[nothing]),
+        template(0, &[nothing]),
+        template(1, &[]),
+        template(1, &[nothing; 32]),
+        template(1, &[nothing; 33]),
+        vec![0, 0],
+        vec![1, 1, 0],
+        vec![1, 2, 1, 0],
+        vec![1, 1, 2, 99],
+        vec![1, 2, 1, 1, 1, 0],
+        vec![1, 2, 2, 0, 7, 1, 99],
+        vec![1, 1, 1, 0, 0],
+        vec![1, 1, 2, 0, 0],
+    ]
+}
+
+/// Codes, groups and depths.
+fn template_parts() -> Vec<Vec<u16>> {
+    let mut templates = Vec::new();
+    for code in [4, 15, 18, 255, 320, 65535] {
+        templates.push(template(1, &[&[code]]));
+    }
+    for count in [0, 1, 2, 16, 17, 65535] {
+        let parts = vec![0; usize::from(count).min(17)];
+        templates.push(template(1, &[&[vec![16, count], parts].concat()]));
+    }
+    for wraps in [11, 12, 13] {
+        for last in [0, 99] {
+            templates.push(template(1, &[&[vec![2; wraps], vec![last]].concat()]));
+        }
+        templates.push(template(1, &[&vec![3; wraps]]));
+    }
+    templates.push(template(1, &[&[[17, 2].repeat(11), vec![0; 12]].concat()]));
+    templates.push(template(1, &[&[[17, 2].repeat(12), vec![0; 13]].concat()]));
+    templates.push(template(1, &[&[[17, 2].repeat(11), vec![16, 17, 99]].concat()]));
+    templates
+}
+
+/// Links: their kinds, shapes, lows and highs.
+fn template_links() -> Vec<Vec<u16>> {
+    let bounds = [
+        (0, 0),
+        (0, 8192),
+        (8192, 8192),
+        (8192, 65535),
+        (1, 0),
+        (8193, 8193),
+        (8193, 65535),
+        (0, 8193),
+        (0, 65534),
+        (65535, 65535),
+    ];
+    let mut templates: Vec<Vec<u16>> = bounds
+        .iter()
+        .map(|(low, high)| template(1, &[&[256, 0, *low, *high]]))
+        .collect();
+    templates.push(template(64, &[&[319, 0, 0, 0]]));
+    templates.push(template(63, &[&[319, 0, 0, 0]]));
+    templates.push(template(1, &[&[257, 9, 9999]]));
+    templates.push(template(1, &[&[257, 9, 9999, 0]]));
+    templates.push(template(1, &[&[256, 1, 9999, 0]]));
+    templates.push(template(1, &[&[256, 1, 0, 0], &[256, 1, 0, 0]]));
+    for group in [16, 17] {
+        templates.push(template(1, &[&[group, 2, 256, 0, 0, 0, 256, 0, 0, 0]]));
+        templates.push(template(1, &[&[group, 2, 256, 0, 0, 0, 256, 9, 9999, 0]]));
+        templates.push(template(1, &[&[group, 2, 256, 0, 0, 0, 257, 0, 0, 0]]));
+    }
+    templates
+}
+
+/// Scripts under document 01's template.
+fn scripts() -> Vec<Vec<u16>> {
+    let mut many = vec![1024, 8192];
+    for link in 0..8192 {
+        many.extend([link / 16, 1, link % 16]);
+    }
+    let mut too_many = many.clone();
+    too_many[1] = 8193;
+    too_many.extend([1023, 1, 1023]);
+    vec![
+        many,
+        too_many,
+        vec![],
+        vec![1025],
+        vec![0, 0],
+        vec![1024, 0],
+        vec![1025, 0],
+        vec![1025, 8193],
+        vec![1024, 8193],
+        vec![1, 1, 0, 0],
+        vec![1, 1, 0, 0, 0],
+        vec![1, 1, 0, 0, 0, 0],
+        vec![2, 1, 2, 2, 2],
+        vec![2, 1, 1, 2, 2],
+        vec![2, 1, 1, 1, 2],
+        vec![2, 1, 1, 1, 1],
+        vec![2, 2, 0, 0, 0, 0, 0, 0],
+        vec![2, 2, 0, 0, 1, 0, 0, 0],
+        vec![2, 2, 0, 1, 0, 0, 0, 1],
+        vec![2, 2, 1, 0, 0, 0, 1, 1],
+        vec![2, 2, 1, 0, 0, 0, 0, 2],
+        vec![2, 3, 1, 0, 0, 0, 0, 0, 9, 9, 9],
+    ]
+}
+
+/// Bookings for document 01's template and script.
+fn booking_lists() -> Vec<Vec<u16>> {
+    vec![
+        vec![],
+        vec![0],
+        vec![0, 0],
+        vec![1, 2],
+        vec![1, 2, 1],
+        vec![1, 2, 1, 0],
+        [vec![1024], [2, 1].repeat(1024)].concat(),
+        [vec![1025], [2, 1].repeat(1025)].concat(),
+        vec![1025],
+        vec![1024],
+        vec![1, 3, 1],
+        vec![1, 2, 2],
+        vec![1, 3, 2],
+        vec![2, 2, 1, 3, 2],
+        vec![2, 2, 2, 3, 1],
+        vec![2, 2, 1, 2, 1],
+        vec![2, 2, 0, 1, 1],
+        vec![2, 1, 1, 0, 0],
+    ]
+}
+
+/// Whole inputs: bytes that are missing or left over, and wrong files behind a wrong length.
+fn inputs() -> Vec<Vec<u8>> {
+    let whole = document(&[1, 2, 1]).bytes();
+    let wrong = Files {
+        template: vec![0, 0],
+        script: DOCUMENT_SCRIPT.to_vec(),
+        bookings: vec![],
+    }
+    .bytes();
+    let mut inputs: Vec<Vec<u8>> = (0..6).map(|length| vec![0; length]).collect();
+    inputs.push(vec![0; 6]);
+    for bytes in [whole, wrong] {
+        inputs.push(bytes[..bytes.len() - 1].to_vec());
+        inputs.push(bytes[..bytes.len() - 2].to_vec());
+        inputs.push([bytes.clone(), vec![0]].concat());
+        inputs.push([bytes.clone(), vec![0; 2]].concat());
+        inputs.push(bytes);
+    }
+    inputs
+}

@@ -1,0 +1,214 @@
+//! Sheets made on purpose: those of document 01, long chains of strikes, and everything at its limit.
+
+use super::parts::{filler, template as any_template};
+use super::{bookings, scripts, Case, FULL};
+use crate::numbers::{Card, Kind, Shape};
+use crate::random::Random;
+use crate::script::{MOST_CARDS, MOST_LINKS};
+use crate::sheet::{Files, MOST_BYTES};
+use crate::template::{self, Link, Part, Template, MOST_KINDS, MOST_SHAPES, MOST_WORDS};
+use crate::typing::bookings::MOST_BOOKINGS;
+use crate::typing::Setting;
+
+/// The template of document 01's sheet.
+pub const DOCUMENT_TEMPLATE: [u16; 15] = [2, 2, 10, 17, 2, 256, 1, 1, 1, 257, 0, 0, 1, 1, 0];
+/// The script of document 01's sheet.
+pub const DOCUMENT_SCRIPT: [u16; 11] = [3, 3, 0, 0, 2, 0, 1, 1, 1, 0, 0];
+
+/// Document 01's sheet with these bookings.
+pub fn document(booking_words: &[u16]) -> Files {
+    Files {
+        template: DOCUMENT_TEMPLATE.to_vec(),
+        script: DOCUMENT_SCRIPT.to_vec(),
+        bookings: booking_words.to_vec(),
+    }
+}
+
+/// The inputs that come first, whatever the seed.
+pub fn fixed() -> Vec<Case> {
+    let named = |name: &str, bytes| Case {
+        name: name.to_string(),
+        bytes,
+    };
+    let empty = Files {
+        template: vec![1, 1, 1, 0],
+        script: vec![0, 0],
+        bookings: vec![0],
+    };
+    // Shape 0 names kind 0 with shape 1 but takes none: the closure has (0, 1) all the same, and 50 names it.
+    let takes_none = Files {
+        template: vec![1, 2, 4, 256, 1, 0, 0, 4, 256, 1, 1, 1],
+        script: vec![2, 1, 1, 0, 0],
+        bookings: vec![1, 1, 0],
+    };
+    let mut too_many_words = document(&[0]);
+    too_many_words.bookings.resize(MOST_BYTES / 2 - 3 - 15 - 11, 0);
+    let at_the_edge = too_many_words.bytes();
+    too_many_words.bookings.push(0);
+    vec![
+        named("document-met", document(&[1, 2, 1]).bytes()),
+        named("document-not-met", document(&[1, 0, 0]).bytes()),
+        named("no-cards", empty.bytes()),
+        named("link-that-takes-none", takes_none.bytes()),
+        named("no-bytes", Vec::new()),
+        named("65536-bytes", at_the_edge),
+        named("65538-bytes", too_many_words.bytes()),
+        named("chain-1024", chain(MOST_CARDS, false).bytes()),
+        named("ring-1024", chain(MOST_CARDS, true).bytes()),
+        named("longest-31-8", longest(31, 8).bytes()),
+        named("limits", limits(&mut Random::new(1)).bytes()),
+    ]
+}
+
+/// A random one of this kind of sheet.
+pub fn random(random: &mut Random) -> Case {
+    match random.below(8) {
+        0..=2 => {
+            let cards = random.word(1, 60);
+            let closed = random.chance(1, 4);
+            Case {
+                name: format!("chain-{cards}"),
+                bytes: chain(cards, closed).bytes(),
+            }
+        }
+        3..=6 => {
+            let (cards, shapes) = random.pick(&[(7, 3), (11, 4), (13, 5), (25, 2), (31, 3), (9, 8), (5, 32)]);
+            Case {
+                name: format!("longest-{cards}-{shapes}"),
+                bytes: longest(cards, shapes).bytes(),
+            }
+        }
+        _ => Case {
+            name: "limits".to_string(),
+            bytes: limits(random).bytes(),
+        },
+    }
+}
+
+/// Each card leads to the next one, and must. If the chain isn't closed, each round strikes its last card, so
+/// there are as many rounds as cards and one more.
+pub fn chain(cards: u16, closed: bool) -> Files {
+    let template = Template {
+        kinds: 1,
+        parts: vec![link(0, 0, 1, Some(1))],
+    };
+    let mut links: scripts::Links = (1..cards).map(|to| (to - 1, 0, to)).collect();
+    if closed {
+        links.insert((cards - 1, 0, 0));
+    }
+    Files {
+        template: template::write(&template),
+        script: scripts::words(cards, &links),
+        bookings: bookings::words(&[(Card(cards / 2), Shape(0))]),
+    }
+}
+
+/// A sheet on which each round but the last strikes one pair, and all pairs are struck, so there are N × S + 1
+/// rounds. The counts of cards (2 or more) and shapes must have no common factor.
+///
+/// The cards form a ring, and shape t asks for shape t + 1 at the next card. Card 0 has one link more, of a kind
+/// that all shapes but shape 0 take.
+pub fn longest(cards: u16, shapes: u16) -> Files {
+    let mut parts = vec![link(0, 1 % shapes, 1, Some(1))];
+    for shape in 1..shapes {
+        let next = (shape + 1) % shapes;
+        parts.push(Part::All(vec![
+            link(0, next, 1, Some(1)),
+            link(1, next, 0, Some(1)),
+        ]));
+    }
+    let mut links: scripts::Links = (0..cards).map(|card| (card, 0, (card + 1) % cards)).collect();
+    links.insert((0, 1, 1 % cards));
+    Files {
+        template: template::write(&Template { kinds: 2, parts }),
+        script: scripts::words(cards, &links),
+        bookings: bookings::words(&[(Card(1 % cards), Shape(0))]),
+    }
+}
+
+/// 64 kinds, 32 shapes, 4,096 template words, 1,024 cards, 8,192 links and 1,024 bookings.
+pub fn limits(random: &mut Random) -> Files {
+    let template = full_template(random);
+    let mut script = scripts::derived(random, &template, FULL);
+    script = fill_script(random, &script);
+    let words = template::write(&template);
+    let booking_words = match Setting::read(&words, &script) {
+        Ok(setting) => {
+            let mut list = bookings::bookings(random, &setting, MOST_BOOKINGS);
+            fill_bookings(&mut list);
+            list
+        }
+        Err(refusal) => panic!("the sheet at its limits has a fault, {refusal}"),
+    };
+    Files {
+        template: words,
+        script,
+        bookings: booking_words,
+    }
+}
+
+/// A template with all kinds and shapes, and a last shape that fills up the words.
+fn full_template(random: &mut Random) -> Template {
+    let mut template = any_template(random, FULL);
+    template.kinds = MOST_KINDS;
+    template.parts.truncate(usize::from(MOST_SHAPES) - 2);
+    while template.parts.len() < usize::from(MOST_SHAPES) - 2 {
+        template.parts.push(Part::Nothing);
+    }
+    // A shape that takes any links, so that not all pairs are struck.
+    let kinds = 0..MOST_KINDS;
+    let fours = kinds
+        .map(|kind| link(kind, MOST_SHAPES - 2, 0, None))
+        .collect::<Vec<_>>();
+    let takes_all = Part::All(fours.chunks(4).map(|four| Part::All(four.to_vec())).collect());
+    for part in [takes_all, Part::Nothing] {
+        template.parts.push(part);
+    }
+    // If the words don't suffice, the longest of the random shapes go.
+    while template::write(&template).len() > MOST_WORDS - 1 {
+        let random_parts = &mut template.parts[..usize::from(MOST_SHAPES) - 2];
+        if let Some(longest) = random_parts.iter_mut().max_by_key(|part| part.words().len()) {
+            *longest = Part::Nothing;
+        }
+    }
+    let missing = MOST_WORDS - template::write(&template).len();
+    template.parts[usize::from(MOST_SHAPES) - 1] = filler(1 + missing);
+    template
+}
+
+/// The script with all its cards and random links up to the limit.
+fn fill_script(random: &mut Random, script: &[u16]) -> Vec<u16> {
+    let mut links: scripts::Links = script[2..]
+        .chunks(3)
+        .map(|link| (link[0], link[1], link[2]))
+        .collect();
+    while links.len() < usize::from(MOST_LINKS) {
+        let (from, to) = (random.word(0, MOST_CARDS - 1), random.word(0, MOST_CARDS - 1));
+        links.insert((from, random.word(0, MOST_KINDS - 1), to));
+    }
+    scripts::words(MOST_CARDS, &links)
+}
+
+/// The bookings again and again, up to the limit; the first pair of all if there are none.
+fn fill_bookings(list: &mut Vec<u16>) {
+    if list.len() == 1 {
+        list.extend([0, MOST_SHAPES - 2]);
+    }
+    let pairs = list[1..].to_vec();
+    list.extend(
+        pairs
+            .iter()
+            .cycle()
+            .take(2 * usize::from(MOST_BOOKINGS) - pairs.len()),
+    );
+    list[0] = MOST_BOOKINGS;
+}
+
+fn link(kind: u16, shape: u16, low: u16, high: Option<u16>) -> Part {
+    Part::Link(Link {
+        kind: Kind(kind),
+        shape: Shape(shape),
+        low,
+        high,
+    })
+}

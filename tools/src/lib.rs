@@ -1,0 +1,30 @@
+//! The other implementation of document 01 ("Prep sheet shapes"), written from that document alone.
+//! It exists to be compared with the proved one, so it shares nothing with it.
+//!
+//! | module     | paragraph of document 01, or purpose                                        |
+//! |------------|-----------------------------------------------------------------------------|
+//! | `numbers`  | card, kind and shape numbers: three lists, three types                      |
+//! | `refusal`  | a refusal's number, place and meaning                                       |
+//! | `template` | *Read a template*, refusals 1 to 12; also writes templates                  |
+//! | `fit`      | *Fit counts*, refusals 41 to 43; by intervals and by enumeration of bags    |
+//! | `script`   | *Read a script*, refusals 20 to 25; *Links of a card*                       |
+//! | `typing`   | *Largest* (rounds and links) and *Smallest*, refusals 30 to 33, 40 and 50   |
+//! | `sheet`    | *The sheet printer*, refusal 60                                             |
+//! | `samples`  | the count samples P1 to P12, and random small ones                          |
+//! | `random`   | a small seeded source of numbers                                            |
+//! | `generate` | random inputs: whole sheets up to the limits, and damaged ones              |
+//! | `cases`    | writes inputs with the expected text beside them                            |
+//! | `compare`  | runs another program on random inputs and compares its text with ours       |
+
+pub mod cases;
+pub mod compare;
+pub mod fit;
+pub mod generate;
+pub mod numbers;
+pub mod random;
+pub mod refusal;
+pub mod samples;
+pub mod script;
+pub mod sheet;
+pub mod template;
+pub mod typing;

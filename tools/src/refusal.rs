@@ -1,0 +1,66 @@
+//! A refusal: document 01's number and the index of the word at fault.
+//! Only 50 is not one of these, because its place is a card and a shape (see `typing::Smallest`).
+
+use std::fmt;
+
+/// Why an operation turned its input down.
+#[derive(Clone, Copy, PartialEq, Eq, Debug)]
+pub struct Refusal {
+    /// The number that document 01 gives to this fault.
+    pub number: u16,
+    /// The index of the word at fault, counted in its own file.
+    pub place: usize,
+}
+
+impl Refusal {
+    /// The refusal with this number at this place.
+    pub fn at(number: u16, place: usize) -> Refusal {
+        Refusal { number, place }
+    }
+
+    /// What the number means, in words.
+    pub fn meaning(self) -> &'static str {
+        match self.number {
+            1 => "the template has under 2 or over 4,096 words",
+            2 => "the count of kinds isn't 1 to 64",
+            3 => "the count of shapes isn't 1 to 32",
+            4 => "a needed word of the template is missing",
+            5 => "unknown code",
+            6 => "a part is more than 12 deep",
+            7 => "a link's kind isn't below the count of kinds",
+            8 => "a link's kind stands twice in its shape",
+            9 => "a link's shape isn't below the count of shapes",
+            10 => "a link's low or high is out of bounds",
+            11 => "a group's count isn't 2 to 16",
+            12 => "words are left over in the template",
+            20 => "the script has the wrong count of words",
+            21 => "the count of cards is over 1,024",
+            22 => "the count of links is over 8,192",
+            23 => "a link's card isn't below the count of cards",
+            24 => "a link's kind isn't below the count of kinds",
+            25 => "a link isn't above the one before it",
+            30 => "the bookings have the wrong count of words",
+            31 => "the count of bookings is over 1,024",
+            32 => "a booking's card isn't below the count of cards",
+            33 => "a booking's shape isn't below the count of shapes",
+            40 => "the grid isn't cards times shapes bytes",
+            41 => "the counts aren't one per kind",
+            42 => "the shape isn't below the count of shapes",
+            43 => "a count is over 8,192",
+            60 => "the input ends early, goes on, or passes 65,536 bytes",
+            _ => "a refusal that document 01 doesn't know",
+        }
+    }
+}
+
+impl fmt::Display for Refusal {
+    fn fmt(&self, out: &mut fmt::Formatter<'_>) -> fmt::Result {
+        write!(
+            out,
+            "refusal {} at place {}: {}",
+            self.number,
+            self.place,
+            self.meaning()
+        )
+    }
+}

@@ -1,0 +1,301 @@
+//! *Read a template*: the words of a template become a list of parts, one per shape, or the first fault is told.
+//! Refusals 1 to 12, in the order of document 01: left to right, shape by shape.
+
+use crate::numbers::{Kind, Shape};
+use crate::refusal::Refusal;
+
+/// The most words that a template has.
+pub const MOST_WORDS: usize = 4096;
+/// The most kinds.
+pub const MOST_KINDS: u16 = 64;
+/// The most shapes.
+pub const MOST_SHAPES: u16 = 32;
+/// The greatest depth; a shape's whole part has depth 1.
+pub const MOST_DEPTH: usize = 12;
+/// The most parts in a choice or an all.
+pub const MOST_GROUP: u16 = 16;
+/// The highest low or high, and the highest count.
+pub const MOST_COUNT: u16 = 8192;
+/// The high that means no limit.
+pub const NO_LIMIT: u16 = 65535;
+
+/// The code of nothing.
+pub const NOTHING: u16 = 0;
+/// The code of star.
+pub const STAR: u16 = 1;
+/// The code of plus.
+pub const PLUS: u16 = 2;
+/// The code of optional.
+pub const OPTIONAL: u16 = 3;
+/// The code of choice.
+pub const CHOICE: u16 = 16;
+/// The code of all.
+pub const ALL: u16 = 17;
+/// The code of a link of kind 0.
+pub const LINK: u16 = 256;
+
+/// A template that was read: its count of kinds, and a part for each shape.
+#[derive(Clone, PartialEq, Eq, Debug)]
+pub struct Template {
+    /// The count of kinds, L.
+    pub kinds: u16,
+    /// The part of each shape; their number is S.
+    pub parts: Vec<Part>,
+}
+
+/// One part of a shape.
+#[derive(Clone, PartialEq, Eq, Debug)]
+pub enum Part {
+    /// The empty bag alone.
+    Nothing,
+    /// Sums of zero or more bags of the part.
+    Star(Box<Part>),
+    /// Sums of one or more bags of the part.
+    Plus(Box<Part>),
+    /// A choice of nothing and the part.
+    Optional(Box<Part>),
+    /// The union of the parts.
+    Choice(Vec<Part>),
+    /// The sums of one bag from each part.
+    All(Vec<Part>),
+    /// Low to high copies of (kind, shape).
+    Link(Link),
+}
+
+/// A link part.
+#[derive(Clone, Copy, PartialEq, Eq, Debug)]
+pub struct Link {
+    /// The kind of the links that it takes.
+    pub kind: Kind,
+    /// The shape that their targets have.
+    pub shape: Shape,
+    /// The fewest copies.
+    pub low: u16,
+    /// The most copies; none for no limit.
+    pub high: Option<u16>,
+}
+
+impl Template {
+    /// The count of shapes, S.
+    pub fn shapes(&self) -> u16 {
+        self.parts.len() as u16
+    }
+
+    /// The part of a shape that is below S.
+    pub fn part(&self, shape: Shape) -> &Part {
+        &self.parts[shape.index()]
+    }
+
+    /// For each shape, for each kind, the shape with which the first names the kind.
+    pub fn named(&self) -> Vec<Vec<Option<Shape>>> {
+        self.parts.iter().map(|part| part.named(self.kinds)).collect()
+    }
+}
+
+impl Part {
+    /// The links in this part, left to right.
+    pub fn links(&self) -> Vec<Link> {
+        match self {
+            Part::Nothing => Vec::new(),
+            Part::Star(part) | Part::Plus(part) | Part::Optional(part) => part.links(),
+            Part::Choice(parts) | Part::All(parts) => parts.iter().flat_map(Part::links).collect(),
+            Part::Link(link) => vec![*link],
+        }
+    }
+
+    /// For each of this many kinds, the shape with which this part names it.
+    pub fn named(&self, kinds: u16) -> Vec<Option<Shape>> {
+        let mut named = vec![None; usize::from(kinds)];
+        for link in self.links() {
+            named[link.kind.index()] = Some(link.shape);
+        }
+        named
+    }
+
+    /// How many parts lie within each other here, this one included.
+    pub fn depth(&self) -> usize {
+        match self {
+            Part::Nothing | Part::Link(_) => 1,
+            Part::Star(part) | Part::Plus(part) | Part::Optional(part) => 1 + part.depth(),
+            Part::Choice(parts) | Part::All(parts) => 1 + parts.iter().map(Part::depth).max().unwrap_or(0),
+        }
+    }
+
+    /// Appends the words of this part.
+    pub fn write(&self, words: &mut Vec<u16>) {
+        match self {
+            Part::Nothing => words.push(NOTHING),
+            Part::Star(part) => write_wrap(STAR, part, words),
+            Part::Plus(part) => write_wrap(PLUS, part, words),
+            Part::Optional(part) => write_wrap(OPTIONAL, part, words),
+            Part::Choice(parts) => write_group(CHOICE, parts, words),
+            Part::All(parts) => write_group(ALL, parts, words),
+            Part::Link(link) => words.extend([
+                LINK + link.kind.0,
+                link.shape.0,
+                link.low,
+                link.high.unwrap_or(NO_LIMIT),
+            ]),
+        }
+    }
+
+    /// The words of this part.
+    pub fn words(&self) -> Vec<u16> {
+        let mut words = Vec::new();
+        self.write(&mut words);
+        words
+    }
+}
+
+fn write_wrap(code: u16, part: &Part, words: &mut Vec<u16>) {
+    words.push(code);
+    part.write(words);
+}
+
+fn write_group(code: u16, parts: &[Part], words: &mut Vec<u16>) {
+    words.extend([code, parts.len() as u16]);
+    for part in parts {
+        part.write(words);
+    }
+}
+
+/// The words of a template with these kinds and parts; the reverse of `read`.
+pub fn write(template: &Template) -> Vec<u16> {
+    let mut words = vec![template.kinds, template.shapes()];
+    for part in &template.parts {
+        let part_words = part.words();
+        words.push(part_words.len() as u16);
+        words.extend(part_words);
+    }
+    words
+}
+
+/// Reads a template, or tells the first fault.
+pub fn read(words: &[u16]) -> Result<Template, Refusal> {
+    if words.len() < 2 || words.len() > MOST_WORDS {
+        return Err(Refusal::at(1, 0));
+    }
+    let (kinds, shapes) = (words[0], words[1]);
+    if !(1..=MOST_KINDS).contains(&kinds) {
+        return Err(Refusal::at(2, 0));
+    }
+    if !(1..=MOST_SHAPES).contains(&shapes) {
+        return Err(Refusal::at(3, 1));
+    }
+    let mut reader = Reader {
+        words,
+        next: 2,
+        end: 2,
+        kinds,
+        shapes,
+        seen: Vec::new(),
+    };
+    let mut parts = Vec::new();
+    for _ in 0..shapes {
+        parts.push(reader.shape()?);
+    }
+    if reader.next < words.len() {
+        return Err(Refusal::at(12, reader.next));
+    }
+    Ok(Template { kinds, parts })
+}
+
+/// Where the reading stands.
+struct Reader<'a> {
+    words: &'a [u16],
+    /// The place of the next word.
+    next: usize,
+    /// The end of the shape that is being read: no word of it stands here or later.
+    end: usize,
+    kinds: u16,
+    shapes: u16,
+    /// The kinds that this shape has named so far.
+    seen: Vec<Kind>,
+}
+
+impl Reader<'_> {
+    /// A shape: its count of words, then one part that takes exactly those words.
+    fn shape(&mut self) -> Result<Part, Refusal> {
+        let length = self.words.len();
+        let count = match self.words.get(self.next) {
+            Some(count) => usize::from(*count),
+            None => return Err(Refusal::at(4, length)),
+        };
+        self.next += 1;
+        self.end = self.next + count;
+        if self.end > length {
+            return Err(Refusal::at(4, length));
+        }
+        self.seen.clear();
+        let part = self.part(1)?;
+        if self.next < self.end {
+            return Err(Refusal::at(12, self.next));
+        }
+        Ok(part)
+    }
+
+    /// The next word of the shape; a word wanted past the shape's end is missing at that end.
+    fn word(&mut self) -> Result<u16, Refusal> {
+        if self.next >= self.end {
+            return Err(Refusal::at(4, self.end));
+        }
+        let word = self.words[self.next];
+        self.next += 1;
+        Ok(word)
+    }
+
+    /// A part at this depth: its code, then what the code asks for.
+    fn part(&mut self, depth: usize) -> Result<Part, Refusal> {
+        let place = self.next;
+        let code = self.word()?;
+        if depth > MOST_DEPTH {
+            return Err(Refusal::at(6, place));
+        }
+        match code {
+            0 => Ok(Part::Nothing),
+            1 => Ok(Part::Star(Box::new(self.part(depth + 1)?))),
+            2 => Ok(Part::Plus(Box::new(self.part(depth + 1)?))),
+            3 => Ok(Part::Optional(Box::new(self.part(depth + 1)?))),
+            16 => Ok(Part::Choice(self.group(depth + 1)?)),
+            17 => Ok(Part::All(self.group(depth + 1)?)),
+            256..=319 => Ok(Part::Link(self.link(place, Kind(code - 256))?)),
+            4..=15 | 18..=255 | 320.. => Err(Refusal::at(5, place)),
+        }
+    }
+
+    /// A group's count, and its parts at this depth.
+    fn group(&mut self, depth: usize) -> Result<Vec<Part>, Refusal> {
+        let place = self.next;
+        let count = self.word()?;
+        if !(2..=MOST_GROUP).contains(&count) {
+            return Err(Refusal::at(11, place));
+        }
+        (0..count).map(|_| self.part(depth)).collect()
+    }
+
+    /// A link's shape, low and high; `place` is that of its code.
+    fn link(&mut self, place: usize, kind: Kind) -> Result<Link, Refusal> {
+        let (shape, low, high) = (self.word()?, self.word()?, self.word()?);
+        if kind.0 >= self.kinds {
+            return Err(Refusal::at(7, place));
+        }
+        if self.seen.contains(&kind) {
+            return Err(Refusal::at(8, place));
+        }
+        if shape >= self.shapes {
+            return Err(Refusal::at(9, place + 1));
+        }
+        let high_is_right = high == NO_LIMIT || (low..=MOST_COUNT).contains(&high);
+        if low > MOST_COUNT || !high_is_right {
+            return Err(Refusal::at(10, place + 2));
+        }
+        self.seen.push(kind);
+        let high = if high == NO_LIMIT { None } else { Some(high) };
+        Ok(Link {
+            kind,
+            shape: Shape(shape),
+            low,
+            high,
+        })
+    }
+}

@@ -1,0 +1,158 @@
+//! *Largest* and *Smallest*, and both together.
+//!
+//! | here          | what                                                              |
+//! |---------------|-------------------------------------------------------------------|
+//! | `Setting`     | a template and a script that belong together                      |
+//! | `met`         | when a pair is met; sound typings, and typings in between         |
+//! | `rounds`      | the largest typing, round by round as the definition says         |
+//! | `links`       | the largest typing, breadth-first backwards over the links        |
+//! | `bookings`    | reads a booking list, refusals 30 to 33                           |
+//! | `closure`     | the smallest typing                                               |
+
+pub mod bookings;
+pub mod closure;
+pub mod links;
+pub mod met;
+pub mod rounds;
+
+use crate::numbers::{Card, Shape};
+use crate::refusal::Refusal;
+use crate::script::{self, Script};
+use crate::template::{self, Template};
+
+/// A typing: N × S bytes, 1 where card n has shape t, at place n × S + t, else 0.
+pub type Grid = Vec<u8>;
+
+/// A pair of a card and a shape.
+pub type Pair = (Card, Shape);
+
+/// A template and a script read with it.
+#[derive(Clone, Debug)]
+pub struct Setting {
+    /// The template.
+    pub template: Template,
+    /// The script.
+    pub script: Script,
+}
+
+/// The answer for the largest typing.
+#[derive(Clone, Copy, PartialEq, Eq, Debug)]
+pub struct Largest {
+    /// Rounds, with the last one that strikes nothing.
+    pub rounds: usize,
+    /// Pairs struck.
+    pub struck: usize,
+    /// Cards with no shape.
+    pub bare: usize,
+}
+
+/// The answer for the smallest typing.
+#[derive(Clone, Copy, PartialEq, Eq, Debug)]
+pub enum Smallest {
+    /// The number of pairs of the closure, all of them met.
+    Pairs(usize),
+    /// Refusal 50: the lowest card, and then the lowest shape, of the closure that isn't met.
+    NotMet(Card, Shape),
+}
+
+/// Both typings of one sheet.
+#[derive(Clone, PartialEq, Eq, Debug)]
+pub struct Both {
+    /// The count of shapes, S, which a reader of the grids needs.
+    pub shapes: u16,
+    /// The largest typing's answer and grid.
+    pub largest: (Largest, Grid),
+    /// The smallest typing's answer and grid.
+    pub smallest: (Smallest, Grid),
+}
+
+impl Setting {
+    /// Reads the template, then the script.
+    pub fn read(template_words: &[u16], script_words: &[u16]) -> Result<Setting, Refusal> {
+        let template = template::read(template_words)?;
+        let script = script::read_under(&template, script_words)?;
+        Ok(Setting { template, script })
+    }
+
+    /// The size of a grid, N × S.
+    pub fn size(&self) -> usize {
+        usize::from(self.script.cards) * usize::from(self.template.shapes())
+    }
+
+    /// The place of a pair in a grid.
+    pub fn place(&self, (card, shape): Pair) -> usize {
+        card.index() * usize::from(self.template.shapes()) + shape.index()
+    }
+
+    /// All cards, ascending.
+    pub fn cards(&self) -> impl Iterator<Item = Card> {
+        (0..self.script.cards).map(Card)
+    }
+
+    /// All pairs, in the order of their places.
+    pub fn pairs(&self) -> impl Iterator<Item = Pair> {
+        let shapes = self.template.shapes();
+        self.cards()
+            .flat_map(move |card| (0..shapes).map(move |shape| (card, Shape(shape))))
+    }
+
+    /// How many cards have no shape in a grid.
+    fn bare(&self, grid: &[u8]) -> usize {
+        grid.chunks(usize::from(self.template.shapes()))
+            .filter(|row| row.iter().all(|byte| *byte == 0))
+            .count()
+    }
+}
+
+/// The largest typing, written into a grid of the right size.
+pub fn largest(template: &[u16], script: &[u16], grid: &mut [u8]) -> Result<Largest, Refusal> {
+    largest_by(links::largest, template, script, grid)
+}
+
+/// The same, round by round as the definition says.
+pub fn largest_by_rounds(template: &[u16], script: &[u16], grid: &mut [u8]) -> Result<Largest, Refusal> {
+    largest_by(rounds::largest, template, script, grid)
+}
+
+fn largest_by(
+    method: fn(&Setting) -> (Largest, Grid),
+    template: &[u16],
+    script: &[u16],
+    grid: &mut [u8],
+) -> Result<Largest, Refusal> {
+    let setting = Setting::read(template, script)?;
+    if grid.len() != setting.size() {
+        return Err(Refusal::at(40, 0));
+    }
+    let (answer, typing) = method(&setting);
+    grid.copy_from_slice(&typing);
+    Ok(answer)
+}
+
+/// The smallest typing, written into a grid of the right size; all 0 if the answer is 50.
+pub fn smallest(
+    template: &[u16],
+    script: &[u16],
+    booking_words: &[u16],
+    grid: &mut [u8],
+) -> Result<Smallest, Refusal> {
+    let setting = Setting::read(template, script)?;
+    let booked = bookings::read(&setting, booking_words)?;
+    if grid.len() != setting.size() {
+        return Err(Refusal::at(40, 0));
+    }
+    let (answer, typing) = closure::smallest(&setting, &booked);
+    grid.copy_from_slice(&typing);
+    Ok(answer)
+}
+
+/// Both typings, unless template, script or bookings are refused, in this order.
+pub fn both(template: &[u16], script: &[u16], booking_words: &[u16]) -> Result<Both, Refusal> {
+    let setting = Setting::read(template, script)?;
+    let booked = bookings::read(&setting, booking_words)?;
+    Ok(Both {
+        shapes: setting.template.shapes(),
+        largest: links::largest(&setting),
+        smallest: closure::smallest(&setting, &booked),
+    })
+}

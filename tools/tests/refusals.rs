@@ -1,0 +1,315 @@
+//! Each refusal on both sides of its boundary, and the order of the refusals when there are several faults.
+
+use prep_tools::fit::fit;
+use prep_tools::generate::parts::filler;
+use prep_tools::generate::special::{document, DOCUMENT_SCRIPT, DOCUMENT_TEMPLATE};
+use prep_tools::refusal::Refusal;
+use prep_tools::script;
+use prep_tools::sheet::{self, MOST_BYTES};
+use prep_tools::template;
+use prep_tools::typing::{largest, largest_by_rounds, smallest, Smallest};
+
+/// A template with L kinds, S shapes and one part per shape.
+fn template_of(kinds: u16, parts: &[&[u16]]) -> Vec<u16> {
+    let mut words = vec![kinds, parts.len() as u16];
+    for part in parts {
+        words.push(part.len() as u16);
+        words.extend(*part);
+    }
+    words
+}
+
+fn accepted(words: &[u16]) {
+    if let Err(refusal) = template::read(words) {
+        panic!("{words:?} is turned down, {refusal}");
+    }
+}
+
+fn refused(words: &[u16], number: u16, place: usize) {
+    let answer = template::read(words).map(|_| ());
+    assert_eq!(answer, Err(Refusal::at(number, place)), "{words:?}");
+}
+
+/// A template with one kind and one shape that has this part.
+fn refused_part(part: &[u16], number: u16, place: usize) {
+    refused(&template_of(1, &[part]), number, place);
+}
+
+#[test]
+fn template_1_its_count_of_words() {
+    refused(&[], 1, 0);
+    refused(&[1], 1, 0);
+    refused(&[1, 1], 4, 2);
+    let full = template_of(1, &[&filler(4093).words()]);
+    assert_eq!(full.len(), 4096);
+    accepted(&full);
+    let over = template_of(1, &[&filler(4094).words()]);
+    refused(&over, 1, 0);
+    refused(&vec![0; 4096], 2, 0);
+    refused(&vec![0; 4097], 1, 0);
+}
+
+#[test]
+fn template_2_and_3_the_counts_of_kinds_and_shapes() {
+    accepted(&[1, 1, 1, 0]);
+    accepted(&[64, 1, 1, 0]);
+    refused(&[0, 1, 1, 0], 2, 0);
+    refused(&[65, 0, 1, 0], 2, 0);
+    refused(&[1, 0], 3, 1);
+    refused(&[1, 33, 1, 0], 3, 1);
+    accepted(&template_of(1, &[&[0][..]; 32]));
+    refused(&template_of(1, &[&[0][..]; 33]), 3, 1);
+}
+
+#[test]
+fn template_4_a_missing_word() {
+    // A shape's count is missing.
+    refused(&[1, 2, 1, 0], 4, 4);
+    // A count reaches past the end; the unknown code isn't looked at.
+    refused(&[1, 1, 2, 99], 4, 4);
+    refused(&[1, 1, 65535, 0], 4, 4);
+    // A shape without words.
+    refused(&[1, 1, 0], 4, 3);
+    refused(&[1, 2, 0, 1, 0], 4, 3);
+    // A word wanted past the shape's own end, though the template goes on.
+    refused(&[1, 2, 1, 1, 1, 0], 4, 4);
+    refused(&[1, 2, 1, 17, 1, 0], 4, 4);
+    refused(&[1, 2, 2, 17, 2, 1, 0], 4, 5);
+    refused(&[1, 2, 3, 256, 0, 0, 1, 0], 4, 6);
+    refused_part(&[256], 4, 4);
+    refused_part(&[256, 0, 0], 4, 6);
+    // All four words of a link come before its other faults.
+    refused_part(&[319, 9, 9999], 4, 6);
+    refused_part(&[1, 256, 7, 9999], 4, 7);
+}
+
+#[test]
+fn template_5_an_unknown_code() {
+    for code in [4, 15, 18, 255, 320, 65535] {
+        refused_part(&[code], 5, 3);
+        refused_part(&[17, 2, 0, code], 5, 6);
+    }
+    for code in [0, 256] {
+        accepted(&template_of(
+            1,
+            &[&[code, 0, 0, 0][..if code == 0 { 1 } else { 4 }]],
+        ));
+    }
+}
+
+#[test]
+fn template_6_the_depth() {
+    for wrap in 1..=3 {
+        let mut twelve = vec![wrap; 11];
+        twelve.push(0);
+        accepted(&template_of(1, &[&twelve]));
+        let mut thirteen = vec![wrap; 12];
+        thirteen.push(0);
+        refused_part(&thirteen, 6, 3 + 12);
+        // The depth comes before the code, and a missing word before the depth.
+        *thirteen.last_mut().expect("not empty") = 99;
+        refused_part(&thirteen, 6, 3 + 12);
+        thirteen.pop();
+        refused_part(&thirteen, 4, 3 + 12);
+    }
+    // In a group the first part that is too deep counts, and the group's count comes before it.
+    let groups = [[16, 2].repeat(12), vec![0; 13]].concat();
+    refused_part(&groups, 6, 3 + 24);
+    let wrong_count = [[17, 2].repeat(11), vec![16, 17, 0]].concat();
+    refused_part(&wrong_count, 11, 3 + 23);
+}
+
+#[test]
+fn template_7_to_10_a_link() {
+    accepted(&template_of(64, &[&[319, 0, 0, 0]]));
+    refused(&template_of(63, &[&[319, 0, 0, 0]]), 7, 3);
+    refused_part(&[257, 9, 9999, 0], 7, 3);
+    // 8: over branches of a choice too, and for links of [0;0]; but not across shapes.
+    let twice = [17, 2, 256, 0, 0, 0, 256, 0, 0, 0];
+    refused_part(&twice, 8, 9);
+    refused_part(&[&[16], &twice[1..]].concat(), 8, 9);
+    refused_part(&[17, 2, 256, 0, 0, 0, 256, 7, 9999, 0], 8, 9);
+    accepted(&template_of(1, &[&[256, 0, 0, 0], &[256, 1, 0, 0]]));
+    accepted(&template_of(2, &[&[16, 2, 256, 0, 0, 0, 257, 0, 0, 0]]));
+    // 9 comes before 10.
+    refused_part(&[256, 1, 1, 0], 9, 4);
+    accepted(&template_of(1, &[&[256, 1, 0, 0], &[0]]));
+    refused_part(&[256, 0, 1, 0], 10, 5);
+}
+
+#[test]
+fn template_10_low_and_high() {
+    for (low, high) in [(0, 0), (0, 8192), (8192, 8192), (0, 65535), (8192, 65535), (3, 3)] {
+        accepted(&template_of(1, &[&[256, 0, low, high]]));
+    }
+    for (low, high) in [
+        (1, 0),
+        (8193, 8193),
+        (8193, 65535),
+        (0, 8193),
+        (0, 65534),
+        (8192, 8191),
+        (65535, 65535),
+    ] {
+        refused_part(&[256, 0, low, high], 10, 5);
+    }
+}
+
+#[test]
+fn template_11_a_group() {
+    for code in [16, 17] {
+        for count in [2, 16] {
+            accepted(&template_of(
+                1,
+                &[&[vec![code, count], vec![0; usize::from(count)]].concat()],
+            ));
+        }
+        for count in [0, 1, 17, 65535] {
+            refused_part(&[code, count], 11, 4);
+        }
+        refused_part(&[code], 4, 4);
+        refused_part(&[&[code, 16][..], &[0; 15]].concat(), 4, 3 + 17);
+        refused_part(&[&[code, 16][..], &[0; 17]].concat(), 12, 3 + 18);
+    }
+}
+
+#[test]
+fn template_12_words_left() {
+    refused_part(&[0, 0], 12, 4);
+    refused(&[1, 1, 1, 0, 0], 12, 4);
+    // The words left in the first shape come before the faults of the second one.
+    refused(&[1, 2, 2, 0, 7, 1, 99], 12, 4);
+    refused(&[1, 2, 1, 0, 1, 99, 0], 5, 5);
+}
+
+#[test]
+fn fit_41_to_43() {
+    let template = [2, 1, 4, 256, 0, 0, 8192];
+    assert_eq!(fit(&template, 0, &[8192, 0]), Ok(true));
+    assert_eq!(fit(&template, 0, &[8192, 1]), Ok(false));
+    assert_eq!(fit(&template, 0, &[0, 8193]), Err(Refusal::at(43, 1)));
+    assert_eq!(fit(&template, 0, &[9000, 9000]), Err(Refusal::at(43, 0)));
+    assert_eq!(fit(&template, 0, &[9000]), Err(Refusal::at(41, 0)));
+    assert_eq!(fit(&template, 0, &[0, 0, 0]), Err(Refusal::at(41, 0)));
+    assert_eq!(fit(&template, 1, &[0]), Err(Refusal::at(42, 0)));
+    assert_eq!(fit(&[2, 1], 1, &[0]), Err(Refusal::at(4, 2)));
+}
+
+fn script_refused(words: &[u16], number: u16, place: usize) {
+    let answer = script::read(&DOCUMENT_TEMPLATE, words).map(|_| ());
+    assert_eq!(answer, Err(Refusal::at(number, place)), "{words:?}");
+}
+
+fn script_accepted(words: &[u16]) {
+    if let Err(refusal) = script::read(&DOCUMENT_TEMPLATE, words) {
+        panic!("a script is turned down, {refusal}");
+    }
+}
+
+#[test]
+fn script_20_to_22_its_counts() {
+    script_refused(&[], 20, 0);
+    script_refused(&[1025], 20, 0);
+    script_accepted(&[1024, 0]);
+    script_refused(&[1025, 8193], 21, 0);
+    script_refused(&[1024, 8193], 22, 1);
+    script_refused(&[1, 1], 20, 0);
+    script_refused(&[1, 1, 0, 0], 20, 0);
+    script_refused(&[1, 1, 0, 0, 0, 0], 20, 0);
+    script_refused(&[1, 0, 9], 20, 0);
+    let mut words = vec![1024, 8192];
+    for link in 0..8192 {
+        words.extend([link / 16, 1, link % 16]);
+    }
+    script_accepted(&words);
+    words[1] = 8193;
+    words.extend([1023, 1, 1023]);
+    script_refused(&words, 22, 1);
+}
+
+#[test]
+fn script_23_to_25_its_links() {
+    script_accepted(&[2, 1, 1, 1, 1]);
+    script_refused(&[2, 1, 2, 2, 2], 23, 2);
+    script_refused(&[2, 1, 1, 2, 2], 24, 3);
+    script_refused(&[2, 1, 1, 1, 2], 23, 4);
+    script_refused(&[0, 1, 0, 0, 0], 23, 2);
+    script_accepted(&[2, 3, 0, 0, 1, 0, 1, 0, 1, 0, 0]);
+    script_refused(&[2, 2, 0, 1, 0, 0, 0, 1], 25, 5);
+    script_refused(&[2, 2, 1, 0, 0, 0, 1, 1], 25, 5);
+    script_refused(&[2, 2, 0, 0, 1, 0, 0, 0], 25, 5);
+    // A link's words come before its order.
+    script_refused(&[2, 2, 1, 0, 0, 0, 0, 2], 23, 7);
+    // A link out of order comes before a later link's words.
+    script_refused(&[2, 3, 1, 0, 0, 0, 0, 0, 9, 9, 9], 25, 5);
+    // The template comes first.
+    assert_eq!(script::read(&[1], &[]).map(|_| ()), Err(Refusal::at(1, 0)));
+}
+
+#[test]
+fn bookings_30_to_33_and_the_grid_40() {
+    let book = |words: &[u16], size: usize| {
+        let mut grid = vec![7; size];
+        let answer = smallest(&DOCUMENT_TEMPLATE, &DOCUMENT_SCRIPT, words, &mut grid);
+        if answer.is_err() {
+            assert!(grid.iter().all(|byte| *byte == 7), "a refusal changed the grid");
+        }
+        answer
+    };
+    assert_eq!(book(&[0], 6), Ok(Smallest::Pairs(0)));
+    assert_eq!(book(&[], 6), Err(Refusal::at(30, 0)));
+    assert_eq!(book(&[1025], 6), Err(Refusal::at(31, 0)));
+    assert_eq!(book(&[1024], 6), Err(Refusal::at(30, 0)));
+    assert_eq!(book(&[0, 0], 6), Err(Refusal::at(30, 0)));
+    assert_eq!(book(&[1, 2], 6), Err(Refusal::at(30, 0)));
+    let many = [vec![1024], [2, 1].repeat(1024)].concat();
+    assert_eq!(book(&many, 6), Ok(Smallest::Pairs(1)));
+    assert_eq!(book(&[1, 3, 2], 5), Err(Refusal::at(32, 1)));
+    assert_eq!(book(&[1, 2, 2], 5), Err(Refusal::at(33, 2)));
+    assert_eq!(book(&[2, 2, 1, 2, 2], 5), Err(Refusal::at(33, 4)));
+    assert_eq!(book(&[2, 2, 2, 3, 1], 5), Err(Refusal::at(33, 2)));
+    for size in [5, 7] {
+        assert_eq!(book(&[1, 0, 0], size), Err(Refusal::at(40, 0)));
+    }
+    for method in [largest, largest_by_rounds] {
+        let mut grid = [7; 5];
+        let answer = method(&DOCUMENT_TEMPLATE, &DOCUMENT_SCRIPT, &mut grid);
+        assert_eq!((answer, grid), (Err(Refusal::at(40, 0)), [7; 5]));
+    }
+}
+
+#[test]
+fn sheet_60_the_length_of_the_input() {
+    let whole = document(&[1, 2, 1]).bytes();
+    for length in 0..whole.len() {
+        assert_eq!(sheet::print(&whole[..length]), "refused 60 0\n", "{length} bytes");
+    }
+    for more in 1..5 {
+        assert_eq!(
+            sheet::print(&[whole.clone(), vec![0; more]].concat()),
+            "refused 60 0\n"
+        );
+    }
+    // 65,536 bytes are no fault in themselves; two more are, even if template and script are wrong too.
+    let mut long = document(&[1]);
+    long.bookings.resize(MOST_BYTES / 2 - 3 - 15 - 11, 0);
+    assert_eq!(long.bytes().len(), MOST_BYTES);
+    assert_eq!(sheet::print(&long.bytes()), "refused 30 0\n");
+    long.bookings.push(0);
+    assert_eq!(sheet::print(&long.bytes()), "refused 60 0\n");
+    long.template[0] = 0;
+    assert_eq!(sheet::print(&long.bytes()), "refused 60 0\n");
+}
+
+#[test]
+fn sheet_order_of_the_files() {
+    let mut files = document(&[1, 3, 0]);
+    assert_eq!(sheet::print(&files.bytes()), "refused 32 1\n");
+    files.script[0] = 2;
+    assert_eq!(sheet::print(&files.bytes()), "refused 23 4\n");
+    files.template[5] = 255;
+    assert_eq!(sheet::print(&files.bytes()), "refused 5 5\n");
+    files.template.clear();
+    assert_eq!(sheet::print(&files.bytes()), "refused 1 0\n");
+    assert_eq!(sheet::print(&[0; 6]), "refused 1 0\n");
+}
