@@ -4,3 +4,4 @@ pub mod Names
 pub mod Boards
 pub mod Needs
 pub mod Indexes
+pub mod Tallies

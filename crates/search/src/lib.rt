@@ -7,6 +7,7 @@ ghost use Rattle.board.specs.Grid.{on, Marks};
 ghost use Rattle.board.specs.Work.{work, Room, Swept};
 ghost use Rattle.board.specs.Listing.{Listed};
 ghost use Rattle.search.specs.Needs.{boardOf};
+ghost use Rattle.search.specs.Tally.{closed};
 ghost use Rattle.search.specs.Search.{Ready, entryKey, NameIndex, LinkIndex, Starts, NamedGood, TargetGood, CardGood, Searched, Followed};
 use board::list_off;
 use board::strike_one;
@@ -122,7 +123,27 @@ fn strike_target(
     end
 }
 
-// Strikes rounds from the pairs in the grid, those whose counts fit, until one strikes nothing.
+// The thin round closer brings the lent tally up to date: one round more, and the pairs struck so far.
+fn close_round(tally: &mut Tally, struck: usize)
+    requires { ⌜ now tally .rounds < 65536 ⌝ }
+    ensures { λ _. ⌜ now (tally .exit) ≡ closed (now (tally .entry)) struck ⌝ }
+{
+    tally.rounds = tally.rounds + 1;
+    tally.struck = struck;
+}
+
+// The tally after one more round. Lends its own copy to the closer, so that a loop can keep its tally by value.
+fn after_round(tally: Tally, struck: usize) -> Tally
+    requires { ⌜ tally .rounds < 65536 ⌝ }
+    ensures { λ r. ⌜ r ≡ closed tally struck ⌝ }
+{
+    let mut current = tally;
+    close_round(&mut current, struck);
+    current
+}
+
+// Strikes rounds from the pairs in the grid, those whose counts fit, until one strikes nothing. The tally has the rounds
+// that are closed: where the head has come to their last strike, another round is over, as is the one at the end.
 pub fn strike_rounds(
     script: &[u16],
     first: &[u16],
@@ -139,12 +160,14 @@ pub fn strike_rounds(
 {
     let mut tail = list_off(grid, queue);
     let mut head = 0;
-    let mut end = 0;
-    let mut round = 0;
+    let mut tally = Tally {
+        rounds: 0,
+        struck: 0,
+    };
     while head < tail {
+        let end = tally.struck;
         if head == end {
-            round += 1;
-            end = tail;
+            tally = after_round(tally, tail);
         }
         let q = wide(queue[head]);
         tail = strike_target(
@@ -163,10 +186,7 @@ pub fn strike_rounds(
         );
         head += 1;
     }
-    Tally {
-        rounds: round + 1,
-        struck: tail,
-    }
+    after_round(tally, tail)
 }
 
 // Strikes what the links lo up to hi of a card lead to from its shape t.

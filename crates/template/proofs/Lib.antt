@@ -1,8 +1,10 @@
 -- Laws: a part by its code. Trees: what a part that was read obeys. ShapeLaws: shapes and the template.
--- Table: how the table of names is filled. Accepted: an accepted template. Answers: no choice, and the sample.
+-- Readers: what the contracts over a reader say. Table: how the table of names is filled. Accepted: an accepted
+-- template. Answers: no choice, and the sample.
 pub mod Laws
 pub mod Trees
 pub mod ShapeLaws
+pub mod Readers
 pub mod Table
 pub mod Accepted
 pub mod Answers

@@ -21,6 +21,12 @@ pub struct Sizes {
     pub shapes: u16,
 }
 
+// A template's words and the next place to read.
+pub struct Reader<'a> {
+    pub words: &'a [u16],
+    pub at: usize,
+}
+
 // The next place after what was read, or the refusal's number and place.
 pub enum Read {
     Next(usize),
@@ -149,7 +155,7 @@ fn run(
 }
 
 // The shape whose count of words stands at `at`. The row then has the shape that it names for each label.
-fn one_shape(words: &[u16], at: usize, sizes: Sizes, row: &mut [u8]) -> Read
+fn shape_at(words: &[u16], at: usize, sizes: Sizes, row: &mut [u8]) -> Read
     requires { ⌜ (sizes .kinds ≤ 64) × (sizes .shapes ≤ 32) × (now row ≡ noNames) ⌝ }
     ensures read { λ r. ⌜ r ≡ resultRead (readShape sizes (now (words .entry)) at) ⌝ }
     ensures names { λ r. ⌜ ((p : Part) (n : ℕ) → readShape sizes (now (words .entry)) at ≡ ok p n → (k : ℕ) → getD (now (row .exit)) k 0 ≡ named p k) ⌝ }
@@ -174,6 +180,24 @@ fn one_shape(words: &[u16], at: usize, sizes: Sizes, row: &mut [u8]) -> Read
         }
         Read::Refused(number, place) => Read::Refused(number, place),
     }
+}
+
+// The shape at a reader's place. The reader is taken apart.
+fn read_shape(reader: Reader, sizes: Sizes, row: &mut [u8]) -> Read
+    requires { ⌜ (sizes .kinds ≤ 64) × (sizes .shapes ≤ 32) × (now row ≡ noNames) ⌝ }
+    ensures read { λ r. ⌜ r ≡ resultRead (readShape sizes (now (reader .entry .words)) (reader .entry .at)) ⌝ }
+    ensures names { λ r. ⌜ ((p : Part) (n : ℕ) → readShape sizes (now (reader .entry .words)) (reader .entry .at) ≡ ok p n → (k : ℕ) → getD (now (row .exit)) k 0 ≡ named p k) ⌝ }
+{
+    shape_at(reader.words, reader.at, sizes, row)
+}
+
+// Makes the reader for the shape at `at`: who calls this one needs no reader.
+fn one_shape(words: &[u16], at: usize, sizes: Sizes, row: &mut [u8]) -> Read
+    requires { ⌜ (sizes .kinds ≤ 64) × (sizes .shapes ≤ 32) × (now row ≡ noNames) ⌝ }
+    ensures read { λ r. ⌜ r ≡ resultRead (readShape sizes (now (words .entry)) at) ⌝ }
+    ensures names { λ r. ⌜ ((p : Part) (n : ℕ) → readShape sizes (now (words .entry)) at ≡ ok p n → (k : ℕ) → getD (now (row .exit)) k 0 ≡ named p k) ⌝ }
+{
+    read_shape(Reader { words, at }, sizes, row)
 }
 
 // All shapes, and then the template's end. A table that is all 0 gets a row of 64 for each shape.

@@ -8,13 +8,14 @@ use native.Mathlib.Numerals.{add-one}
 use lib.ListN.{length, getD}
 use denote.Ref.{now}
 use borrow.Author.Needs.{needs}
-use Rattle.board.specs.Grid.{Marks}
+use Rattle.board.specs.Grid.{on, Marks}
 use Rattle.board.specs.Work.{work, Swept}
 use Rattle.board.proofs.Worklist.{swept-marks}
 use Rattle.board.proofs.Search.{Searching, search-start, search-tail, search-round, search-head, search-room}
 use Rattle.board.proofs.Search.{search-level, search-turn, search-next, search-done}
+use Rattle.search.specs.declared.Tally.{Tally}
 use Rattle.search.specs.Needs.{boardOf}
-use Rattle.search.specs.Search.{TargetGood}
+use Rattle.search.specs.Search.{TargetGood, Searched}
 use Rattle.search.proofs.Places.{card-in, shape-in}
 use Rattle.search.proofs.Boards.{pairs-bound, board-inside}
 use Rattle.search.proofs.Needs.{needing-in, target-exact}
@@ -22,14 +23,14 @@ use Rattle.search.proofs.strike_rounds.Statement.{statement}
 use Rattle.search.proofs.strike_rounds.Tie as tie
 
 abbrev Inv-loop : tie.InvT-loop
-Inv-loop script first next names shapes named alike grid₀ queue₀ tail₀ head₀ end₀ round₀ grid queue tail head end
-    round =
+Inv-loop script first next names shapes named alike grid₀ queue₀ tail₀ head₀ tally₀ grid queue tail head tally =
     (length grid₀ ≤ length queue₀)
-    × Searching (boardOf script names shapes grid₀) (length queue₀) (work grid queue tail) head end round
+    × Searching (boardOf script names shapes grid₀) (length queue₀) (work grid queue tail) head
+    (tally .struck) (tally .rounds)
     × (Marks grid₀ → Marks grid)
 
 abbrev μ-loop : tie.MeasureT-loop
-μ-loop script first next names shapes named alike grid₀ queue₀ tail₀ head₀ end₀ round₀ grid queue tail head end round =
+μ-loop script first next names shapes named alike grid₀ queue₀ tail₀ head₀ tally₀ grid queue tail head tally =
     length grid₀ - head
 
 -- where the queue is listed, the function's entry, and the queue as the loop begins
@@ -55,26 +56,26 @@ few-pairs : (l : tie.At-loop Inv-loop μ-loop) → let s = Start l in
     getD (now (s .args .script)) 0 0 * s .args .shapes ≤ 32768
 few-pairs l = pairs-bound (Start l .pre .0)
 
--- past the branch the head is within the level
-joined : (c : tie.Joined1 Inv-loop μ-loop) → let l = c .before .before in let s = Start l in
+-- the search stands where the loop does, the tally has the closed rounds, and the head is within the level
+abbrev Within : tie.At-loop Inv-loop μ-loop → Tally → Type 0
+Within l tally =
+    let s = Start l in
     Searching (boardOf (now (s .args .script)) (now (s .args .names)) (s .args .shapes) (now (s .args .grid)))
     (length (Queue l)) (work (l .loop .grid) (l .loop .queue) (l .loop .tail))
-    (l .loop .head) (c .if1 .end) (c .if1 .round)
-    × (l .loop .head < c .if1 .end)
+    (l .loop .head) (tally .struck) (tally .rounds)
+    × (l .loop .head < tally .struck)
+
+-- so it is past the branch
+joined : (c : tie.Joined1 Inv-loop μ-loop) → Within (c .before .before) (c .if1 .tally)
 joined c =
     let i = c .before in
     let l = i .before in
     let s = Start l in
     let inside = board-inside (s .pre .0) (now (s .args .grid)) in
-    let so-far = l .loop .inv .1 in ⊎-elim
-    (λ w. (
-      rw (w .1, w .2) (search-next so-far inside (i .loop-test .taken) (w .0 .taken)),
-      omega (arith, w .1, i .loop-test .taken),
-    ))
-    (λ w. (
-      rw (w .1, w .2) so-far,
-      omega (arith, w .1, search-level so-far (i .loop-test .taken) (w .0 .left)),
-    ))
+    let so-far = l .loop .inv .1 in
+    let more = i .loop-test .taken in ⊎-elim
+    (λ w. subst (Within l) (sym (w .2 ∙ w .1 .ensures)) (search-next so-far inside more (w .0 .taken), more))
+    (λ w. subst (Within l) (sym (w .1)) (so-far, search-level so-far more (w .0 .left)))
     (c .if1 .came)
 
 list-off-requires : tie.Need-list-off-requires Inv-loop μ-loop
@@ -92,8 +93,8 @@ loop-holds c =
       λ m. m,
     )
 
-add-round : tie.Need-add-round Inv-loop μ-loop
-add-round c = let l = c .before .before in omega (arith, search-round (l .loop .inv .1), few-pairs l)
+after-round-requires : tie.Need-after-round-requires Inv-loop μ-loop
+after-round-requires c κs = let l = c .before .before in omega (arith, search-round (l .loop .inv .1), few-pairs l)
 
 mul-wide : tie.Need-mul-wide Inv-loop μ-loop
 mul-wide c =
@@ -164,24 +165,29 @@ loop-again c =
       λ m. swept-marks swept (l .loop .inv .2 m),
     )
 
-add-t28 : tie.Need-add-t28 Inv-loop μ-loop
-add-t28 c = let l = c .before in omega (arith, search-round (l .loop .inv .1), few-pairs l)
+after-round-requires-2 : tie.Need-after-round-requires-2 Inv-loop μ-loop
+after-round-requires-2 c κs = let l = c .before in omega (arith, search-round (l .loop .inv .1), few-pairs l)
 
 same-length : tie.Need-same-length Inv-loop μ-loop
-same-length c = c .before .loop .inv .1 .full ∙ sym (Start (c .before) .pre .3)
+same-length c = let l = c .before .before in l .loop .inv .1 .full ∙ sym (Start l .pre .3)
 
 same-length-2 : tie.Need-same-length-2 Inv-loop μ-loop
-same-length-2 c = c .before .loop .inv .1 .space ∙ c .before .before .before .before .list-off .kept .1 .0
+same-length-2 c =
+    let l = c .before .before in l .loop .inv .1 .space ∙ l .before .before .before .list-off .kept .1 .0
 
+-- the round that strikes none is closed like the others
 returns : tie.Need-returns Inv-loop μ-loop
 returns c =
-    let l = c .before in
-    let s = Start l in (
-      record {
-        striking = l .loop .round;
-        counted = add-one (l .loop .round);
-        finished = search-done (l .loop .inv .1) (board-inside (s .pre .0) (now (s .args .grid))) (c .loop-test .left);
-      },
+    let l = c .before .before in
+    let s = Start l in
+    let grid = now (s .args .grid) in
+    let board = boardOf (now (s .args .script)) (now (s .args .names)) (s .args .shapes) grid in (
+      subst (λ (t : Tally). Searched board (on (l .loop .grid)) (t .rounds) (t .struck))
+          (sym (c .after-round2 .ensures)) (record {
+            striking = l .loop .tally .rounds;
+            counted = add-one (l .loop .tally .rounds);
+            finished = search-done (l .loop .inv .1) (board-inside (s .pre .0) grid) (c .before .loop-test .left);
+          }),
       l .loop .inv .1 .full ∙ sym (s .pre .3),
       l .loop .inv .2,
     )
@@ -194,7 +200,7 @@ strike-rounds-spec =
     μ-loop
     list-off-requires
     loop-holds
-    add-round
+    after-round-requires
     mul-wide
     slice-read-wide
     wide-requires
@@ -204,7 +210,7 @@ strike-rounds-spec =
     add-head
     loop-less
     loop-again
-    add-t28
+    after-round-requires-2
     same-length
     same-length-2
     returns)
