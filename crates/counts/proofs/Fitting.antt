@@ -1,5 +1,4 @@
 -- What "Fit counts" answers, by its returns, and that it has no choice.
--- reads-turned-down, reads-accepted   what the answer of reading the template says of its reading
 -- shape-fits                          what the test of `fits` decides, for a shape of an accepted template
 -- fits-asks                           what `fits` asks, for a shape of an accepted template and its row of names
 -- fit-…                               the answer at each return, with what leads there as premises
@@ -15,6 +14,7 @@ use native.Mathlib.Omega.{arith}
 use borrow.Author.Tests.{le-leb, lt-leb, eq-eqb, ne-eqb}
 use lib.ListN.{length, getD, take, drop, length-drop}
 use lib.Seq.{length-take-le, getD-take, getD-drop}
+use Rattle.template.proofs.Answers.{template-read, template-turned}
 use Rattle.bags.specs.Part.{Part, named}
 use Rattle.bags.specs.Bag.{Fits}
 use Rattle.bags.specs.Interval.{count, fits}
@@ -29,39 +29,6 @@ use Rattle.counts.specs.Fit.{Question, turnedDown, ask, FirstOver, fitQu
 use Rattle.counts.specs.Trees.{treeAt}
 use Rattle.counts.proofs.Agreement.{shape-tree}
 use Rattle.counts.proofs.Counts.{over-place, over-none}
-
--- The reading behind a refusal, and behind two counts.
-pub reads-turned-down :
-    (words : List ℕ) (number place : ℕ) → refusal number (place ∷ []) ≡ templateSays words →
-    readTemplate words ≡ TemplateReading.turnedDown number place
-unfolding templateSays
-reads-turned-down words number place e = by-reading (readTemplate words) refl
-  where
-    by-reading :
-        (r : TemplateReading) → readTemplate words ≡ r → readTemplate words ≡ TemplateReading.turnedDown number place
-    by-reading (TemplateReading.accepted k s trees) q =
-        absurd (let f = e ∙ ap templateAnswer q in let z : _≡_ {A = ℕ} 0 1 = cc in omega arith)
-    by-reading (TemplateReading.turnedDown n p) q =
-        let f = e ∙ ap templateAnswer q in
-        let i : number ≡ n = cc in
-        let j : place ≡ p = cc in
-        rw (i, j) q
-
-pub reads-accepted :
-    (words : List ℕ) (L S : ℕ) → values (L ∷ S ∷ []) ≡ templateSays words →
-    (trees : List Part) × (readTemplate words ≡ accepted L S trees)
-unfolding templateSays
-reads-accepted words L S e = by-reading (readTemplate words) refl
-  where
-    by-reading :
-        (r : TemplateReading) → readTemplate words ≡ r → (trees : List Part) × (readTemplate words ≡ accepted L S trees)
-    by-reading (TemplateReading.accepted k s trees) q =
-        let f = e ∙ ap templateAnswer q in
-        let i : L ≡ k = cc in
-        let j : S ≡ s = cc in
-        (trees, rw (i, j) q)
-    by-reading (TemplateReading.turnedDown n p) q =
-        absurd (let f = e ∙ ap templateAnswer q in let z : _≡_ {A = ℕ} 0 1 = cc in omega arith)
 
 module _ (words : List ℕ) (L S : ℕ) (trees : List Part) (e : readTemplate words ≡ accepted L S trees) (t : ℕ)
     (below : t < S)
@@ -107,18 +74,18 @@ module _ (words : List ℕ) (shape : ℕ) (counts : List ℕ) where
       (number place : ℕ) → refusal number (place ∷ []) ≡ templateSays words →
       FitSays words shape counts (refusal number (place ∷ []))
   unfolding fitQuestion
-  fit-template number place e = rw (reads-turned-down words number place e)
+  fit-template number place e = rw (template-turned words number place e)
 
   module _ (L S : ℕ) (read : values (L ∷ S ∷ []) ≡ templateSays words) where
     -- "42 shape not below S, place 0."
     pub fit-shape : S ≤ shape → FitSays words shape counts (refusal 42 (0 ∷ []))
     unfolding fitQuestion
-    fit-shape h = rw (reads-accepted words L S read .1, le-leb S shape h)
+    fit-shape h = rw (template-read words L S read .1, le-leb S shape h)
 
     -- "41 not L counts, place 0."
     pub fit-length : shape < S → (length counts ≡ L → ⊥) → FitSays words shape counts (refusal 41 (0 ∷ []))
     unfolding fitQuestion
-    fit-length h d = rw (reads-accepted words L S read .1, lt-leb S shape h, ne-eqb (length counts) L d)
+    fit-length h d = rw (template-read words L S read .1, lt-leb S shape h, ne-eqb (length counts) L d)
 
     module _ (below : shape < S) (all : length counts ≡ L) (place : ℕ) (first : FirstOver counts place) where
       -- "43 a count over 8,192, at the first."
@@ -127,7 +94,7 @@ module _ (words : List ℕ) (shape : ℕ) (counts : List ℕ) where
       fit-over h =
           let q : 0 + place ≡ place = omega arith in
           rw (
-            reads-accepted words L S read .1,
+            template-read words L S read .1,
             lt-leb S shape below,
             eq-eqb (length counts) L all,
             over-place counts place 0 _ first h,
@@ -156,13 +123,13 @@ module _ (words : List ℕ) (shape : ℕ) (counts : List ℕ) where
         where
           pub fit-yes : r ≡ true → FitSays words shape counts (fitSaid Yes)
           fit-yes h =
-              let (trees, e) = reads-accepted words L S read in
+              let (trees, e) = template-read words L S read in
               fit-asked trees Yes e small
               (inl (shape-fits words L S trees e shape below counts at where-at .1 (sym test ∙ h), refl))
 
           pub fit-no : r ≡ false → FitSays words shape counts (fitSaid No)
           fit-no h =
-              let (trees, e) = reads-accepted words L S read in
+              let (trees, e) = template-read words L S read in
               fit-asked trees No e small
               (inr
               (λ f. true≢false (sym (shape-fits words L S trees e shape below counts at where-at .0 f) ∙ sym test ∙ h), refl))

@@ -18,7 +18,8 @@ use borrow.Author.Tests.{le-leb, lt-leb, lt-ltb, le-ltb, eq-eqb, ne-eqb, leb-fal
 use Rattle.template.specs.Reading.{pick}
 use Rattle.script.specs.Link.{fromAt, kindAt, toAt, above, Ascending}
 use Rattle.script.specs.declared.LinkTest.{LinkTest}
-use Rattle.script.specs.Script.{ScriptReading, accepted, turnedDown, afterLink, readLinks, readScript}
+use Rattle.script.specs.Script.{ScriptReading, accepted, turnedDown, readLinks, readScript}
+use Rattle.script.specs.Steps.{afterLink}
 use Rattle.script.proofs.Order.{StartsRise, starts-rise}
 
 -- One link's test.

@@ -9,15 +9,13 @@ use mathlib.Core.List.{List, [], _∷_}
 use native.Mathlib.Omega.{arith}
 use borrow.Author.Tests.{lt-ltb, le-ltb}
 use Rattle.template.specs.Answer.{values, refusal}
+use Rattle.template.proofs.Answers.{values-refusal}
+use Rattle.script.proofs.Answers.{script-read}
 use Rattle.template.specs.Template.{TemplateReading, readTemplate, templateAnswer, templateSays}
 use Rattle.script.specs.Link.{cardWords}
 use Rattle.script.specs.Script.{ScriptReading, accepted, turnedDown, readScript, scriptAnswer, withTemplate}
 use Rattle.script.specs.Script.{scriptSays, linksOf, cardLinks}
 use Rattle.script.proofs.Reading.{Accepted, script-accepted}
-
--- Values are no refusal.
-values-refusal : {A : Type 0} {xs places : List ℕ} {number : ℕ} → values xs ≡ refusal number places → A
-values-refusal e = let z : _≡_ {A = ℕ} 0 1 = cc in absurd (omega arith)
 
 counts-of : (script : List ℕ) (kinds shapes : ℕ) (t : TemplateReading)
     → values (kinds ∷ shapes ∷ []) ≡ templateAnswer t
@@ -50,10 +48,6 @@ pub record BothRead (template script : List ℕ) (N M : ℕ) : Type 0 where
   pub reading : withTemplate (readTemplate template) script ≡ accepted N M
   pub read : Accepted kinds script N M
 
-answer-accepted : (r : ScriptReading) (N M : ℕ) → values (N ∷ M ∷ []) ≡ scriptAnswer r → r ≡ accepted N M
-answer-accepted (accepted n m) N M e = let p : n ≡ N = cc in let q : m ≡ M = cc in rw (p, q) refl
-answer-accepted (turnedDown number place) N M e = values-refusal e
-
 kinds-of : (script : List ℕ) (N M : ℕ) (t : TemplateReading) → withTemplate t script ≡ accepted N M
     → (kinds : ℕ) × (readScript kinds script ≡ accepted N M)
 kinds-of script N M (TemplateReading.accepted k s trees) e = (k, e)
@@ -63,7 +57,7 @@ pub both-read : (template script : List ℕ) (N M : ℕ) → values (N ∷ M ∷
     → BothRead template script N M
 unfolding scriptSays
 both-read template script N M e =
-    let reading = answer-accepted (withTemplate (readTemplate template) script) N M e in
+    let reading = script-read (withTemplate (readTemplate template) script) N M e in
     let (kinds, a) = kinds-of script N M (readTemplate template) reading in
     record { kinds = kinds; reading = reading; read = script-accepted kinds script N M a }
 

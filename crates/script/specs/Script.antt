@@ -1,6 +1,5 @@
 -- What reading a script with a template finds (document 01, "Script", "Read a script" and "Links of a card").
 -- readLinks, readScript   the counts of cards and links, or the first refusal
--- afterLink               what the code's test of one link makes of the reading
 -- scriptSays              what document 01 has "Read a script" say
 -- cardLinks               the words that "Links of a card" gives
 -- Assumes nothing.
@@ -11,7 +10,6 @@ use lib.Dec.{ltb, leb, eqb}
 use Rattle.template.specs.Answer.{Said, values, refusal}
 use Rattle.template.specs.Reading.{pick}
 use Rattle.template.specs.Template.{TemplateReading, readTemplate}
-use Rattle.script.specs.declared.LinkTest.{LinkTest}
 use Rattle.script.specs.Link.{fromAt, kindAt, toAt, above, cardWords}
 
 -- N and M, or the first refusal.
@@ -28,11 +26,6 @@ readLinks kinds cards script (suc n) i done =
     (pick (leb kinds (kindAt script i)) (turnedDown 24 (3 + 3 * i))
     (pick (leb cards (toAt script i)) (turnedDown 23 (4 + 3 * i))
     (pick (above script i) (readLinks kinds cards script n (suc i) done) (turnedDown 25 (2 + 3 * i)))))
-
--- Where the code's test of a link passes, what follows; else the refusal that it found.
-abbrev pub afterLink : LinkTest → ScriptReading → ScriptReading
-afterLink LinkTest.Passed rest = rest
-afterLink (LinkTest.Refused number place) rest = turnedDown number place
 
 -- "20 under 2 words, place 0; 21 N; 22 M; 20 if not 2 + 3M words", for a template with so many kinds.
 unfoldable pub readScript : ℕ → List ℕ → ScriptReading

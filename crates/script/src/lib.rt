@@ -6,7 +6,8 @@ ghost use Prim.Native.Nat.{ℕ, suc, _+_, _*_, _≤_, _<_};
 ghost use lib.ListN.{length, getD};
 ghost use Rattle.script.specs.Link.{kindAt, toAt, greater, above, Ascending, cardWords, below, kindCount};
 ghost use Rattle.script.specs.Answer.{scriptSaid};
-ghost use Rattle.script.specs.Script.{ScriptReading, accepted, afterLink, readLinks, readScript};
+ghost use Rattle.script.specs.Script.{ScriptReading, accepted, readLinks, readScript};
+ghost use Rattle.script.specs.Steps.{afterLink};
 ghost use Rattle.script.specs.Script.{scriptAnswer, scriptSays, cardLinks};
 ghost use Rattle.script.specs.Chain.{Chained};
 

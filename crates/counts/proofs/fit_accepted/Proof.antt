@@ -4,7 +4,8 @@ use Prim.Native.Nat.{_+_, _-_, _*_, _≤_, _<_}
 use mathlib.Core.Path.{_≡_}
 use lib.ListN.{length}
 use Rattle.template.proofs.Accepted.{template-accepted}
-use Rattle.counts.proofs.Fitting.{reads-accepted, fits-asks, fit-shape, fit-length, fit-over, fit-yes, fit-no}
+use Rattle.template.proofs.Answers.{template-read}
+use Rattle.counts.proofs.Fitting.{fits-asks, fit-shape, fit-length, fit-over, fit-yes, fit-no}
 use borrow.Author.Needs.{needs}
 use Rattle.counts.proofs.fit_accepted.Statement.{statement}
 use Rattle.counts.proofs.fit_accepted.Tie as tie
@@ -57,14 +58,14 @@ part-fits-start c = search needs
 part-fits-end : tie.Need-part-fits-end
 part-fits-end c =
     let start = c .before .before .before .before .before .before .before .before .before .before in
-    let (trees, e) = reads-accepted _ _ _ (start .pre .0) in
+    let (trees, e) = template-read _ _ _ (start .pre .0) in
     let high = template-accepted _ _ _ trees e .shapes-high in
     omega arith
 
 fits-requires : tie.Need-fits-requires
 fits-requires c κs =
     let start = c .before .before .before .before .before .before .before .before .before .before .before in
-    let (trees, e) = reads-accepted _ _ _ (start .pre .0) in
+    let (trees, e) = template-read _ _ _ (start .pre .0) in
     let below : start .args .shape .0 < start .args .shapes = omega arith in
     let all : length (start .args .counts .now) ≡ start .args .kinds = omega arith in
     let row = c .before .before .wide2 .result * 64 in
