@@ -1,0 +1,301 @@
+// The operations of document 01 for C and Rust, on words and bytes that the caller lends. An answer is a struct of plain
+// numbers: number is 0 where nothing is refused, and what an answer does not say is 0.
+ghost use mathlib.Core.Path.{_≡_};
+ghost use lib.ListN.{length};
+ghost use Rattle.template.specs.Template.{templateSays};
+ghost use Rattle.counts.specs.Fit.{FitSays};
+ghost use Rattle.script.specs.Script.{scriptSays, cardLinks};
+ghost use Rattle.typing.specs.Calls.{LargestSays, SmallestSays, BothSays};
+ghost use Rattle.capi.specs.Numbers.{Zeros, copied, templateSaid, templateRest, fitSaid, fitRest, scriptSaid};
+ghost use Rattle.capi.specs.Numbers.{scriptRest, largestSaid, largestRest, smallestSaid, smallestRest, bothSaid};
+ghost use Rattle.capi.specs.Numbers.{bothRest};
+use calls::both_typings;
+use calls::largest;
+use calls::smallest;
+use counts::FitAnswer;
+use counts::fit_counts;
+use script::Card;
+use script::ScriptAnswer;
+use script::links_of_card;
+use script::read_script;
+use template::Shape;
+use template::TemplateAnswer;
+use template::read_template;
+use typing::BothAnswer;
+use typing::LargestAnswer;
+use typing::SmallestAnswer;
+
+// A template's counts of kinds and of shapes; or a refusal's number and place.
+#[repr(C)]
+pub struct PrepTemplate {
+    pub number: u16,
+    pub kinds: u16,
+    pub shapes: u16,
+    pub place: usize,
+}
+
+// Whether counts fit, 1 or 0; or a refusal's number and place.
+#[repr(C)]
+pub struct PrepFit {
+    pub number: u16,
+    pub fits: u16,
+    pub place: usize,
+}
+
+// A script's counts of cards and of links; or a refusal's number and place.
+#[repr(C)]
+pub struct PrepScript {
+    pub number: u16,
+    pub cards: u16,
+    pub links: u16,
+    pub place: usize,
+}
+
+// The largest typing's rounds, pairs struck and cards with no shape; or a refusal's number and place.
+#[repr(C)]
+pub struct PrepLargest {
+    pub number: u16,
+    pub place: usize,
+    pub rounds: usize,
+    pub struck: usize,
+    pub bare: usize,
+}
+
+// The smallest typing's pairs; or 50 with a card and a shape; or another refusal's number and place.
+#[repr(C)]
+pub struct PrepSmallest {
+    pub number: u16,
+    pub card: u16,
+    pub shape: u16,
+    pub place: usize,
+    pub pairs: usize,
+}
+
+// The numbers of both typings; with 50 those of the largest, a card and a shape; or another refusal's number and place.
+#[repr(C)]
+pub struct PrepBoth {
+    pub number: u16,
+    pub card: u16,
+    pub shape: u16,
+    pub place: usize,
+    pub rounds: usize,
+    pub struck: usize,
+    pub bare: usize,
+    pub pairs: usize,
+}
+
+// Read a template.
+#[no_mangle]
+pub extern "C" fn prep_read_template(template: &[u16]) -> PrepTemplate
+    ensures says { λ r. ⌜ templateSaid r ≡ templateSays (now (template .entry)) ⌝ }
+    ensures rest { λ r. ⌜ Zeros (templateRest r) ⌝ }
+{
+    let answer = read_template(template);
+    match answer {
+        TemplateAnswer::Counts(kinds, shapes) => PrepTemplate {
+            number: 0,
+            kinds,
+            shapes,
+            place: 0,
+        },
+        TemplateAnswer::Refused(number, place) => PrepTemplate {
+            number,
+            kinds: 0,
+            shapes: 0,
+            place,
+        },
+    }
+}
+
+// Fit counts.
+#[no_mangle]
+pub extern "C" fn prep_fit_counts(template: &[u16], shape: u16, counts: &[u16]) -> PrepFit
+    ensures says { λ r. ⌜ FitSays (now (template .entry)) shape (now (counts .entry)) (fitSaid r) ⌝ }
+    ensures rest { λ r. ⌜ Zeros (fitRest r) ⌝ }
+{
+    let answer = fit_counts(template, Shape(shape), counts);
+    match answer {
+        FitAnswer::Yes => PrepFit {
+            number: 0,
+            fits: 1,
+            place: 0,
+        },
+        FitAnswer::No => PrepFit {
+            number: 0,
+            fits: 0,
+            place: 0,
+        },
+        FitAnswer::Refused(number, place) => PrepFit {
+            number,
+            fits: 0,
+            place,
+        },
+    }
+}
+
+// Read a script.
+#[no_mangle]
+pub extern "C" fn prep_read_script(template: &[u16], script: &[u16]) -> PrepScript
+    ensures says { λ r. ⌜ scriptSaid r ≡ scriptSays (now (template .entry)) (now (script .entry)) ⌝ }
+    ensures rest { λ r. ⌜ Zeros (scriptRest r) ⌝ }
+{
+    let answer = read_script(template, script);
+    match answer {
+        ScriptAnswer::Counts(cards, links) => PrepScript {
+            number: 0,
+            cards,
+            links,
+            place: 0,
+        },
+        ScriptAnswer::Refused(number, place) => PrepScript {
+            number,
+            cards: 0,
+            links: 0,
+            place,
+        },
+    }
+}
+
+// Copies words from the start of one slice to another, as many as both have.
+fn copy(from: &[u16], to: &mut [u16])
+    ensures { λ _. ⌜ now (to .exit) ≡ copied (now (from .entry)) (now (to .entry)) ⌝ }
+{
+    let mut i = 0;
+    while i < to.len() {
+        if from.len() <= i {
+            return;
+        }
+        to[i] = from[i];
+        i += 1;
+    }
+}
+
+// Links of a card: copies as many of their words as there is room for, and returns how many they are.
+#[no_mangle]
+pub extern "C" fn prep_links_of_card(
+    template: &[u16],
+    script: &[u16],
+    card: u16,
+    links: &mut [u16],
+) -> usize
+    ensures count { λ r. ⌜ r ≡ length (cardLinks (now (template .entry)) (now (script .entry)) card) ⌝ }
+    ensures words { λ _. ⌜ now (links .exit)
+        ≡ copied (cardLinks (now (template .entry)) (now (script .entry)) card) (now (links .entry)) ⌝ }
+{
+    let part = links_of_card(template, script, Card(card));
+    copy(part, links);
+    part.len()
+}
+
+// Largest.
+#[no_mangle]
+pub extern "C" fn prep_largest(template: &[u16], script: &[u16], grid: &mut [u8]) -> PrepLargest
+    ensures says { λ r. ⌜ LargestSays (now (template .entry)) (now (script .entry))
+        (now (grid .entry)) (now (grid .exit)) (largestSaid r) ⌝ }
+    ensures rest { λ r. ⌜ Zeros (largestRest r) ⌝ }
+{
+    let answer = largest(template, script, grid);
+    match answer {
+        LargestAnswer::Typed(rounds, struck, bare) => PrepLargest {
+            number: 0,
+            place: 0,
+            rounds,
+            struck,
+            bare,
+        },
+        LargestAnswer::Refused(number, place) => PrepLargest {
+            number,
+            place,
+            rounds: 0,
+            struck: 0,
+            bare: 0,
+        },
+    }
+}
+
+// Smallest.
+#[no_mangle]
+pub extern "C" fn prep_smallest(
+    template: &[u16],
+    script: &[u16],
+    bookings: &[u16],
+    grid: &mut [u8],
+) -> PrepSmallest
+    ensures says { λ r. ⌜ SmallestSays (now (template .entry)) (now (script .entry)) (now (bookings .entry))
+        (now (grid .entry)) (now (grid .exit)) (smallestSaid r) ⌝ }
+    ensures rest { λ r. ⌜ Zeros (smallestRest r) ⌝ }
+{
+    let answer = smallest(template, script, bookings, grid);
+    match answer {
+        SmallestAnswer::Pairs(pairs) => PrepSmallest {
+            number: 0,
+            card: 0,
+            shape: 0,
+            place: 0,
+            pairs,
+        },
+        SmallestAnswer::NotMet(card, shape) => PrepSmallest {
+            number: 50,
+            card: card.0,
+            shape: shape.0,
+            place: 0,
+            pairs: 0,
+        },
+        SmallestAnswer::Refused(number, place) => PrepSmallest {
+            number,
+            card: 0,
+            shape: 0,
+            place,
+            pairs: 0,
+        },
+    }
+}
+
+// Both typings.
+#[no_mangle]
+pub extern "C" fn prep_both_typings(
+    template: &[u16],
+    script: &[u16],
+    bookings: &[u16],
+    small: &mut [u8],
+    large: &mut [u8],
+) -> PrepBoth
+    ensures says { λ r. ⌜ BothSays (now (template .entry)) (now (script .entry)) (now (bookings .entry))
+        (record { small = now (small .entry); large = now (large .entry) })
+        (record { small = now (small .exit); large = now (large .exit) }) (bothSaid r) ⌝ }
+    ensures rest { λ r. ⌜ Zeros (bothRest r) ⌝ }
+{
+    let answer = both_typings(template, script, bookings, small, large);
+    match answer {
+        BothAnswer::Typed(rounds, struck, bare, pairs) => PrepBoth {
+            number: 0,
+            card: 0,
+            shape: 0,
+            place: 0,
+            rounds,
+            struck,
+            bare,
+            pairs,
+        },
+        BothAnswer::NotMet(rounds, struck, bare, card, shape) => PrepBoth {
+            number: 50,
+            card: card.0,
+            shape: shape.0,
+            place: 0,
+            rounds,
+            struck,
+            bare,
+            pairs: 0,
+        },
+        BothAnswer::Refused(number, place) => PrepBoth {
+            number,
+            card: 0,
+            shape: 0,
+            place,
+            rounds: 0,
+            struck: 0,
+            bare: 0,
+            pairs: 0,
+        },
+    }
+}
