@@ -22,7 +22,7 @@ use Rattle.template.proofs.Accepted.{template-accepted}
 use Rattle.script.proofs.Reading.{script-accepted}
 use Rattle.pairs.specs.declared.Extent.{Extent}
 use Rattle.pairs.specs.Pairs.{Opened, Tested, CardFitted, Fitted}
-use Rattle.pairs.proofs.Parts.{put-before, put-inside}
+use Rattle.template.proofs.Table.{put-before, put-inside}
 
 -- What holds before card n.
 pub record RowsFitted (template script : List ℕ) (links cards shapes : ℕ) (grid : List ℕ) (n : ℕ) : Type 0 where

@@ -4,6 +4,7 @@
 -- filling-row      the row of the next shape has no names
 -- filling-next     it holds after that shape was read into its row
 -- filling-…        one law for each answer after the loop or in it
+-- put-before, put-inside   a part of a list put back: what stands before it, and in it
 -- Assumes nothing.
 use mathlib.Core.Path.{_≡_, ap, sym, _∙_}
 use mathlib.Core.List.{List, [], _∷_}
@@ -46,13 +47,13 @@ pub record Filling (sizes : Sizes) (words names : List ℕ) (at t : ℕ) : Type 
       (s k : ℕ) → s < t → k < 64 → getD names (s * 64 + k) 0 ≡ named (getD trees s Part.nothing) k
 
 -- A part of a list put back: what stands before it, in it and after it.
-put-before :
+pub put-before :
     (a k : ℕ) (xs ys : List ℕ) (j : ℕ) → a ≤ length xs → j < a → getD (putMid a k xs ys) j 0 ≡ getD xs j 0
 put-before a k xs ys j h i =
     sym (getD-take a (putMid a k xs ys) j 0 i) ∙ ap (λ (l : List ℕ). getD l j 0) (take-put a k xs ys h)
     ∙ getD-take a xs j 0 i
 
-put-inside :
+pub put-inside :
     (a k : ℕ) (xs ys : List ℕ) (j : ℕ) → a ≤ length xs → j < length ys →
     getD (putMid a k xs ys) (a + j) 0 ≡ getD ys j 0
 put-inside a k xs ys j h i =
