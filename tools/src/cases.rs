@@ -20,6 +20,31 @@ pub fn write(folder: &Path, seed: u64, count: usize) -> Result<(), String> {
     Ok(())
 }
 
+/// The longest input that a sheet printer looks at.
+const LONGEST: usize = 65_537;
+
+/// A random input and its text are left out of a stream if they are longer than this together.
+const STORED: usize = 16_000;
+
+/// Writes the inputs of this seed into one file, each after its length in four bytes, low first, and their texts into
+/// another. The fixed inputs come first; random ones that are long are left out.
+pub fn stream(inputs: &Path, texts: &Path, seed: u64, count: usize) -> Result<(), String> {
+    let (mut input, mut text) = (Vec::new(), String::new());
+    let fixed = generate::fixed();
+    for (number, case) in generate::cases(seed, count).enumerate() {
+        let printed = sheet::print(&case.bytes);
+        let long = case.bytes.len() > LONGEST;
+        if long || number >= fixed && case.bytes.len() + printed.len() > STORED {
+            continue;
+        }
+        input.extend((case.bytes.len() as u32).to_le_bytes());
+        input.extend(&case.bytes);
+        text.push_str(&printed);
+    }
+    write_file(inputs, &input)?;
+    write_file(texts, text.as_bytes())
+}
+
 fn write_file(path: &Path, bytes: &[u8]) -> Result<(), String> {
     fs::write(path, bytes).map_err(|error| format!("the file {} can't be written: {error}", path.display()))
 }

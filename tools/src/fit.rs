@@ -3,6 +3,8 @@
 
 pub mod bags;
 pub mod intervals;
+pub mod lines;
+pub mod ready;
 
 use crate::numbers::Shape;
 use crate::refusal::Refusal;

@@ -5,6 +5,7 @@
 //! | `parts`    | random parts and templates, and random bags of a part             |
 //! | `scripts`  | scripts derived from the shapes, and loose ones                   |
 //! | `bookings` | bookings that are met, and others                                 |
+//! | `heavy`    | the sheets that take longest, for timing                          |
 //! | `special`  | the sheets of document 01, long chains, everything at its limit   |
 //! | `layout`   | where the parts, links and groups of a template stand             |
 //! | `damage`   | faults aimed at one refusal, or several at once                   |
@@ -14,6 +15,7 @@
 pub mod bookings;
 pub mod damage;
 pub mod edges;
+pub mod heavy;
 pub mod knots;
 pub mod layout;
 pub mod parts;
@@ -93,6 +95,11 @@ pub const FULL: Scale = Scale {
     links: 8192,
     bookings: 1024,
 };
+
+/// How many inputs are the same for every seed.
+pub fn fixed() -> usize {
+    special::fixed().len() + edges::edges().len()
+}
 
 /// The inputs of one seed: the fixed ones first, then as many random ones as are asked for.
 pub fn cases(seed: u64, count: usize) -> impl Iterator<Item = Case> {

@@ -15,9 +15,12 @@
 //! | `generate` | random inputs: whole sheets up to the limits, and damaged ones              |
 //! | `cases`    | writes inputs with the expected text beside them                            |
 //! | `compare`  | runs another program on random inputs and compares its text with ours       |
+//! | `text`     | sheets as readable text: to words and back, refusals in words               |
+//! | `draw`     | a sheet and its typings as a drawing                                        |
 
 pub mod cases;
 pub mod compare;
+pub mod draw;
 pub mod fit;
 pub mod generate;
 pub mod numbers;
@@ -27,4 +30,5 @@ pub mod samples;
 pub mod script;
 pub mod sheet;
 pub mod template;
+pub mod text;
 pub mod typing;

@@ -1,16 +1,25 @@
-//! The command line of the other implementation.
+//! The command line of the tools.
 
-use prep_tools::{cases, compare, generate, samples, sheet};
-use std::fs;
-use std::io::{self, Read, Write};
-use std::path::Path;
+mod commands;
+
 use std::process::ExitCode;
 
 const HELP: &str = "\
-prep-tools print FILE                   print the sheet for the input in FILE, or standard input if it is -
-prep-tools cases DIR SEED COUNT         write COUNT inputs as DIR/NAME and their texts as DIR/NAME.out
+A FILE.txt holds the text form of a sheet, see TEXT-FORM.md; any other FILE holds words, the printer's input.
+`-` is standard input, or standard output where something is written.
+
+prep-tools words FILE.txt OUT           text to words
+prep-tools text FILE                    words to text
+prep-tools check FILE.txt               run the sheet of a text and tell the outcome, or the fault, in words
+prep-tools explain FILE                 say what is wrong with a sheet, at which word and where
+prep-tools explain NUMBER PLACE FILE    say what a refusal means for a sheet; PLACE is CARD SHAPE for 50
+prep-tools draw FILE.txt OUT.svg        draw a sheet and its typings
+prep-tools print FILE                   print the sheet
+prep-tools fit                          answer lines `T w w ... | shape | c c c` from standard input, by intervals
 prep-tools samples                      print P1 to P12, each answer computed both ways
 prep-tools fit-samples SEED COUNT       print COUNT small samples, answered by enumeration of bags
+prep-tools cases DIR SEED COUNT         write COUNT inputs as DIR/NAME and their texts as DIR/NAME.out
+prep-tools stream IN OUT SEED COUNT     write inputs, each after its length, and their texts, for stored cases
 prep-tools compare PROGRAM SEED COUNT   run PROGRAM on COUNT inputs and compare its text with ours
 prep-tools longest CARDS SHAPES         write an input on which each round strikes one pair until none is left
 ";
@@ -18,72 +27,12 @@ prep-tools longest CARDS SHAPES         write an input on which each round strik
 fn main() -> ExitCode {
     let arguments: Vec<String> = std::env::args().skip(1).collect();
     let words: Vec<&str> = arguments.iter().map(String::as_str).collect();
-    match run(&words) {
-        Ok(code) => code,
+    match commands::run(&words, HELP) {
+        Ok(true) => ExitCode::SUCCESS,
+        Ok(false) => ExitCode::FAILURE,
         Err(error) => {
             eprintln!("prep-tools: {error}");
             ExitCode::from(2)
         }
     }
-}
-
-/// Does what the words ask for; an error is told in words.
-fn run(words: &[&str]) -> Result<ExitCode, String> {
-    match words {
-        ["print", file] => write_out(sheet::print(&read_input(file)?).as_bytes())?,
-        ["cases", folder, seed, count] => {
-            cases::write(Path::new(folder), number("seed", seed)?, number("count", count)?)?
-        }
-        ["samples"] => write_out(samples::table_text()?.as_bytes())?,
-        ["fit-samples", seed, count] => {
-            let text = samples::questions_text(number("seed", seed)?, number("count", count)?)?;
-            write_out(text.as_bytes())?
-        }
-        ["compare", program, seed, count] => {
-            let (seed, count) = (number("seed", seed)?, number("count", count)?);
-            let outcome = compare::compare(program, seed, count, &mut io::stdout())?;
-            return Ok(if outcome.differ == 0 {
-                ExitCode::SUCCESS
-            } else {
-                ExitCode::FAILURE
-            });
-        }
-        ["longest", cards, shapes] => {
-            let (cards, shapes) = (
-                number("count of cards", cards)?,
-                number("count of shapes", shapes)?,
-            );
-            if !(2..=1024).contains(&cards) || !(1..=32).contains(&shapes) {
-                return Err("the cards must be 2 to 1024 and the shapes 1 to 32".to_string());
-            }
-            write_out(&generate::special::longest(cards, shapes).bytes())?
-        }
-        ["help"] | ["--help"] => write_out(HELP.as_bytes())?,
-        _ => return Err(format!("these words ask for nothing that is known\n{HELP}")),
-    }
-    Ok(ExitCode::SUCCESS)
-}
-
-/// A number among the words.
-fn number<T: std::str::FromStr>(what: &str, word: &str) -> Result<T, String> {
-    word.parse()
-        .map_err(|_| format!("the {what} isn't a number that fits: {word}"))
-}
-
-/// The bytes of a file, or of standard input for `-`.
-fn read_input(file: &str) -> Result<Vec<u8>, String> {
-    if file == "-" {
-        let mut bytes = Vec::new();
-        io::stdin()
-            .read_to_end(&mut bytes)
-            .map_err(|error| format!("standard input can't be read: {error}"))?;
-        return Ok(bytes);
-    }
-    fs::read(file).map_err(|error| format!("the file {file} can't be read: {error}"))
-}
-
-fn write_out(bytes: &[u8]) -> Result<(), String> {
-    io::stdout()
-        .write_all(bytes)
-        .map_err(|error| format!("standard output can't be written: {error}"))
 }

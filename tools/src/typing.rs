@@ -6,11 +6,13 @@
 //! | `met`         | when a pair is met; sound typings, and typings in between         |
 //! | `rounds`      | the largest typing, round by round as the definition says         |
 //! | `links`       | the largest typing, breadth-first backwards over the links        |
+//! | `counting`    | whether a card's counts fit a shape, card after card              |
 //! | `bookings`    | reads a booking list, refusals 30 to 33                           |
 //! | `closure`     | the smallest typing                                               |
 
 pub mod bookings;
 pub mod closure;
+pub mod counting;
 pub mod links;
 pub mod met;
 pub mod rounds;
@@ -148,11 +150,25 @@ pub fn smallest(
 
 /// Both typings, unless template, script or bookings are refused, in this order.
 pub fn both(template: &[u16], script: &[u16], booking_words: &[u16]) -> Result<Both, Refusal> {
+    both_by(links::largest, template, script, booking_words)
+}
+
+/// The same, the largest typing round by round as the definition says.
+pub fn both_by_rounds(template: &[u16], script: &[u16], booking_words: &[u16]) -> Result<Both, Refusal> {
+    both_by(rounds::largest, template, script, booking_words)
+}
+
+fn both_by(
+    method: fn(&Setting) -> (Largest, Grid),
+    template: &[u16],
+    script: &[u16],
+    booking_words: &[u16],
+) -> Result<Both, Refusal> {
     let setting = Setting::read(template, script)?;
     let booked = bookings::read(&setting, booking_words)?;
     Ok(Both {
         shapes: setting.template.shapes(),
-        largest: links::largest(&setting),
+        largest: method(&setting),
         smallest: closure::smallest(&setting, &booked),
     })
 }

@@ -1,5 +1,6 @@
 //! Fit counts: the intervals of section 8.2 against the bags of section 2.1 written out.
 
+use prep_tools::fit::ready::Ready;
 use prep_tools::fit::{self, bags, intervals};
 use prep_tools::numbers::{Kind, Shape};
 use prep_tools::random::Random;
@@ -30,11 +31,11 @@ fn intervals_and_enumeration_agree_on_all_counts_of_small_parts() {
         for first in 0..=4 {
             for second in 0..=3 {
                 let counts = [first, second];
-                assert_eq!(
-                    intervals::fits(&part, &counts),
-                    bags::fits(&part, &counts),
-                    "{part:?} {counts:?}"
-                );
+                let answer = bags::fits(&part, &counts);
+                assert_eq!(intervals::fits(&part, &counts), answer, "{part:?} {counts:?}");
+                let present = u64::from(first > 0) | u64::from(second > 0) << 1;
+                let ready = Ready::new(&part, 2);
+                assert_eq!(ready.fits(&counts, present), answer, "{part:?} {counts:?}");
             }
         }
     }

@@ -1,5 +1,6 @@
 //! Both typings: rounds against links, choices against the one choice that counts, and what both promise.
 
+use prep_tools::generate::heavy::{densest, ring};
 use prep_tools::generate::special::{chain, longest};
 use prep_tools::generate::{derived, loose, MIDDLE, SMALL, TINY};
 use prep_tools::random::Random;
@@ -143,6 +144,31 @@ fn the_longest_sheet_strikes_one_pair_a_round() {
     }
     let full = setting(&longest(1023, 32));
     assert_eq!(links::largest(&full).0.rounds, 1023 * 32 + 1);
+}
+
+#[test]
+fn the_ring_takes_the_most_rounds() {
+    let setting = setting(&ring());
+    assert_eq!(
+        links::largest(&setting).0,
+        Largest {
+            rounds: 32769,
+            struck: 32768,
+            bare: 1024
+        }
+    );
+}
+
+#[test]
+fn the_densest_sheet_is_at_every_limit() {
+    let files = densest();
+    assert_eq!((files.template.len(), files.bookings.len()), (4096, 2049));
+    assert_eq!((files.template[0], files.template[1]), (64, 32));
+    assert_eq!((files.script[0], files.script[1]), (1024, 8192));
+    let setting = setting(&files);
+    let by_links = links::largest(&setting);
+    assert_eq!(by_links, rounds::largest(&setting));
+    assert!(by_links.0.rounds > 2 && by_links.0.struck > 16384);
 }
 
 #[test]

@@ -89,7 +89,7 @@ pub fn verdict(part: &Part, counts: &[u16]) -> Verdict {
 }
 
 /// Those i with i × low ≤ count ≤ i × high.
-fn link_interval(link: &Link, count: u64) -> Option<Interval> {
+pub fn link_interval(link: &Link, count: u64) -> Option<Interval> {
     let low = match link.high {
         _ if count == 0 => 0,
         None => 1,
@@ -136,16 +136,17 @@ impl Interval {
     }
 
     /// This number and all above it.
-    fn up_from(low: u64) -> Interval {
+    pub fn up_from(low: u64) -> Interval {
         Interval { low, high: None }
     }
 
-    fn has(self, number: u64) -> bool {
+    /// Whether a number is inside.
+    pub fn has(self, number: u64) -> bool {
         self.low <= number && self.high.is_none_or(|high| number <= high)
     }
 
     /// All sums of a number from each.
-    fn plus(self, other: Interval) -> Interval {
+    pub fn plus(self, other: Interval) -> Interval {
         let high = match (self.high, other.high) {
             (Some(one), Some(two)) => Some(one + two),
             _ => None,
@@ -157,7 +158,7 @@ impl Interval {
     }
 
     /// The numbers in both.
-    fn and(self, other: Interval) -> Option<Interval> {
+    pub fn and(self, other: Interval) -> Option<Interval> {
         let high = match (self.high, other.high) {
             (Some(one), Some(two)) => Some(one.min(two)),
             (one, two) => one.or(two),

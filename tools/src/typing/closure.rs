@@ -1,37 +1,56 @@
 //! The smallest typing: the closure of the bookings, if each pair of it is met.
 
-use super::{met::met, Grid, Pair, Setting, Smallest};
+use super::counting::Counting;
+use super::{Grid, Pair, Setting, Smallest};
+use crate::numbers::Shape;
 
-/// The answer and the grid of the smallest typing.
+/// The answer and the grid of the smallest typing. A pair of the closure has all that its links need in the closure
+/// too, so it is met if and only if its card's counts fit.
 pub fn smallest(setting: &Setting, booked: &[Pair]) -> (Smallest, Grid) {
-    let grid = closure(setting, booked);
-    let has = |pair: &Pair| grid[setting.place(*pair)] == 1;
-    let not_met = setting
-        .pairs()
-        .filter(has)
-        .find(|pair| !met(setting, &grid, *pair));
-    match not_met {
-        Some((card, shape)) => (Smallest::NotMet(card, shape), vec![0; setting.size()]),
-        None => (Smallest::Pairs(setting.pairs().filter(has).count()), grid),
+    let mut counting = Counting::new(setting);
+    let grid = flood(setting, &counting, booked);
+    let mut pairs = 0;
+    let rows = grid.chunks(usize::from(setting.template.shapes()));
+    for (card, row) in setting.cards().zip(rows) {
+        let held: usize = row.iter().map(|byte| usize::from(*byte)).sum();
+        if held == 0 {
+            continue;
+        }
+        pairs += held;
+        counting.turn_to(card);
+        for (shape, _) in (0..).zip(row).filter(|(_, byte)| **byte == 1) {
+            if !counting.fits(Shape(shape)) {
+                return (Smallest::NotMet(card, Shape(shape)), vec![0; setting.size()]);
+            }
+        }
     }
+    (Smallest::Pairs(pairs), grid)
 }
 
 /// The least set of pairs with the bookings and, for (n, t) in it and a link of n whose kind t names with
 /// shape u, the pair (target, u).
 pub fn closure(setting: &Setting, booked: &[Pair]) -> Grid {
+    flood(setting, &Counting::new(setting), booked)
+}
+
+fn flood(setting: &Setting, counting: &Counting, booked: &[Pair]) -> Grid {
     let named = setting.template.named();
     let mut grid = vec![0; setting.size()];
-    let mut waiting: Vec<Pair> = booked.to_vec();
-    while let Some(pair) = waiting.pop() {
-        let place = setting.place(pair);
-        if grid[place] == 1 {
-            continue;
+    let mut waiting = Vec::new();
+    let mut reach = |waiting: &mut Vec<Pair>, pair: Pair| {
+        let entry = &mut grid[setting.place(pair)];
+        if *entry == 0 {
+            *entry = 1;
+            waiting.push(pair);
         }
-        grid[place] = 1;
-        let (card, shape) = pair;
-        for link in setting.script.links_of(card) {
+    };
+    for pair in booked {
+        reach(&mut waiting, *pair);
+    }
+    while let Some((card, shape)) = waiting.pop() {
+        for link in counting.links_of(card) {
             if let Some(needed) = named[shape.index()][link.kind.index()] {
-                waiting.push((link.to, needed));
+                reach(&mut waiting, (link.to, needed));
             }
         }
     }

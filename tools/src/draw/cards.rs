@@ -1,0 +1,179 @@
+//! Cards, chips and their marks.
+
+use super::layout::{Block, Rect};
+use super::measure::{width, Chip, Mark, CHIP, CHIP_TEXT, TITLE};
+use super::svg::{short, Anchor, Svg};
+
+/// The colour of letters and of what is sure.
+pub const INK: &str = "#26313f";
+/// The colour of what stands back.
+pub const PALE: &str = "#8a93a0";
+/// The colour of faults.
+pub const FAULT: &str = "#c01f1f";
+/// The colour of the page.
+pub const PAPER: &str = "#fcfaf4";
+
+/// How a card as a whole is marked.
+#[derive(Clone, Copy, PartialEq, Eq, Debug)]
+pub struct CardMark {
+    /// It has no shape at all.
+    pub bare: bool,
+    /// It has the unmet pair of 50.
+    pub not_met: bool,
+    /// The smallest typing gives it a shape.
+    pub needed: bool,
+}
+
+/// A card with its title, number and chips.
+pub fn card(svg: &mut Svg, block: &Block, title: &str, number: usize, mark: CardMark) {
+    body(svg, &block.body, mark);
+    let Rect {
+        x,
+        y,
+        width: w,
+        height,
+    } = block.body;
+    let room = w - 12.0;
+    let wanted = width(title, TITLE, true);
+    let size = TITLE * (room / wanted).min(1.0);
+    let style = format!("font-weight=\"bold\" fill=\"{INK}\"");
+    svg.text((x + 4.6, y + height / 2.0), size, Anchor::Start, &style, title);
+    let place = (x + w - 1.6, y + 2.3);
+    svg.text(
+        place,
+        2.4,
+        Anchor::End,
+        &format!("fill=\"{PALE}\""),
+        &number.to_string(),
+    );
+    for (chip, place) in &block.chips {
+        chip_at(svg, chip, (place.x, place.y));
+    }
+    if mark.not_met {
+        warning(svg, (x + 0.4, y + 0.4), 2.7);
+    }
+}
+
+/// The body of a card.
+pub fn body(svg: &mut Svg, place: &Rect, mark: CardMark) {
+    let corner = (place.x, place.y);
+    let size = (place.width, place.height);
+    svg.rect(
+        (corner.0 + 0.5, corner.1 + 0.7),
+        size,
+        1.4,
+        "fill=\"#3b2f1e\" opacity=\"0.10\"",
+    );
+    let (fill, band) = match mark {
+        CardMark { bare: true, .. } => ("url(#hatch)", None),
+        CardMark { needed: true, .. } => ("#ffffff", Some(INK)),
+        _ => ("#ffffff", Some("#cfd5dc")),
+    };
+    if let Some(band) = band {
+        svg.rect(corner, size, 1.4, &format!("fill=\"{fill}\""));
+        let (x, y, h) = (short(corner.0), short(corner.1), short(size.1));
+        svg.path(
+            &format!(
+                "M{x} {y}m1.4 0h1.2v{h}h-1.2a1.4 1.4 0 0 1 -1.4 -1.4v-{}a1.4 1.4 0 0 1 1.4 -1.4z",
+                short(size.1 - 2.8)
+            ),
+            &format!("fill=\"{band}\""),
+        );
+    } else {
+        svg.rect(corner, size, 1.4, "fill=\"#ffffff\"");
+        svg.rect(corner, size, 1.4, &format!("fill=\"{fill}\""));
+    }
+    let border = match mark {
+        CardMark { not_met: true, .. } => format!("stroke=\"{FAULT}\" stroke-width=\"1\""),
+        CardMark { bare: true, .. } => {
+            format!("stroke=\"{FAULT}\" stroke-width=\"0.45\" stroke-dasharray=\"1.6 1.1\"")
+        }
+        _ => format!("stroke=\"{INK}\" stroke-width=\"0.35\""),
+    };
+    svg.rect(corner, size, 1.4, &format!("fill=\"none\" {border}"));
+}
+
+/// A chip.
+pub fn chip_at(svg: &mut Svg, chip: &Chip, (x, y): (f64, f64)) {
+    let outline = |colour: &str, more: &str| {
+        format!("fill=\"{PAPER}\" stroke=\"{colour}\" stroke-width=\"0.3\" {more}")
+    };
+    let (box_style, colour) = match chip.mark {
+        Mark::Smallest => (
+            format!("fill=\"{INK}\" stroke=\"{INK}\" stroke-width=\"0.3\""),
+            "#ffffff",
+        ),
+        Mark::Largest => (outline(INK, ""), INK),
+        Mark::Booked => (outline(FAULT, "stroke-dasharray=\"1 0.7\""), FAULT),
+        Mark::NotMet => (format!("fill=\"{FAULT}\""), "#ffffff"),
+        Mark::None => (outline(FAULT, "stroke-dasharray=\"1 0.7\""), FAULT),
+    };
+    svg.rect((x, y), (chip.width, CHIP), CHIP / 2.0, &box_style);
+    let middle = y + CHIP / 2.0;
+    let mut start = x + 1.6;
+    match chip.mark {
+        Mark::NotMet => {
+            cross(svg, (x + 2.9, middle), 1.0, colour);
+            start += 3.2;
+        }
+        Mark::None => {
+            empty(svg, (x + 2.9, middle), 1.15, colour);
+            start += 3.2;
+        }
+        _ if chip.booked => {
+            svg.circle((x + 2.4, middle), 0.8, &format!("fill=\"{colour}\""));
+            start += 2.3;
+        }
+        _ => {}
+    }
+    // The rest of the chip is the text's, whatever its true width.
+    let centre = (start + x + chip.width - 1.6) / 2.0;
+    let style = format!("fill=\"{colour}\"");
+    svg.text((centre, middle), CHIP_TEXT, Anchor::Middle, &style, &chip.text);
+}
+
+/// The sign of a pair that isn't met.
+fn cross(svg: &mut Svg, (x, y): (f64, f64), reach: f64, colour: &str) {
+    let (left, right) = (short(x - reach), short(x + reach));
+    let (top, bottom) = (short(y - reach), short(y + reach));
+    svg.path(
+        &format!("M{left} {top}L{right} {bottom}M{left} {bottom}L{right} {top}"),
+        &format!("stroke=\"{colour}\" stroke-width=\"0.55\" stroke-linecap=\"round\" fill=\"none\""),
+    );
+}
+
+/// The sign of no shape: a circle with a stroke through it.
+fn empty(svg: &mut Svg, (x, y): (f64, f64), radius: f64, colour: &str) {
+    let style = format!("stroke=\"{colour}\" stroke-width=\"0.35\" fill=\"none\"");
+    svg.circle((x, y), radius, &style);
+    let reach = radius * 0.72;
+    svg.path(
+        &format!(
+            "M{} {}L{} {}",
+            short(x - reach),
+            short(y + reach),
+            short(x + reach),
+            short(y - reach)
+        ),
+        &style,
+    );
+}
+
+/// The sign at the corner of a card with the unmet pair.
+pub fn warning(svg: &mut Svg, (x, y): (f64, f64), radius: f64) {
+    svg.circle(
+        (x, y),
+        radius,
+        &format!("fill=\"{FAULT}\" stroke=\"{PAPER}\" stroke-width=\"0.6\""),
+    );
+    svg.path(
+        &format!(
+            "M{} {}v{}",
+            short(x),
+            short(y - radius * 0.55),
+            short(radius * 0.62)
+        ),
+        "stroke=\"#ffffff\" stroke-width=\"0.75\" stroke-linecap=\"round\"",
+    );
+    svg.circle((x, y + radius * 0.52), 0.42, "fill=\"#ffffff\"");
+}

@@ -1,0 +1,178 @@
+//! The column of each card. Cards joined by a sequence stand in one column; other links lead to the right where
+//! they can. A column that is too high is cut into two.
+
+use super::graph::Graph;
+use std::collections::BTreeSet;
+
+/// For each column, its cards in a first order.
+pub fn columns(graph: &Graph) -> Vec<Vec<usize>> {
+    let group = groups(graph);
+    let edges = group_edges(graph, &group);
+    let layer = layers(graph.cards, &group, &edges);
+    let linked: BTreeSet<usize> = graph
+        .arrows
+        .iter()
+        .flat_map(|arrow| [arrow.from, arrow.to])
+        .collect();
+    let count = 1 + layer.iter().max().copied().unwrap_or(0);
+    let mut columns = vec![Vec::new(); count];
+    for card in first_order(graph) {
+        if linked.contains(&card) {
+            columns[layer[group[card]]].push(card);
+        }
+    }
+    columns.retain(|column| !column.is_empty());
+    let mut columns = cut(columns, most_rows(graph.cards));
+    // Cards without links fill up the shortest columns.
+    for card in (0..graph.cards).filter(|card| !linked.contains(card)) {
+        match columns.iter_mut().min_by_key(|column| column.len()) {
+            Some(column) if column.len() < most_rows(graph.cards) => column.push(card),
+            _ => columns.push(vec![card]),
+        }
+    }
+    columns
+}
+
+/// The most cards that one column of a balanced page holds.
+fn most_rows(cards: usize) -> usize {
+    (2.5 * (cards as f64).sqrt()).ceil().max(6.0) as usize
+}
+
+/// The cards in their own order, but along each sequence.
+fn first_order(graph: &Graph) -> Vec<usize> {
+    let mut order = Vec::new();
+    let mut seen = vec![false; graph.cards];
+    let has_before = |card: usize| {
+        let leads_here = |arrow: &&super::graph::Arrow| arrow.to == card && graph.in_sequence(arrow);
+        graph.arrows.iter().any(|arrow| leads_here(&arrow))
+    };
+    let starts = (0..graph.cards).filter(|card| !has_before(*card));
+    for start in starts.chain(0..graph.cards) {
+        let mut waiting = vec![start];
+        while let Some(card) = waiting.pop() {
+            if std::mem::replace(&mut seen[card], true) {
+                continue;
+            }
+            order.push(card);
+            let next = graph
+                .arrows
+                .iter()
+                .filter(|arrow| arrow.from == card && graph.in_sequence(arrow));
+            waiting.extend(next.map(|arrow| arrow.to));
+        }
+    }
+    order
+}
+
+/// For each card, the lowest card that a sequence joins it with.
+fn groups(graph: &Graph) -> Vec<usize> {
+    let mut group: Vec<usize> = (0..graph.cards).collect();
+    loop {
+        let mut changed = false;
+        for arrow in graph.arrows.iter().filter(|arrow| graph.in_sequence(arrow)) {
+            let lowest = group[arrow.from].min(group[arrow.to]);
+            for card in [arrow.from, arrow.to] {
+                changed |= group[card] != lowest;
+                group[card] = lowest;
+            }
+        }
+        if !changed {
+            return group;
+        }
+    }
+}
+
+/// The links between groups, without those that close a circle.
+fn group_edges(graph: &Graph, group: &[usize]) -> Vec<(usize, usize)> {
+    let edges: BTreeSet<(usize, usize)> = graph
+        .arrows
+        .iter()
+        .map(|arrow| (group[arrow.from], group[arrow.to]))
+        .filter(|(from, to)| from != to)
+        .collect();
+    // A link to a group on the way to here closes a circle. The state: 0 new, 1 on the way, 2 done.
+    let mut state = vec![0u8; graph.cards];
+    let mut kept = Vec::new();
+    for start in 0..graph.cards {
+        let mut way: Vec<(usize, Vec<usize>)> = Vec::new();
+        let targets = |from: usize| edges.range((from, 0)..(from + 1, 0)).map(|(_, to)| *to).collect();
+        if state[start] == 0 {
+            state[start] = 1;
+            way.push((start, targets(start)));
+        }
+        while let Some((from, left)) = way.last_mut() {
+            let Some(to) = left.pop() else {
+                state[*from] = 2;
+                way.pop();
+                continue;
+            };
+            if state[to] != 1 {
+                kept.push((*from, to));
+            }
+            if state[to] == 0 {
+                state[to] = 1;
+                way.push((to, targets(to)));
+            }
+        }
+    }
+    kept
+}
+
+/// For each group, its column: as far left as its links allow, then moved to where its links are shortest.
+fn layers(cards: usize, group: &[usize], edges: &[(usize, usize)]) -> Vec<usize> {
+    let mut layer = vec![0usize; cards];
+    loop {
+        let mut changed = false;
+        for (from, to) in edges {
+            if layer[*to] <= layer[*from] {
+                layer[*to] = layer[*from] + 1;
+                changed = true;
+            }
+        }
+        if !changed {
+            break;
+        }
+    }
+    let size = |which: usize| group.iter().filter(|member| **member == which).count();
+    for _ in 0..4 {
+        for which in (0..cards).filter(|which| size(*which) > 0) {
+            let before: Vec<usize> = edges
+                .iter()
+                .filter(|edge| edge.1 == which)
+                .map(|edge| layer[edge.0])
+                .collect();
+            let after: Vec<usize> = edges
+                .iter()
+                .filter(|edge| edge.0 == which)
+                .map(|edge| layer[edge.1])
+                .collect();
+            let lowest = before.iter().max().map_or(0, |most| most + 1);
+            let Some(highest) = after.iter().min().map(|least| least - 1) else {
+                continue;
+            };
+            let held = |place: usize| {
+                let others = (0..cards).filter(|other| *other != which && layer[*other] == place);
+                others.map(size).sum::<usize>()
+            };
+            let length = |place: usize| {
+                let left: usize = before.iter().map(|other| place - other).sum();
+                left + after.iter().map(|other| other - place).sum::<usize>()
+            };
+            if let Some(best) = (lowest..=highest).min_by_key(|place| (length(*place), held(*place))) {
+                layer[which] = best;
+            }
+        }
+    }
+    layer
+}
+
+/// Cuts columns with too many cards into several of about the same height.
+fn cut(columns: Vec<Vec<usize>>, most: usize) -> Vec<Vec<usize>> {
+    let mut all = Vec::new();
+    for column in columns {
+        let pieces = column.len().div_ceil(most).max(1);
+        let rows = column.len().div_ceil(pieces).max(1);
+        all.extend(column.chunks(rows).map(<[usize]>::to_vec));
+    }
+    all
+}

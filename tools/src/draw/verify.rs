@@ -1,0 +1,31 @@
+//! Whether an arrow runs through a card or its chips.
+
+use super::graph::Arrow;
+use super::layout::{Layout, Rect};
+
+/// How far an arrow may reach into a card, for the sake of rounding.
+const ROUNDING: f64 = 0.001;
+
+/// Each arrow that runs through a card, with that card.
+pub fn arrows_through_cards(layout: &Layout) -> Vec<(Arrow, usize)> {
+    let mut found = Vec::new();
+    for route in &layout.routes {
+        for (card, block) in layout.blocks.iter().enumerate() {
+            let mut places = vec![block.body];
+            places.extend(block.chips.iter().map(|(_, place)| *place));
+            let crosses = |two: &[(f64, f64)]| places.iter().any(|place| cuts(two[0], two[1], place));
+            if route.points.windows(2).any(crosses) {
+                found.push((route.arrow, card));
+            }
+        }
+    }
+    found
+}
+
+/// Whether a level or upright line has a point inside a rectangle.
+fn cuts(from: (f64, f64), to: (f64, f64), place: &Rect) -> bool {
+    let overlap = |one: f64, two: f64, start: f64, length: f64| {
+        one.max(two) > start + ROUNDING && one.min(two) < start + length - ROUNDING
+    };
+    overlap(from.0, to.0, place.x, place.width) && overlap(from.1, to.1, place.y, place.height)
+}

@@ -1,0 +1,91 @@
+//! Parts made ready for many counts: each knows the kinds within it and its interval if they all count 0. So only
+//! the parts with a kind that counts something are looked into, and a group ends at its first empty interval.
+
+use super::intervals::{link_interval, verdict, Interval};
+use crate::numbers::Kind;
+use crate::template::{Link, Part};
+
+/// A part made ready.
+#[derive(Clone, Debug)]
+pub struct Ready {
+    /// The kinds within it, a bit each.
+    kinds: u64,
+    /// Its interval if these all count 0.
+    at_zero: Option<Interval>,
+    node: Node,
+}
+
+#[derive(Clone, Debug)]
+enum Node {
+    Nothing,
+    Link(Link),
+    Star(Box<Ready>),
+    Plus(Box<Ready>),
+    Optional(Box<Ready>),
+    Choice(Vec<Ready>),
+    All(Vec<Ready>),
+}
+
+/// The bit of a kind.
+pub fn bit(kind: Kind) -> u64 {
+    1 << kind.0
+}
+
+impl Ready {
+    /// Makes a part of a template with this many kinds ready.
+    pub fn new(part: &Part, kinds: u16) -> Ready {
+        let inner = |part: &Part| Box::new(Ready::new(part, kinds));
+        let all = |parts: &[Part]| parts.iter().map(|part| Ready::new(part, kinds)).collect();
+        let node = match part {
+            Part::Nothing => Node::Nothing,
+            Part::Link(link) => Node::Link(*link),
+            Part::Star(part) => Node::Star(inner(part)),
+            Part::Plus(part) => Node::Plus(inner(part)),
+            Part::Optional(part) => Node::Optional(inner(part)),
+            Part::Choice(parts) => Node::Choice(all(parts)),
+            Part::All(parts) => Node::All(all(parts)),
+        };
+        Ready {
+            kinds: part.links().iter().fold(0, |bits, link| bits | bit(link.kind)),
+            at_zero: verdict(part, &vec![0; usize::from(kinds)]).interval,
+            node,
+        }
+    }
+
+    /// Whether the counts fit the whole part of a shape; `present` has the kinds that count something.
+    pub fn fits(&self, counts: &[u16], present: u64) -> bool {
+        present & !self.kinds == 0
+            && self
+                .interval(counts, present)
+                .is_some_and(|interval| interval.has(1))
+    }
+
+    /// The interval of repetitions; none if it is empty.
+    fn interval(&self, counts: &[u16], present: u64) -> Option<Interval> {
+        if self.kinds & present == 0 {
+            return self.at_zero;
+        }
+        match &self.node {
+            Node::Nothing => self.at_zero,
+            Node::Link(link) => link_interval(link, u64::from(counts[link.kind.index()])),
+            Node::Star(part) => part.interval(counts, present).map(|_| Interval::up_from(1)),
+            Node::Plus(part) => {
+                let interval = part.interval(counts, present)?;
+                Some(Interval { low: 1, ..interval })
+            }
+            Node::Optional(part) => Some(Interval::up_from(0).plus(part.interval(counts, present)?)),
+            Node::Choice(parts) => {
+                let none = Interval {
+                    low: 0,
+                    high: Some(0),
+                };
+                parts
+                    .iter()
+                    .try_fold(none, |sum, part| Some(sum.plus(part.interval(counts, present)?)))
+            }
+            Node::All(parts) => parts.iter().try_fold(Interval::up_from(0), |both, part| {
+                both.and(part.interval(counts, present)?)
+            }),
+        }
+    }
+}

@@ -1,0 +1,123 @@
+//! The text form of a sheet: kinds, shapes and cards by name. TEXT-FORM.md tells how it is written.
+//!
+//! | here      | what                                                                    |
+//! |-----------|-------------------------------------------------------------------------|
+//! | `tokens`  | cuts a text into tokens, each with its line and column                  |
+//! | `parse`   | reads the lines of a text                                               |
+//! | `compile` | text to words; for each word, where it comes from                       |
+//! | `write`   | words to text                                                           |
+//! | `roles`   | what the word at a place of a file is for                               |
+//! | `explain` | a refusal told in words, with the word at fault and where it stands     |
+//! | `check`   | runs the sheet of a text and tells the outcome in words                 |
+//! | `reasons` | why a card's links don't fit a shape, and who asks for a pair           |
+
+pub mod check;
+pub mod compile;
+pub mod explain;
+pub mod parse;
+pub mod reasons;
+pub mod roles;
+pub mod tokens;
+pub mod write;
+
+use std::fmt;
+
+/// A line and a column of a text, both from 1.
+#[derive(Clone, Copy, PartialEq, Eq, Debug)]
+pub struct Spot {
+    /// The line.
+    pub line: usize,
+    /// The column, in characters.
+    pub column: usize,
+}
+
+impl fmt::Display for Spot {
+    fn fmt(&self, out: &mut fmt::Formatter<'_>) -> fmt::Result {
+        write!(out, "line {}, column {}", self.line, self.column)
+    }
+}
+
+/// What is wrong with a text, and where.
+#[derive(Clone, PartialEq, Eq, Debug)]
+pub struct Fault {
+    /// Where it stands.
+    pub spot: Spot,
+    /// What is wrong.
+    pub message: String,
+}
+
+impl Fault {
+    /// A fault at this spot.
+    pub fn at(spot: Spot, message: impl Into<String>) -> Fault {
+        Fault {
+            spot,
+            message: message.into(),
+        }
+    }
+}
+
+impl fmt::Display for Fault {
+    fn fmt(&self, out: &mut fmt::Formatter<'_>) -> fmt::Result {
+        write!(out, "{}: {}", self.spot, self.message)
+    }
+}
+
+/// A name where it stands in the text.
+#[derive(Clone, PartialEq, Eq, Debug)]
+pub struct Name {
+    /// The name.
+    pub text: String,
+    /// Where it stands.
+    pub spot: Spot,
+}
+
+/// A text that was read; names aren't looked up yet.
+#[derive(Clone, Default, PartialEq, Eq, Debug)]
+pub struct Text {
+    /// The title of the sheet, for its drawing.
+    pub title: Option<String>,
+    /// The kinds; a kind's number is its index.
+    pub kinds: Vec<Name>,
+    /// The shapes with their parts; a shape's number is its index.
+    pub shapes: Vec<(Name, Expression)>,
+    /// The cards with their titles; a card's number is its index.
+    pub cards: Vec<(Name, Option<String>)>,
+    /// The links in the order of the text: from, kind, to.
+    pub links: Vec<[Name; 3]>,
+    /// The bookings: card, shape.
+    pub bookings: Vec<[Name; 2]>,
+}
+
+/// A part as it is written.
+#[derive(Clone, PartialEq, Eq, Debug)]
+pub enum Expression {
+    /// `nothing`.
+    Nothing(Spot),
+    /// A part with `*`, `+` or `?` after it; the spot is the sign's.
+    Wrap(u16, Box<Expression>, Spot),
+    /// `choice(…)` or `all(…)`; the spot is the word's.
+    Group(u16, Vec<Expression>, Spot),
+    /// `kind[low;high]@Shape`.
+    Link(LinkExpression),
+}
+
+/// A link part as it is written.
+#[derive(Clone, PartialEq, Eq, Debug)]
+pub struct LinkExpression {
+    /// The kind.
+    pub kind: Name,
+    /// The shape at the far end.
+    pub shape: Name,
+    /// The fewest copies.
+    pub low: (u16, Spot),
+    /// The most copies; none for no limit.
+    pub high: (Option<u16>, Spot),
+}
+
+impl Text {
+    /// What a card is called on a drawing: its title, or else its name.
+    pub fn card_title(&self, card: usize) -> &str {
+        let (name, title) = &self.cards[card];
+        title.as_deref().unwrap_or(&name.text)
+    }
+}

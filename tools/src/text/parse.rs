@@ -1,0 +1,224 @@
+//! Reads the lines of a text. Names aren't looked up here; that is for `compile`.
+
+use super::tokens::{tokens, Placed, Token};
+use super::{Expression, Fault, LinkExpression, Name, Spot, Text};
+use crate::template::{ALL, CHOICE, NO_LIMIT, OPTIONAL, PLUS, STAR};
+
+/// Reads a text, or tells the first fault.
+pub fn parse(source: &str) -> Result<Text, Fault> {
+    let tokens = tokens(source)?;
+    let mut parser = Parser {
+        tokens: &tokens,
+        next: 0,
+    };
+    let mut text = Text::default();
+    while parser.next < tokens.len() {
+        parser.statement(&mut text)?;
+    }
+    Ok(text)
+}
+
+struct Parser<'a> {
+    tokens: &'a [Placed],
+    next: usize,
+}
+
+impl Parser<'_> {
+    /// The next token; the last one, an end, stays.
+    fn peek(&self) -> &Placed {
+        &self.tokens[self.next.min(self.tokens.len() - 1)]
+    }
+
+    fn spot(&self) -> Spot {
+        self.peek().1
+    }
+
+    /// Steps over a sign if it stands here.
+    fn takes(&mut self, sign: char) -> bool {
+        let here = self.peek().0 == Token::Sign(sign);
+        self.next += usize::from(here);
+        here
+    }
+
+    fn expect(&mut self, sign: char) -> Result<(), Fault> {
+        if self.takes(sign) {
+            return Ok(());
+        }
+        Err(self.unexpected(&format!("`{sign}`")))
+    }
+
+    /// The fault that something else stands here than was wanted.
+    fn unexpected(&self, wanted: &str) -> Fault {
+        let (token, spot) = self.peek();
+        let found = match token {
+            Token::Word(word) => format!("`{word}`"),
+            Token::Number(number) => number.to_string(),
+            Token::Quoted(_) => "a quotation".to_string(),
+            Token::Sign(sign) => format!("`{sign}`"),
+            Token::End => "the end of the line".to_string(),
+        };
+        Fault::at(*spot, format!("{wanted} is wanted here, not {found}"))
+    }
+
+    fn name(&mut self, what: &str) -> Result<Name, Fault> {
+        match self.peek().clone() {
+            (Token::Word(text), spot) => {
+                self.next += 1;
+                Ok(Name { text, spot })
+            }
+            _ => Err(self.unexpected(&format!("the name of {what}"))),
+        }
+    }
+
+    fn number(&mut self, what: &str) -> Result<(u16, Spot), Fault> {
+        let (token, spot) = self.peek().clone();
+        let Token::Number(number) = token else {
+            return Err(self.unexpected(what));
+        };
+        self.next += 1;
+        match u16::try_from(number) {
+            Ok(number) if number != NO_LIMIT => Ok((number, spot)),
+            _ => Err(Fault::at(
+                spot,
+                format!("{number} can't be written; no limit is `[low;]`"),
+            )),
+        }
+    }
+
+    fn quoted(&mut self) -> Option<String> {
+        let (Token::Quoted(text), _) = self.peek().clone() else {
+            return None;
+        };
+        self.next += 1;
+        Some(text)
+    }
+
+    /// One line, or none.
+    fn statement(&mut self, text: &mut Text) -> Result<(), Fault> {
+        if self.peek().0 != Token::End {
+            let keyword = self.name("a section")?;
+            match keyword.text.as_str() {
+                "title" => {
+                    text.title = Some(self.quoted().ok_or_else(|| self.unexpected("a quotation"))?);
+                }
+                "kinds" => self.kinds(text)?,
+                "shape" => {
+                    let name = self.name("a shape")?;
+                    self.expect('=')?;
+                    let part = self.part()?;
+                    text.shapes.push((name, part));
+                }
+                "card" => {
+                    let name = self.name("a card")?;
+                    let title = self.quoted();
+                    text.cards.push((name, title));
+                }
+                "link" => self.links(text)?,
+                "book" => {
+                    let card = self.name("a card")?;
+                    let shape = self.name("a shape")?;
+                    text.bookings.push([card, shape]);
+                }
+                other => {
+                    let message = format!(
+                        "a line starts with title, kinds, shape, card, link or book, not with `{other}`"
+                    );
+                    return Err(Fault::at(keyword.spot, message));
+                }
+            }
+        }
+        if self.peek().0 != Token::End {
+            return Err(self.unexpected("the end of the line"));
+        }
+        self.next += 1;
+        Ok(())
+    }
+
+    fn kinds(&mut self, text: &mut Text) -> Result<(), Fault> {
+        self.takes(':');
+        text.kinds.push(self.name("a kind")?);
+        while self.peek().0 != Token::End {
+            text.kinds.push(self.name("a kind")?);
+        }
+        Ok(())
+    }
+
+    /// From, kind and one or more targets.
+    fn links(&mut self, text: &mut Text) -> Result<(), Fault> {
+        let from = self.name("a card")?;
+        let kind = self.name("a kind")?;
+        let mut to = self.name("a card")?;
+        loop {
+            text.links.push([from.clone(), kind.clone(), to]);
+            if self.peek().0 == Token::End {
+                return Ok(());
+            }
+            to = self.name("a card")?;
+        }
+    }
+
+    /// A part: a simple one, then any of `*`, `+` and `?`.
+    fn part(&mut self) -> Result<Expression, Fault> {
+        let mut part = self.simple()?;
+        loop {
+            let spot = self.spot();
+            let code = match self.peek().0 {
+                Token::Sign('*') => STAR,
+                Token::Sign('+') => PLUS,
+                Token::Sign('?') => OPTIONAL,
+                _ => return Ok(part),
+            };
+            self.next += 1;
+            part = Expression::Wrap(code, Box::new(part), spot);
+        }
+    }
+
+    /// A part without a sign after it.
+    fn simple(&mut self) -> Result<Expression, Fault> {
+        if self.takes('(') {
+            let inner = self.part()?;
+            self.expect(')')?;
+            return Ok(inner);
+        }
+        let name = self.name("a kind, or nothing, choice or all")?;
+        match name.text.as_str() {
+            "nothing" => Ok(Expression::Nothing(name.spot)),
+            "choice" => Ok(Expression::Group(CHOICE, self.run()?, name.spot)),
+            "all" => Ok(Expression::Group(ALL, self.run()?, name.spot)),
+            _ => self.link(name),
+        }
+    }
+
+    /// The parts of a group, in brackets.
+    fn run(&mut self) -> Result<Vec<Expression>, Fault> {
+        self.expect('(')?;
+        let mut parts = vec![self.part()?];
+        while self.takes(',') {
+            parts.push(self.part()?);
+        }
+        self.expect(')')?;
+        Ok(parts)
+    }
+
+    /// What follows a link's kind.
+    fn link(&mut self, kind: Name) -> Result<Expression, Fault> {
+        self.expect('[')?;
+        let low = self.number("the low")?;
+        self.expect(';')?;
+        let high = if self.peek().0 == Token::Sign(']') {
+            (None, self.spot())
+        } else {
+            let (high, spot) = self.number("the high")?;
+            (Some(high), spot)
+        };
+        self.expect(']')?;
+        self.expect('@')?;
+        let shape = self.name("a shape")?;
+        Ok(Expression::Link(LinkExpression {
+            kind,
+            shape,
+            low,
+            high,
+        }))
+    }
+}

@@ -1,0 +1,186 @@
+//! What the word at a place of a file is for, as far as the file can be followed, and refusals told with it.
+
+use crate::refusal::Refusal;
+use crate::sheet::Files;
+use crate::template::{CHOICE, LINK, MOST_DEPTH, NOTHING, OPTIONAL, PLUS, STAR};
+
+/// The file that a refusal's place is counted in: its name and its words. None for 40 to 43 and 60.
+pub fn file_of(files: &Files, refusal: Refusal) -> Option<(&'static str, &[u16])> {
+    match refusal.number {
+        1..=12 => Some(("template", &files.template)),
+        20..=25 => Some(("script", &files.script)),
+        30..=33 => Some(("bookings", &files.bookings)),
+        _ => None,
+    }
+}
+
+/// A refusal of these files in words: what is wrong, at which word, and what that word is for.
+pub fn tell(files: &Files, refusal: Refusal) -> String {
+    let start = format!(
+        "refused {} {}: {}",
+        refusal.number,
+        refusal.place,
+        refusal.meaning()
+    );
+    let Some((name, words)) = file_of(files, refusal) else {
+        return start;
+    };
+    let role = match name {
+        "template" => template_role(words, refusal.place),
+        "script" => script_role(refusal.place),
+        _ => booking_role(refusal.place),
+    };
+    match words.get(refusal.place) {
+        Some(word) => format!(
+            "{start}\n  word {} of the {name} is {word}: {role}",
+            refusal.place
+        ),
+        None => format!("{start}\n  the {name} has no word {}: {role}", refusal.place),
+    }
+}
+
+/// Why an input can't be cut into three files.
+pub fn tell_input(input: &[u8]) -> String {
+    let start = format!("refused 60 0: {}", Refusal::at(60, 0).meaning());
+    if input.len() > 65536 {
+        return format!("{start}\n  it has {} bytes", input.len());
+    }
+    if !input.len().is_multiple_of(2) {
+        return format!("{start}\n  its {} bytes aren't whole words", input.len());
+    }
+    let words: Vec<u16> = input
+        .chunks_exact(2)
+        .map(|two| u16::from_le_bytes([two[0], two[1]]))
+        .collect();
+    let mut place = 0;
+    for name in ["template", "script", "bookings"] {
+        let Some(count) = words.get(place) else {
+            return format!("{start}\n  it ends at word {place}, where the {name}'s count would be");
+        };
+        let left = words.len() - place - 1;
+        if usize::from(*count) > left {
+            return format!(
+                "{start}\n  word {place}, the {name}'s count, is {count}, but only {left} words follow"
+            );
+        }
+        place += 1 + usize::from(*count);
+    }
+    format!(
+        "{start}\n  the bookings end before word {place}, but {} words follow",
+        words.len() - place
+    )
+}
+
+/// What the word at this place of a template is for.
+pub fn template_role(words: &[u16], place: usize) -> String {
+    match place {
+        0 => return "the count of kinds".to_string(),
+        1 => return "the count of shapes".to_string(),
+        _ => {}
+    }
+    let mut walk = Walk {
+        words,
+        place: 2,
+        end: words.len(),
+        roles: vec![],
+    };
+    let shapes = words.get(1).copied().unwrap_or(0);
+    for shape in 0..shapes {
+        walk.end = words.len();
+        let start = walk.place;
+        walk.note(format!("the count of words of shape {shape}"));
+        let Some(count) = words.get(start) else { break };
+        walk.end = (walk.place + usize::from(*count)).min(words.len());
+        let whole = walk.part(shape, 1).is_some();
+        walk.roles.push((walk.end, format!("the end of shape {shape}")));
+        if !whole || walk.place != walk.end {
+            if place < walk.end && walk.place <= place {
+                return format!("after the part of shape {shape} has ended");
+            }
+            break;
+        }
+    }
+    let found = walk.roles.iter().find(|(noted, _)| *noted == place);
+    match found {
+        Some((_, role)) => role.clone(),
+        None => "after all shapes, or after the first fault".to_string(),
+    }
+}
+
+/// A walk over the words of a template that stops at the first word that makes no sense.
+struct Walk<'a> {
+    words: &'a [u16],
+    place: usize,
+    end: usize,
+    roles: Vec<(usize, String)>,
+}
+
+impl Walk<'_> {
+    /// Notes what the next word is for and steps over it.
+    fn note(&mut self, role: String) {
+        self.roles.push((self.place, role));
+        self.place += 1;
+    }
+
+    /// The part that starts here; none if it can't be followed to its end.
+    fn part(&mut self, shape: u16, depth: usize) -> Option<()> {
+        let within = format!("in shape {shape}, at depth {depth}");
+        if self.place >= self.end || depth > MOST_DEPTH + 1 {
+            self.note(format!("the code of a part {within}"));
+            return None;
+        }
+        let code = self.words[self.place];
+        match code {
+            NOTHING => self.note(format!("nothing, {within}")),
+            STAR | PLUS | OPTIONAL => {
+                let name = ["star", "plus", "optional"][usize::from(code - STAR)];
+                self.note(format!("the code of {name} {within}"));
+                self.part(shape, depth + 1)?;
+            }
+            16 | 17 => {
+                let name = if code == CHOICE { "choice" } else { "all" };
+                self.note(format!("the code of {name} {within}"));
+                let count = self.words.get(self.place).copied().unwrap_or(0);
+                self.note(format!("the count of parts of {name} {within}"));
+                for _ in 0..count {
+                    self.part(shape, depth + 1)?;
+                }
+            }
+            LINK..=319 => {
+                let of = format!("the link of kind {} {within}", code - LINK);
+                self.note(format!("the code of {of}"));
+                for word in ["shape", "low", "high"] {
+                    self.note(format!("the {word} of {of}"));
+                }
+            }
+            _ => {
+                self.note(format!("the code of a part {within}"));
+                return None;
+            }
+        }
+        Some(())
+    }
+}
+
+/// What the word at this place of a script is for.
+pub fn script_role(place: usize) -> String {
+    match place {
+        0 => "the count of cards".to_string(),
+        1 => "the count of links".to_string(),
+        _ => {
+            let word = ["start", "kind", "target"][(place - 2) % 3];
+            format!("the {word} of link {}, counted from 0", (place - 2) / 3)
+        }
+    }
+}
+
+/// What the word at this place of the bookings is for.
+pub fn booking_role(place: usize) -> String {
+    match place {
+        0 => "the count of bookings".to_string(),
+        _ => {
+            let word = ["card", "shape"][(place - 1) % 2];
+            format!("the {word} of booking {}, counted from 0", (place - 1) / 2)
+        }
+    }
+}
