@@ -1,7 +1,7 @@
 // The pairs of a sheet: reading its template and its script, and which pairs fit by counts.
 ghost use mathlib.Core.Path.{_≡_};
 ghost use mathlib.Core.List.{List};
-ghost use Prim.Native.Nat.{ℕ, _*_, _<_};
+ghost use Prim.Native.Nat.{ℕ, _*_, _≤_, _<_};
 ghost use lib.ListN.{length, replicate};
 ghost use Rattle.bags.specs.Part.{Part};
 ghost use Rattle.template.specs.Template.{TemplateReading, readTemplate};
@@ -61,7 +61,7 @@ pub fn read_sheet(template: &[u16], script: &[u16], names: &mut [u8]) -> SheetRe
 // Tests each shape on the counts of one card's kinds: its byte of the row is 1 where they fit, else 0.
 fn fit_card(template: &[u16], names: &[u8], shapes: usize, counts: &[u16], row: &mut [u8])
     requires { ⌜ Shaped (now template) shapes × TableOf (now template) (now names) × (length (now names) ≡ 2048)
-        × (length (now counts) ≡ 64) × (length (now row) ≡ shapes) ⌝ }
+        × (length (now counts) ≤ 64) × (length (now row) ≡ shapes) ⌝ }
     ensures { λ _. ⌜ RowFitted (now (template .entry)) shapes (now (counts .entry)) (now (row .exit)) ⌝ }
 {
     let mut at = 2;
@@ -77,6 +77,29 @@ fn fit_card(template: &[u16], names: &[u8], shapes: usize, counts: &[u16], row: 
         at = at + 1 + wide(template[at]);
         t += 1;
     }
+}
+
+// Tests each shape on card n with room for the counts of all kinds: its byte of the row is 1 where they fit, else 0.
+fn fit_counted(
+    template: &[u16],
+    script: &[u16],
+    names: &[u8],
+    starts: &[u16],
+    e: Extent,
+    n: usize,
+    counts: &mut [u16],
+    row: &mut [u8],
+)
+    requires { ⌜ Opened (now template) (now script) e × TableOf (now template) (now names)
+        × (length (now names) ≡ 2048) × StartsOf (now script) (now starts) (e .cards) (e .links)
+        × (n < e .cards) × (length (now row) ≡ e .shapes) × (length (now counts) ≡ e .kinds) ⌝ }
+    ensures { λ _. ⌜ CardFitted (now (template .entry)) (now (script .entry)) (e .links) (e .shapes) n
+        (now (row .exit)) ⌝ }
+{
+    let lo = wide(starts[n]);
+    let hi = wide(starts[n + 1]);
+    count_kinds(script, lo, hi, counts);
+    fit_card(template, names, wide(e.shapes), counts, row);
 }
 
 // Tests each shape on card n: its row of the grid is 1 where the counts of its kinds fit, else 0.
@@ -96,10 +119,8 @@ fn fit_row(
         (now (row .exit)) ⌝ }
 {
     let mut counts = [0u16; 64];
-    let lo = wide(starts[n]);
-    let hi = wide(starts[n + 1]);
-    count_kinds(script, lo, hi, &mut counts);
-    fit_card(template, names, wide(e.shapes), &counts, row);
+    let kinds = wide(e.kinds);
+    fit_counted(template, script, names, starts, e, n, &mut counts[0..kinds], row);
 }
 
 // Tests each shape on each card: the grid has 1 where the counts fit, else 0.
