@@ -6,7 +6,7 @@ use prep_tools::generate::{derived, loose, MIDDLE, SMALL, TINY};
 use prep_tools::random::Random;
 use prep_tools::sheet::Files;
 use prep_tools::typing::met::{holds, lies_below, met, met_by_choices, sound};
-use prep_tools::typing::{bookings, closure, links, rounds, Largest, Setting, Smallest};
+use prep_tools::typing::{bookings, closure, links, rounds, Largest, Pair, Setting, Smallest};
 
 /// Random sheets that are well-formed, with their settings.
 fn sheets(seed: u64, count: usize) -> Vec<(Files, Setting)> {
@@ -54,8 +54,12 @@ fn the_largest_is_sound_and_the_smallest_lies_between() {
         assert!(sound(&setting, &top), "{files:?}");
         let booked = bookings::read(&setting, &files.bookings).expect("generated bookings are well-formed");
         let (answer, grid) = closure::smallest(&setting, &booked);
+        let reached = closure::closure(&setting, &booked);
+        let unmet = |pair: &Pair| reached[setting.place(*pair)] == 1 && !met(&setting, &reached, *pair);
+        let lowest = setting.pairs().find(unmet);
         match answer {
             Smallest::Pairs(pairs) => {
+                assert_eq!(lowest, None, "{files:?}");
                 assert_eq!(pairs, grid.iter().filter(|byte| **byte == 1).count());
                 assert!(
                     sound(&setting, &grid) && holds(&setting, &grid, &booked),
@@ -64,6 +68,7 @@ fn the_largest_is_sound_and_the_smallest_lies_between() {
                 assert!(lies_below(&grid, &top), "{files:?}");
             }
             Smallest::NotMet(card, shape) => {
+                assert_eq!(lowest, Some((card, shape)), "{files:?}");
                 assert!(grid.iter().all(|byte| *byte == 0));
                 assert!(!holds(&setting, &top, &booked), "{files:?}");
                 assert_eq!(top[setting.place((card, shape))], 0, "{files:?}");
