@@ -120,7 +120,16 @@ fn fit_row(
 {
     let mut counts = [0u16; 64];
     let kinds = wide(e.kinds);
-    fit_counted(template, script, names, starts, e, n, &mut counts[0..kinds], row);
+    fit_counted(
+        template,
+        script,
+        names,
+        starts,
+        e,
+        n,
+        &mut counts[0..kinds],
+        row,
+    );
 }
 
 // Tests each shape on each card: the grid has 1 where the counts fit, else 0.
