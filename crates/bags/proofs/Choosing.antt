@@ -12,13 +12,13 @@ use mathlib.Core.List.{List, [], _∷_}
 use native.Mathlib.Omega.{arith}
 use native.Mathlib.Decide.{ℕ-discrete}
 use lib.Dec.{eqb}
-use Rattle.bags.specs.Part.{Part, nothing, star, plus, optional, choice, all, link, Parts, none, more}
-use Rattle.bags.specs.Part.{Declares, RunDeclares, Single, ShapesBelow}
+use Rattle.bags.specs.Part.{Part, nothing, star, plus, optional, choice, all, link, Parts, none, more, Declares}
+use Rattle.bags.specs.Part.{RunDeclares, Single, ShapesBelow}
 use Rattle.bags.specs.Bag.{Bag, ∅, _⊕_, when, copies, Language, Power, Bags, BagsOfOne, BagsOfEach, total, Fits}
 use Rattle.bags.specs.Choice.{Neighbour, to, Chosen, Met, labelCount, TargetsHave}
 use Rattle.bags.proofs.Powers.{at-point, bag-ext}
-use Rattle.bags.proofs.Totals.{when-yes, when-no, sum-at}
-use Rattle.bags.proofs.Totals.{total-empty, total-path, total-sum, total-copies, total-other}
+use Rattle.bags.proofs.Totals.{when-yes, when-no, sum-at, total-empty, total-path, total-sum, total-copies}
+use Rattle.bags.proofs.Totals.{total-other}
 use Rattle.bags.proofs.Naming.{declares-below, declares-unique}
 
 -- The bag has (k, s) only where D says so.

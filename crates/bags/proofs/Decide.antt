@@ -11,11 +11,11 @@ use mathlib.Core.List.{List, [], _∷_}
 use native.Mathlib.Omega.{arith}
 use lib.Dec.{eqb, ltb}
 use borrow.Author.Tests.{eq-eqb, eqb-true, ltb-true, not-true}
-use Rattle.bags.specs.Part.{Part, nothing, star, plus, optional, choice, all, link, Parts, none, more}
-use Rattle.bags.specs.Part.{Names, RunNames, Single, RunSingle, ShapesBelow, RunShapesBelow}
+use Rattle.bags.specs.Part.{Part, nothing, star, plus, optional, choice, all, link, Parts, none, more, Names}
+use Rattle.bags.specs.Part.{RunNames, Single, RunSingle, ShapesBelow, RunShapesBelow}
 use Rattle.bags.specs.Bag.{Fits}
 use Rattle.bags.specs.Interval.{inside, interval, names, runNames, count, othersZero, fits}
-use Rattle.bags.proofs.Tests.{and-left, and-right, and-true, or-cases}
+use Rattle.words.proofs.Bools.{and-first, and-second, and-both, or-cases}
 use Rattle.bags.proofs.Naming.{names-exact, run-names-exact}
 use Rattle.bags.proofs.Intervals.{inside-exact}
 use Rattle.bags.proofs.Exact.{fits-exact}
@@ -49,8 +49,8 @@ mutual
   run-clear-true none f e k n = absurd n
   run-clear-true (more p ps) f e k n =
       ⊎-elim
-      (λ m. clear-true p f (and-left (clear p f) (runClear ps f) e) k m)
-      (λ m. run-clear-true ps f (and-right (clear p f) (runClear ps f) e) k m)
+      (λ m. clear-true p f (and-first (clear p f) (runClear ps f) e) k m)
+      (λ m. run-clear-true ps f (and-second (clear p f) (runClear ps f) e) k m)
       n
 
 -- No label twice, and shapes below S.
@@ -82,10 +82,10 @@ mutual
   run-ok-true S none e = (tt, tt)
   run-ok-true S (more p ps) e =
       let rest : Bool = runOk S ps && clear p (runNames ps) in
-      let d : rest ≡ true = and-right (ok S p) rest e in
-      let h = ok-true S p (and-left (ok S p) rest e) in
-      let g = run-ok-true S ps (and-left (runOk S ps) (clear p (runNames ps)) d) in
-      let c : clear p (runNames ps) ≡ true = and-right (runOk S ps) (clear p (runNames ps)) d in (
+      let d : rest ≡ true = and-second (ok S p) rest e in
+      let h = ok-true S p (and-first (ok S p) rest e) in
+      let g = run-ok-true S ps (and-first (runOk S ps) (clear p (runNames ps)) d) in
+      let c : clear p (runNames ps) ≡ true = and-second (runOk S ps) (clear p (runNames ps)) d in (
         (h .0, g .0, λ k n m. true≢false (sym (run-names-exact ps k .1 m) ∙ clear-true p (runNames ps) c k n)),
         (h .1, g .1),
       )
@@ -98,15 +98,15 @@ others-zero : (p : Part) (j : ℕ) (xs : List ℕ) → othersZero p j xs ≡ tru
 others-zero p j [] e k n = refl
 others-zero p j (x ∷ xs) e zero n =
     ⊎-elim (λ d. absurd (n (subst (Names p) (omega arith) (names-exact p j .0 d)))) (λ d. eqb-true x 0 d)
-    (or-cases (names p j) (eqb x 0) (and-left (names p j || eqb x 0) (othersZero p (suc j) xs) e))
+    (or-cases (names p j) (eqb x 0) (and-first (names p j || eqb x 0) (othersZero p (suc j) xs) e))
 others-zero p j (x ∷ xs) e (suc k) n =
-    others-zero p (suc j) xs (and-right (names p j || eqb x 0) (othersZero p (suc j) xs) e) k
+    others-zero p (suc j) xs (and-second (names p j || eqb x 0) (othersZero p (suc j) xs) e) k
     (λ m. n (subst (Names p) (omega arith) m))
 
 zero-others : (p : Part) (j : ℕ) (xs : List ℕ) → OthersZero p j xs → othersZero p j xs ≡ true
 zero-others p j [] h = refl
 zero-others p j (x ∷ xs) h =
-    and-true (names p j || eqb x 0) (othersZero p (suc j) xs) (first (names p j) refl)
+    and-both (names p j || eqb x 0) (othersZero p (suc j) xs) (first (names p j) refl)
     (zero-others p (suc j) xs (λ k n. h (suc k) (λ m. n (subst (Names p) (omega arith) m))))
   where
     first : (t : Bool) → names p j ≡ t → (t || eqb x 0) ≡ true
@@ -126,6 +126,6 @@ fits-decided S p xs one below =
     let others = othersZero p 0 xs in
     let by-interval = fits-exact S p (count xs) one below in
     let by-test = inside-exact 1 (interval p (count xs)) in (
-      λ f. let (h, z) = by-interval .0 f in and-true fit others (by-test .1 h) (others-exact p xs .1 z),
-      λ e. by-interval .1 (by-test .0 (and-left fit others e), others-exact p xs .0 (and-right fit others e)),
+      λ f. let (h, z) = by-interval .0 f in and-both fit others (by-test .1 h) (others-exact p xs .1 z),
+      λ e. by-interval .1 (by-test .0 (and-first fit others e), others-exact p xs .0 (and-second fit others e)),
     )

@@ -10,18 +10,18 @@ use mathlib.Core.Logic.{_⊎_, inl, inr, ⊎-elim, _↔_}
 use mathlib.Core.Bool.{Bool, true, false, true≢false}
 use native.Mathlib.Omega.{arith}
 use borrow.Author.Tests.{eq-eqb, eqb-true}
-use Rattle.bags.specs.Part.{Part, nothing, star, plus, optional, choice, all, link, Parts, none, more}
-use Rattle.bags.specs.Part.{Names, RunNames, Single, RunSingle, ShapesBelow, RunShapesBelow}
+use Rattle.bags.specs.Part.{Part, nothing, star, plus, optional, choice, all, link, Parts, none, more, Names}
+use Rattle.bags.specs.Part.{RunNames, Single, RunSingle, ShapesBelow, RunShapesBelow}
 use Rattle.bags.specs.Bag.{Bag, EmptyBag, Union, Bags, BagsOfOne, BagsOfEach, total, Fits}
-use Rattle.bags.specs.Interval.{Interval, empty, within, from, In, add, starInterval, plusInterval}
-use Rattle.bags.specs.Interval.{allZero, runAllZero, interval, addRun, meetRun}
-use Rattle.bags.proofs.Tests.{and-left, and-right, and-true}
+use Rattle.bags.specs.Interval.{Interval, empty, within, from, In, add, starInterval, plusInterval, allZero}
+use Rattle.bags.specs.Interval.{runAllZero, interval, addRun, meetRun}
+use Rattle.words.proofs.Bools.{and-first, and-second, and-both}
 use Rattle.bags.proofs.Powers.{power-one, one-power}
 use Rattle.bags.proofs.Totals.{empty-supported, part-supported, one-supported, each-supported}
 use Rattle.bags.proofs.Naming.{names-dec}
 use Rattle.bags.proofs.Intervals.{Proper, range-proper, link-proper, meet-proper, add-proper}
-use Rattle.bags.proofs.Repetitions.{Zero, Exact, exact-same, exact-empty, exact-no-bag, exact-union, exact-sums}
-use Rattle.bags.proofs.Repetitions.{exact-star, exact-plus, exact-link}
+use Rattle.bags.proofs.Repetitions.{Zero, Exact, exact-same, exact-empty, exact-no-bag, exact-union}
+use Rattle.bags.proofs.Repetitions.{exact-sums, exact-star, exact-plus, exact-link}
 
 star-proper : (t : Bool) (I : Interval) → Proper (starInterval t I)
 star-proper true I = tt
@@ -49,8 +49,8 @@ module _ (w : ℕ → ℕ) where
     run-zero : (ps : Parts) → runAllZero ps w ≡ true → Zero w (RunNames ps)
     run-zero none e k n = absurd n
     run-zero (more p ps) e k n =
-        ⊎-elim (λ m. all-zero p (and-left (allZero p w) (runAllZero ps w) e) k m)
-        (λ m. run-zero ps (and-right (allZero p w) (runAllZero ps w) e) k m)
+        ⊎-elim (λ m. all-zero p (and-first (allZero p w) (runAllZero ps w) e) k m)
+        (λ m. run-zero ps (and-second (allZero p w) (runAllZero ps w) e) k m)
         n
 
   mutual
@@ -66,7 +66,7 @@ module _ (w : ℕ → ℕ) where
     zero-run : (ps : Parts) → Zero w (RunNames ps) → runAllZero ps w ≡ true
     zero-run none z = refl
     zero-run (more p ps) z =
-        and-true (allZero p w) (runAllZero ps w) (zero-all p (λ k n. z k (inl n))) (zero-run ps (λ k n. z k (inr n)))
+        and-both (allZero p w) (runAllZero ps w) (zero-all p (λ k n. z k (inl n))) (zero-run ps (λ k n. z k (inr n)))
 
   mutual
     part-proper : (p : Part) → Proper (interval p w)

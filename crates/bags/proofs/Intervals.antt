@@ -14,10 +14,10 @@ use native.Mathlib.Nat.{le-div-iff-mul-le, div-lt-iff-lt-mul}
 use lib.Dec.{eqb, leb}
 use borrow.Author.Tests.{leb-true, leb-false, le-leb, eqb-true, eqb-false}
 use Rattle.bags.specs.Part.{Limit, at-most, no-limit}
-use Rattle.bags.specs.Interval.{Interval, empty, within, from, In, inside, keep, range, meet, add}
-use Rattle.bags.specs.Interval.{lowRoom, highRoom, linkInterval, oneUp, oneToHighest}
+use Rattle.bags.specs.Interval.{Interval, empty, within, from, In, inside, keep, range, meet, add, lowRoom}
+use Rattle.bags.specs.Interval.{highRoom, linkInterval, oneUp, oneToHighest}
 use Rattle.bags.proofs.Copies.{UnderTimes}
-use Rattle.bags.proofs.Tests.{and-left, and-right, and-true}
+use Rattle.words.proofs.Bools.{and-first, and-second, and-both}
 
 range-cases : (t : Bool) (lo hi i : ℕ) → leb lo hi ≡ t → In i (keep t (within lo hi)) ↔ ((lo ≤ i) × (i ≤ hi))
 range-cases true lo hi i e = (λ h. h, λ h. h)
@@ -159,7 +159,7 @@ in-one-to (from lo) i p = (λ h. (h, (max lo i, omega arith, (omega arith))), λ
 pub inside-exact : (i : ℕ) (I : Interval) → (inside i I ≡ true) ↔ In i I
 inside-exact i empty = (λ e. false≢true e, λ h. absurd h)
 inside-exact i (within lo hi) = (
-  λ e. (leb-true lo i (and-left (leb lo i) (leb i hi) e), leb-true i hi (and-right (leb lo i) (leb i hi) e)),
-  λ h. and-true (leb lo i) (leb i hi) (le-leb lo i (h .0)) (le-leb i hi (h .1)),
+  λ e. (leb-true lo i (and-first (leb lo i) (leb i hi) e), leb-true i hi (and-second (leb lo i) (leb i hi) e)),
+  λ h. and-both (leb lo i) (leb i hi) (le-leb lo i (h .0)) (le-leb i hi (h .1)),
 )
 inside-exact i (from lo) = (λ e. leb-true lo i e, λ h. le-leb lo i h)

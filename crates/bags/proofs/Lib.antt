@@ -1,10 +1,8 @@
 -- The laws of the bag language, lowest first.
--- Tests: true and false under "and" and "or".
 -- Powers, Copies, Totals: sums of i bags, of a link's bags, and their counts.
 -- Repetitions, Exact: a part's interval, and Fits by it. Decide: the test for Fits. Samples: P1 to P12.
 -- Choosing: Met by counts.
 -- Spans: the same operations on two numbers.
-pub mod Tests
 pub mod Powers
 pub mod Copies
 pub mod Totals

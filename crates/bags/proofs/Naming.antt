@@ -15,12 +15,11 @@ use mathlib.Core.Bool.{Bool, true, false, not, true≢false, false≢true}
 use native.Mathlib.Omega.{arith}
 use lib.Dec.{eqb}
 use borrow.Author.Tests.{eq-eqb, ne-eqb, eqb-true, eqb-false}
-use Rattle.bags.specs.Part.{Part, nothing, star, plus, optional, choice, all, link, Parts, none, more}
-use Rattle.bags.specs.Part.{Names, RunNames, Declares, RunDeclares, Single, RunSingle}
-use Rattle.bags.specs.Part.{ShapesBelow, RunShapesBelow, LabelsBelow, RunLabelsBelow}
-use Rattle.bags.specs.Part.{entry, firstEntry, named, runNamed}
+use Rattle.bags.specs.Part.{Part, nothing, star, plus, optional, choice, all, link, Parts, none, more, Names}
+use Rattle.bags.specs.Part.{RunNames, Declares, RunDeclares, Single, RunSingle, ShapesBelow, RunShapesBelow}
+use Rattle.bags.specs.Part.{LabelsBelow, RunLabelsBelow, entry, firstEntry, named, runNamed}
 use Rattle.bags.specs.Interval.{names, runNames}
-use Rattle.bags.proofs.Tests.{or-cases, or-left, or-right}
+use Rattle.words.proofs.Bools.{or-cases, or-left, or-right}
 
 mutual
   names-true : (p : Part) (k : ℕ) → names p k ≡ true → Names p k

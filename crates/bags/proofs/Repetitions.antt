@@ -11,11 +11,11 @@ use mathlib.Core.Bool.{Bool, true, false}
 use native.Mathlib.Omega.{arith}
 use native.Mathlib.Nat.{not-suc-le-zero}
 use Rattle.bags.specs.Part.{Limit}
-use Rattle.bags.specs.Bag.{Bag, ∅, _⊕_, copies, total}
-use Rattle.bags.specs.Bag.{Language, NoBag, EmptyBag, Union, Sums, Power, Star, Plus, Copies}
+use Rattle.bags.specs.Bag.{Bag, ∅, _⊕_, copies, total, Language, NoBag, EmptyBag, Union, Sums, Power, Star}
+use Rattle.bags.specs.Bag.{Plus, Copies}
 use Rattle.bags.specs.Interval.{Interval, within, from, In, meet, add, linkInterval, starInterval, plusInterval}
-use Rattle.bags.proofs.Powers.{power-map, empty-power, power-no-bag, power-union, union-power}
-use Rattle.bags.proofs.Powers.{power-sums, sums-power, star-power, power-star, power-plus, plus-power}
+use Rattle.bags.proofs.Powers.{power-map, empty-power, power-no-bag, power-union, union-power, power-sums}
+use Rattle.bags.proofs.Powers.{sums-power, star-power, power-star, power-plus, plus-power}
 use Rattle.bags.proofs.Copies.{UnderTimes, power-copies, copies-power}
 use Rattle.bags.proofs.Totals.{total-empty, total-path, total-sum, total-copies, Supported, power-supported}
 use Rattle.bags.proofs.Intervals.{Proper, in-meet, split-add, add-split, convex, in-link, in-one-up, in-one-to}

@@ -8,7 +8,7 @@ use mathlib.Core.List.{List, [], _∷_}
 use Rattle.bags.specs.Bag.{Fits}
 use Rattle.bags.specs.Interval.{count, fits}
 use Rattle.bags.specs.Samples.{Sample, sample, samples, Says, Holds, AllHold}
-use Rattle.bags.proofs.Tests.{and-left, and-right, same-true}
+use Rattle.words.proofs.Bools.{and-first, and-second, same-true}
 use Rattle.bags.proofs.Decide.{ok, ok-true, fits-decided}
 
 -- The row's part is one that the test decides, and the test has its answer.
@@ -26,15 +26,15 @@ says t false X f g e = λ x. true≢false (sym (f x) ∙ e)
 row-holds : (s : Sample) → passes s ≡ true → Holds s
 row-holds (sample p x y answer) e =
     let xs : List ℕ = x ∷ y ∷ [] in
-    let h = ok-true 1 p (and-left (ok 1 p) (Bool·beq (fits p xs) answer) e) in
+    let h = ok-true 1 p (and-first (ok 1 p) (Bool·beq (fits p xs) answer) e) in
     let d = fits-decided 1 p xs (h .0) (h .1) in
-    let same = same-true (fits p xs) answer (and-right (ok 1 p) (Bool·beq (fits p xs) answer) e) in
+    let same = same-true (fits p xs) answer (and-second (ok 1 p) (Bool·beq (fits p xs) answer) e) in
     says (fits p xs) answer (Fits 1 p (count xs)) (d .0) (d .1) same
 
 rows-hold : (ss : List Sample) → allPass ss ≡ true → AllHold ss
 rows-hold [] e = tt
 rows-hold (s ∷ ss) e =
-    (row-holds s (and-left (passes s) (allPass ss) e), rows-hold ss (and-right (passes s) (allPass ss) e))
+    (row-holds s (and-first (passes s) (allPass ss) e), rows-hold ss (and-second (passes s) (allPass ss) e))
 
 pub samples-hold : AllHold samples
 samples-hold = rows-hold samples refl

@@ -13,8 +13,8 @@ use native.Mathlib.Decide.{ℕ-discrete}
 use lib.Dec.{ltb, leb, eqb}
 use borrow.Author.Tests.{ltb-true, ltb-false, lt-ltb, le-ltb, eqb-true, eqb-false, eq-eqb, ne-eqb, le-leb, lt-leb}
 use Rattle.bags.specs.Part.{at-most, no-limit}
-use Rattle.bags.specs.Interval.{Interval, empty, within, from, inside, keep, range, meet, add}
-use Rattle.bags.specs.Interval.{lowRoom, highRoom, oneUp, oneToHighest, starInterval, plusInterval}
+use Rattle.bags.specs.Interval.{Interval, empty, within, from, inside, keep, range, meet, add, lowRoom}
+use Rattle.bags.specs.Interval.{highRoom, oneUp, oneToHighest, starInterval, plusInterval}
 use Rattle.bags.specs.Span.{top, seenAs, view, Small, limitUnless, limitOf}
 use Rattle.bags.specs.declared.Span.{Span}
 

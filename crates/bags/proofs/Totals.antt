@@ -13,10 +13,10 @@ use native.Mathlib.Nat.{not-suc-le-zero}
 use native.Mathlib.Decide.{ℕ-discrete}
 use lib.Dec.{eqb}
 use borrow.Author.Tests.{eq-eqb, ne-eqb}
-use Rattle.bags.specs.Part.{Part, nothing, star, plus, optional, choice, all, link, Parts, none, more}
-use Rattle.bags.specs.Part.{Names, RunNames}
-use Rattle.bags.specs.Bag.{Bag, ∅, _⊕_, when, copies, Language, EmptyBag, Power}
-use Rattle.bags.specs.Bag.{Bags, BagsOfOne, BagsOfEach, sumBelow, total}
+use Rattle.bags.specs.Part.{Part, nothing, star, plus, optional, choice, all, link, Parts, none, more, Names}
+use Rattle.bags.specs.Part.{RunNames}
+use Rattle.bags.specs.Bag.{Bag, ∅, _⊕_, when, copies, Language, EmptyBag, Power, Bags, BagsOfOne, BagsOfEach}
+use Rattle.bags.specs.Bag.{sumBelow, total}
 
 pub when-yes : (i j n : ℕ) → i ≡ j → when (eqb i j) n ≡ n
 when-yes i j n e = ap (λ (t : Bool). when t n) (eq-eqb i j e)

@@ -11,8 +11,8 @@ use mathlib.Core.Bool.{Bool, true, false, _&&_, _||_}
 use mathlib.Core.List.{List, [], _∷_}
 use lib.ListN.{getD}
 use lib.Dec.{leb, eqb}
-use Rattle.bags.specs.Part.{Limit, at-most, no-limit}
-use Rattle.bags.specs.Part.{Part, nothing, star, plus, optional, choice, all, link, Parts, none, more}
+use Rattle.bags.specs.Part.{Limit, at-most, no-limit, Part, nothing, star, plus, optional, choice, all, link}
+use Rattle.bags.specs.Part.{Parts, none, more}
 
 -- No number; lo to hi, both inside; lo up.
 pub data Interval : Type 0 where

@@ -1,8 +1,8 @@
 // Intervals of repetitions as two numbers (document 01, "Bags"; section 8.2 of the paper).
 ghost use mathlib.Core.Path.{_≡_};
 ghost use Prim.Native.Nat.{ℕ, _≤_, _+_, min, max};
-ghost use Rattle.bags.specs.Interval.{inside, meet, add, from, lowRoom, highRoom, linkInterval};
-ghost use Rattle.bags.specs.Interval.{starInterval, plusInterval};
+ghost use Rattle.bags.specs.Interval.{inside, meet, add, from, lowRoom, highRoom, linkInterval, starInterval};
+ghost use Rattle.bags.specs.Interval.{plusInterval};
 ghost use Rattle.bags.specs.Span.{view, Small, limitOf};
 
 // From lo to hi; hi 4,294,967,295 is no limit; empty where hi is below lo.

@@ -12,7 +12,7 @@ use mathlib.Core.Path.{_≡_, sym, _∙_}
 use mathlib.Core.Bool.{Bool, true, false}
 use Prim.Native.Nat.{ℕ, _<_}
 use Rattle.board.specs.Board.{Board, Inside, Lawful, SoundSet, Closed, booked, follow, Flooded}
-use Rattle.board.proofs.Bools.{never-both, is-false, bools-equal}
+use Rattle.words.proofs.Bools.{never-both, is-false, bools-equal}
 use Rattle.board.proofs.Tally.{tally-ext}
 
 pub closed-map : {B C : Board} {Book Seat : ℕ → Type 0}

@@ -15,7 +15,7 @@ use lib.ListN.{length, getD, set, length-set}
 use lib.Seq.{getD-set-same, getD-set-other}
 use borrow.Author.Count.{below-more}
 use Rattle.board.specs.Grid.{on, Flipped}
-use Rattle.board.proofs.Bools.{not-of-false, not-of-true}
+use Rattle.words.proofs.Bools.{not-of-false, not-of-true}
 use Rattle.board.proofs.Grids.{on-yes, on-no, on-same}
 
 -- the place p of `after` is turned round

@@ -14,7 +14,7 @@ use native.Mathlib.Omega.{arith}
 use Rattle.board.specs.Grid.{tally}
 use Rattle.board.specs.Board.{Board, Inside, Closed, booked, follow, Flooded}
 use Rattle.board.specs.Work.{Queued}
-use Rattle.board.proofs.Bools.{eq-or-ne, last-or-below}
+use Rattle.words.proofs.Bools.{eq-or-ne, last-or-below}
 use Rattle.board.proofs.Tally.{tally-more}
 use Rattle.board.proofs.Queues.{each-entry, queued-more, queued-last, kept-value}
 use Rattle.board.proofs.Closure.{closed-inside}

@@ -18,7 +18,7 @@ use Rattle.board.specs.Grid.{on, tally, Flipped}
 use Rattle.board.specs.Board.{Board, Inside, Closed, follow, Flooded}
 use Rattle.board.specs.Work.{Work, work, entry, Queued, strikeOne, Room, Run, stay, then, Swept}
 use Rattle.board.specs.Listing.{Listed}
-use Rattle.board.proofs.Bools.{false-of-not, not-of-false, not-of-true}
+use Rattle.words.proofs.Bools.{false-of-not, not-of-false, not-of-true}
 use Rattle.board.proofs.Tally.{tally-le, tally-both}
 use Rattle.board.proofs.Grids.{on-set-same, on-set-other}
 use Rattle.board.proofs.Closure.{flooded-ext}

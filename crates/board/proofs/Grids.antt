@@ -15,7 +15,7 @@ use lib.ListN.{length, getD, set, length-set, replicate, getD-replicate, length-
 use lib.Seq.{getD-set-same, getD-set-other}
 use borrow.Author.Tests.{eqb-true, eq-eqb, ne-eqb}
 use Rattle.board.specs.Grid.{on, Marks}
-use Rattle.board.proofs.Bools.{eq-or-ne}
+use Rattle.words.proofs.Bools.{eq-or-ne}
 
 -- ---- the test of a byte
 pub on-yes : (g : List ℕ) (p : ℕ) → getD g p 0 ≡ 1 → on g p ≡ true

@@ -15,7 +15,7 @@ use native.Mathlib.Omega.{arith}
 use Rattle.board.specs.Grid.{tally}
 use Rattle.board.specs.Board.{Board, Inside, Struck, Finished}
 use Rattle.board.specs.Work.{Queued}
-use Rattle.board.proofs.Bools.{never-both, not-of-false, not-of-true, eq-or-ne, last-or-below}
+use Rattle.words.proofs.Bools.{never-both, not-of-false, not-of-true, eq-or-ne, last-or-below}
 use Rattle.board.proofs.Tally.{tally-more}
 use Rattle.board.proofs.Queues.{each-entry, queued-more, queued-last, kept-value}
 

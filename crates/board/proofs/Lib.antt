@@ -1,4 +1,3 @@
-pub mod Bools
 pub mod Tally
 pub mod Grids
 pub mod Queues

@@ -17,7 +17,7 @@ use lib.Seq.{getD-set-same, getD-set-other}
 use Rattle.board.specs.Grid.{on, tally}
 use Rattle.board.specs.Work.{Work, entry, Queued, strikeOne, Room, Run, stay, then}
 use Rattle.board.specs.Listing.{Listed}
-use Rattle.board.proofs.Bools.{never-both, not-of-false, not-of-true, eq-or-ne, last-or-below}
+use Rattle.words.proofs.Bools.{never-both, not-of-false, not-of-true, eq-or-ne, last-or-below}
 use Rattle.board.proofs.Tally.{tally-le, tally-hit, tally-miss, tally-more, tally-none}
 use Rattle.board.proofs.Grids.{on-replicate, on-set-same, on-set-other}
 use Rattle.board.proofs.Queues.{each-entry, queued-more, queued-last, kept-value}

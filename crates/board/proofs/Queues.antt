@@ -10,7 +10,7 @@ use mathlib.Core.Bool.{Bool}
 use Prim.Native.Nat.{ℕ, suc, _<_}
 use native.Mathlib.Omega.{arith}
 use Rattle.board.specs.Work.{Queued}
-use Rattle.board.proofs.Bools.{eq-or-ne, last-or-below}
+use Rattle.words.proofs.Bools.{eq-or-ne, last-or-below}
 
 module _ {queue queue′ : ℕ → ℕ} {tail p : ℕ}
     (last : queue′ tail ≡ p) (same : (i : ℕ) → i < tail → queue′ i ≡ queue i) where

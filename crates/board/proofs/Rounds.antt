@@ -19,7 +19,8 @@ use native.Mathlib.Nat.{not-suc-le-zero}
 use native.Mathlib.Omega.{arith}
 use Rattle.board.specs.Grid.{tally}
 use Rattle.board.specs.Board.{Board, Lawful, Under, SoundSet, Struck, Finished}
-use Rattle.board.proofs.Bools.{never-both, is-true, is-false, bools-equal, and-first, and-second, and-both, false-of-not, not-of-false, not-of-true, le-or-lt, last-or-below}
+use Rattle.words.proofs.Bools.{never-both, is-true, is-false, bools-equal, and-first, and-second, and-both}
+use Rattle.words.proofs.Bools.{false-of-not, not-of-false, not-of-true, le-or-lt, last-or-below}
 use Rattle.board.proofs.Tally.{tally-le, tally-lt, tally-ext, Lowest, none-or-lowest}
 
 module _ (B : Board) where

@@ -19,7 +19,8 @@ use native.Mathlib.Numerals.{add-one}
 use native.Mathlib.Omega.{arith}
 use borrow.Author.Tests.{eqb-true, eq-eqb}
 use Rattle.board.specs.Grid.{bit, tally, all}
-use Rattle.board.proofs.Bools.{never-both, true-or-false, is-true, false-of-not, not-of-false, not-of-true, last-or-below}
+use Rattle.words.proofs.Bools.{never-both, true-or-false, is-true, false-of-not, not-of-false, not-of-true}
+use Rattle.words.proofs.Bools.{last-or-below}
 
 -- ---- one test
 pub bit-le : (b : Bool) → bit b ≤ 1

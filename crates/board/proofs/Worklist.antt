@@ -15,7 +15,7 @@ use native.Mathlib.Omega.{arith}
 use lib.ListN.{length, set, length-set}
 use Rattle.board.specs.Grid.{on, Marks}
 use Rattle.board.specs.Work.{Work, work, strikeOne, Room, Run, stay, then, Swept}
-use Rattle.board.proofs.Bools.{never-both, true-or-false}
+use Rattle.words.proofs.Bools.{never-both, true-or-false}
 use Rattle.board.proofs.Tally.{tally-more, tally-pos}
 use Rattle.board.proofs.Grids.{on-set-same, on-set-other, marks-set}
 

@@ -8,12 +8,11 @@ use mathlib.Core.Path.{_≡_, refl}
 use mathlib.Core.List.{List, [], _∷_}
 use lib.ListN.{length}
 use borrow.Author.Tests.{eq-eqb, ne-eqb}
-use Rattle.template.specs.Answer.{Said, refusal}
-use Rattle.typing.specs.Sheet.{Sheet, size}
-use Rattle.typing.specs.Bookings.{BookingReading, readBookings}
+use Rattle.words.specs.Said.{Said, refusal}
+use Rattle.sheet.specs.Sheet.{Sheet, size, ask, turnedDown, readSheet}
+use Rattle.bookings.specs.Bookings.{BookingReading, readBookings}
 use Rattle.typing.specs.Answer.{BothSaid}
-use Rattle.typing.specs.Calls.{SheetReading, ask, turnedDown, readSheet, LargestFound, LargestSays}
-use Rattle.typing.specs.Calls.{SmallestFound, SmallestSays, BothFound, Grids, BothSays}
+use Rattle.typing.specs.Calls.{LargestFound, LargestSays, SmallestFound, SmallestSays, BothFound, Grids, BothSays}
 
 -- One refusal for both calls.
 abbrev twice : ℕ → ℕ → BothSaid

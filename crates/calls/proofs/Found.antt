@@ -9,18 +9,17 @@
 --   smallest-met, smallest-unmet, both-by   the answers of the calls for the smallest and for both
 --   listed-room, listed-in     a booking list that is read has its bookings, each in the sheet
 -- Assumes nothing.
-use Prim.Native.Nat.{ℕ, suc, _+_, _*_, _/_, _%_, _≤_, _<_}
+use Prim.Native.Nat.{ℕ, _+_, _*_, _/_, _%_, _≤_, _<_}
 use mathlib.Core.Path.{_≡_, refl, sym, ap, ap₂, _∙_, subst}
 use mathlib.Core.Logic.{_⊎_, inl, inr}
-use mathlib.Core.Bool.{Bool, true, false}
+use mathlib.Core.Bool.{Bool, true, false, cond}
 use lib.Dec.{eqb}
 use mathlib.Core.List.{List, [], _∷_}
 use native.Mathlib.Omega.{arith}
 use lib.ListN.{length, getD, replicate}
 use Rattle.bags.specs.Part.{Part}
 use Rattle.bags.specs.Interval.{fits}
-use Rattle.template.specs.Answer.{Said, values, refusal}
-use Rattle.template.specs.Reading.{pick}
+use Rattle.words.specs.Said.{values, refusal}
 use Rattle.template.specs.Template.{Tabled}
 use Rattle.template.specs.declared.Shape.{Shape}
 use Rattle.script.specs.declared.Card.{Card}
@@ -29,30 +28,34 @@ use Rattle.board.specs.Grid.{on, tally, Marks, FirstMissing}
 use Rattle.board.specs.Board.{Flooded}
 use Rattle.board.proofs.Closure.{flooded-books}
 use Rattle.board.proofs.Grids.{on-yes, on-no}
-use Rattle.search.specs.Needs.{boardOf}
-use Rattle.search.specs.Search.{Ready, Starts, Searched}
+use Rattle.typing.specs.Needs.{boardOf, Ready}
+use Rattle.search.specs.Search.{Starts, Searched}
 use Rattle.search.proofs.Indexes.{starts-of}
-use Rattle.search.proofs.Places.{card-in, shape-in, place-of}
-use Rattle.typing.specs.Sheet.{Sheet, size}
+use Rattle.words.proofs.Places.{card-in, shape-in, place-of}
+use Rattle.sheet.specs.Sheet.{Sheet, size, ask, turnedDown, readSheet}
 use Rattle.typing.specs.Largest.{bare, bareCards}
-use Rattle.typing.specs.Bookings.{BookingReading, readBookings, cardAt, shapeAt, Booked}
+use Rattle.bookings.specs.Bookings.{BookingReading, readBookings, cardAt, shapeAt, Booked}
 use Rattle.typing.specs.Answer.{BothSaid}
-use Rattle.typing.specs.Calls.{ask, turnedDown, readSheet, LargestFound, SmallestFound, BothFound}
+use Rattle.typing.specs.Calls.{LargestFound, SmallestFound, BothFound}
 use Rattle.typing.proofs.Represents.{Represents}
 use Rattle.typing.proofs.Largest.{largest-found}
 use Rattle.typing.proofs.Smallest.{PlaceOf, BookedIn, pairs-found, not-met-found}
-use Rattle.typing.proofs.Booked.{bookings-in, bookings-count, bookings-size}
+use Rattle.bookings.proofs.Accepted.{bookings-in, bookings-count, bookings-size}
 use Rattle.typing.proofs.Demand.{both-found}
+use Rattle.sheet.proofs.Accepted as accepted
 use Rattle.typing.proofs.Instance as instance
-use Rattle.typing.proofs.Instance.{sheetOf, sheet-asked, sheet-made, FitsGrid, fits-grid, ready, represents}
-use Rattle.pairs.specs.declared.Extent.{Extent}
-use Rattle.pairs.specs.declared.SheetRead as pairs
-use Rattle.pairs.specs.declared.SheetRead.the-variants as variants
-use Rattle.pairs.specs.Pairs.{Opened, TableOf, ReadAs, Fitted, StartsOf}
-use Rattle.pairs.proofs.Cells.{pairs-bound}
-use Rattle.steps.specs.declared.Verdict.{Verdict}
-use Rattle.steps.specs.declared.Verdict.the-variants as verdict
-use Rattle.steps.specs.Steps.{BookedAt, Closes, Judged}
+use Rattle.sheet.proofs.Accepted.{sheetOf, sheet-asked, sheet-made}
+use Rattle.typing.proofs.Instance.{FitsGrid, fits-grid, ready, represents}
+use Rattle.sheet.specs.declared.Extent.{Extent}
+use Rattle.sheet.specs.declared.SheetRead as pairs
+use Rattle.sheet.specs.declared.SheetRead.the-variants as variants
+use Rattle.sheet.specs.Opened.{Opened, TableOf, ReadAs}
+use Rattle.fits.specs.Fitting.{Fitted}
+use Rattle.script.specs.Steps.{StartsOf}
+use Rattle.fits.proofs.Cells.{pairs-bound}
+use Rattle.search.specs.declared.Unfit.{Unfit}
+use Rattle.search.specs.declared.Unfit.the-variants as unfit
+use Rattle.search.specs.Closing.{BookedAt, Closes, UnfitFound}
 
 -- What reading the two files found, by the case that it is.
 module _ (template script : List ℕ) {r : pairs.SheetRead} (h : ReadAs template script r) where
@@ -72,7 +75,7 @@ module _ {template script : List ℕ} {e : Extent} (o : Opened template script e
       sheet-asked template script (e .kinds) (e .shapes) (o .parts) (e .cards) (e .links)
       (o .template-read) (o .script-read)
 
-  pub read : instance.SheetRead template (e .kinds) sheet
+  pub read : accepted.SheetAccepted template (e .kinds) sheet
   read =
       sheet-made template script (e .kinds) (e .shapes) (o .parts) (e .cards) (e .links)
       (o .template-read) (o .script-read)
@@ -104,7 +107,7 @@ module _ {template script : List ℕ} {e : Extent} (o : Opened template script e
 
     module _ {grid : List ℕ} (fit : Fitted script (e .links) (e .cards) (e .shapes) (o .parts) grid) where
       -- the byte of a pair is on exactly if the test passed
-      byte-on : (p : ℕ) (b : Bool) → getD grid p 0 ≡ pick b 1 0 → on grid p ≡ b
+      byte-on : (p : ℕ) (b : Bool) → getD grid p 0 ≡ cond b 1 0 → on grid p ≡ b
       byte-on p true h = on-yes grid p h
       byte-on p false h = on-no grid p (λ one. absurd (omega (arith, h, one)))
 
@@ -124,7 +127,7 @@ module _ {template script : List ℕ} {e : Extent} (o : Opened template script e
           subst (λ (x : ℕ). (getD grid x 0 ≡ 0) ⊎ (getD grid x 0 ≡ 1)) (place-of (e .shapes) (read .shapes .shapes-low) p)
           (one-of (fits (getD (o .parts) t Part.nothing) (b .counts)) (b .test))
         where
-          one-of : {x : ℕ} (b : Bool) → x ≡ pick b 1 0 → (x ≡ 0) ⊎ (x ≡ 1)
+          one-of : {x : ℕ} (b : Bool) → x ≡ cond b 1 0 → (x ≡ 0) ⊎ (x ≡ 1)
           one-of true h = inr h
           one-of false h = inl h
 
@@ -202,17 +205,17 @@ module _ {template script : List ℕ} {e : Extent} (o : Opened template script e
               (λ r lr h. first .before r lr h)))
 
           -- the answer by the verdict on the closure's pairs
-          pub smallest-met : (after : List ℕ) (v : Verdict) → v ≡ verdict.Met → Judged closure grid (e .shapes) after v
+          pub smallest-met : (after : List ℕ) (v : Unfit) → v ≡ unfit.Nowhere → UnfitFound closure grid (e .shapes) after v
               → (s : Sheet) → readSheet template script ≡ ask s → SmallestFound s bookings after (values (found ∷ []))
           smallest-met after v h judged s q =
-              let (same, none) = subst (Judged closure grid (e .shapes) after) h judged in
+              let (same, none) = subst (UnfitFound closure grid (e .shapes) after) h judged in
               subst (λ (g : List ℕ). SmallestFound s bookings g (values (found ∷ []))) (sym same) (pairs-by none s q)
 
-          pub smallest-unmet : (after : List ℕ) (v : Verdict) (card : Card) (shape : Shape) → v ≡ verdict.Unmet card shape
-              → Judged closure grid (e .shapes) after v → (s : Sheet) → readSheet template script ≡ ask s
+          pub smallest-unmet : (after : List ℕ) (v : Unfit) (card : Card) (shape : Shape) → v ≡ unfit.At card shape
+              → UnfitFound closure grid (e .shapes) after v → (s : Sheet) → readSheet template script ≡ ask s
               → SmallestFound s bookings after (refusal 50 (card .0 ∷ shape .0 ∷ []))
           smallest-unmet after v card shape h judged s q =
-              let (same, first, inside, small) = subst (Judged closure grid (e .shapes) after) h judged in
+              let (same, first, inside, small) = subst (UnfitFound closure grid (e .shapes) after) h judged in
               subst (λ (g : List ℕ). SmallestFound s bookings g (refusal 50 (card .0 ∷ shape .0 ∷ []))) (sym same)
               (not-met-by (card .0) (shape .0) small inside first s q)
 

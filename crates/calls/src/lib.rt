@@ -1,27 +1,47 @@
 // The calls for the two typings of a script: the largest that it allows, and the smallest that holds the bookings.
 ghost use mathlib.Core.Path.{_≡_};
-ghost use Prim.Native.Nat.{_*_};
+ghost use Prim.Native.Nat.{_*_, _+_, _≤_, _<_};
 ghost use lib.ListN.{length};
-ghost use Rattle.typing.specs.Sheet.{Sheet};
+ghost use Rattle.sheet.specs.Sheet.{Sheet, ask, readSheet};
 ghost use Rattle.typing.specs.Answer.{largestSaid, smallestSaid, bothSaid};
-ghost use Rattle.typing.specs.Bookings.{BookingReading, readBookings};
-ghost use Rattle.typing.specs.Calls.{ask, readSheet, LargestFound, LargestSays, SmallestFound, SmallestSays, BothFound, BothSays};
-ghost use Rattle.pairs.specs.Pairs.{Opened, TableOf};
-use pairs::Extent;
-use pairs::SheetRead;
-use pairs::fit_grid;
-use pairs::read_sheet;
-use script::link_starts;
-use steps::BookingRead;
-use steps::Verdict;
-use steps::close;
-use steps::count_bare;
-use steps::judge;
-use steps::read_bookings;
-use steps::strike_all;
+ghost use Rattle.bookings.specs.Bookings.{BookingReading, readBookings};
+ghost use Rattle.typing.specs.Calls.{LargestFound, LargestSays, SmallestFound, SmallestSays, BothFound, BothSays};
+ghost use Rattle.sheet.specs.Opened.{Opened, TableOf};
+use board::count_on;
+use bookings::BookingRead;
+use bookings::read_bookings;
+use fits::fit_grid;
+use search::Unfit;
+use search::close;
+use search::first_unfit;
+use search::link_starts;
+use search::strike_all;
+use sheet::Extent;
+use sheet::SheetRead;
+use sheet::read_sheet;
 use typing::BothAnswer;
 use typing::LargestAnswer;
 use typing::SmallestAnswer;
+ghost use lib.Dec.{eqb};
+ghost use Rattle.board.specs.Grid.{on, tally};
+
+// Counts the cards with no shape.
+pub fn count_bare(grid: &[u8], cards: usize, shapes: usize) -> usize
+    requires { ⌜ (length (now grid) ≡ cards * shapes) × (cards ≤ 1024) × (shapes ≤ 32) ⌝ }
+    ensures { λ r. ⌜ r ≡ tally (λ n. eqb (tally (λ t. on (now (grid .entry)) (n * shapes + t)) shapes) 0) cards ⌝ }
+{
+    let mut bare = 0;
+    let mut n = 0;
+    while n < cards {
+        let base = n * shapes;
+        let end = base + shapes;
+        if count_on(&grid[base..end]) == 0 {
+            bare += 1;
+        }
+        n += 1;
+    }
+    bare
+}
 
 // The largest typing of a sheet that is read, in a grid of its size.
 fn largest_of(
@@ -97,10 +117,10 @@ fn smallest_of(
         grid,
         &mut queue,
     );
-    let verdict = judge(grid, fitting, e.shapes as usize);
-    match verdict {
-        Verdict::Met => SmallestAnswer::Pairs(found),
-        Verdict::Unmet(card, shape) => SmallestAnswer::NotMet(card, shape),
+    let unfit = first_unfit(grid, fitting, e.shapes as usize);
+    match unfit {
+        Unfit::Nowhere => SmallestAnswer::Pairs(found),
+        Unfit::At(card, shape) => SmallestAnswer::NotMet(card, shape),
     }
 }
 
@@ -172,7 +192,7 @@ fn both_of(
         small,
         &mut queue,
     );
-    let verdict = judge(small, large, e.shapes as usize);
+    let unfit = first_unfit(small, large, e.shapes as usize);
     let tally = strike_all(
         script,
         names,
@@ -182,15 +202,9 @@ fn both_of(
         &mut queue,
     );
     let bare = count_bare(large, e.cards as usize, e.shapes as usize);
-    match verdict {
-        Verdict::Met => BothAnswer::Typed(tally.rounds, tally.struck, bare, found),
-        Verdict::Unmet(card, shape) => BothAnswer::NotMet(
-            tally.rounds,
-            tally.struck,
-            bare,
-            card,
-            shape,
-        ),
+    match unfit {
+        Unfit::Nowhere => BothAnswer::Typed(tally.rounds, tally.struck, bare, found),
+        Unfit::At(card, shape) => BothAnswer::NotMet(tally.rounds, tally.struck, bare, card, shape),
     }
 }
 

@@ -14,23 +14,23 @@ use lib.ListN.{length, getD}
 use lib.Dec.{ltb, leb, eqb}
 use Rattle.bags.specs.Part.{Part, Parts}
 use Rattle.template.specs.declared.Sizes.{Sizes}
-use Rattle.template.specs.Answer.{Said, values, refusal}
-use Rattle.template.specs.Reading.{Code, Reading, found, refused, andThen, mapped, codeOf, limitsOk}
-use Rattle.template.specs.Reading.{readLink, readRun, readGroup, readCode, readPart}
+use Rattle.words.specs.Said.{Said, values, refusal}
+use Rattle.template.specs.Reading.{Code, Reading, found, refused, andThen, mapped, codeOf, limitsOk, readLink}
+use Rattle.template.specs.Reading.{readRun, readGroup, readCode, readPart}
 use Rattle.template.specs.Template.{Result, ok, fault, wholePart, mapResult, joined, afterShapes, sizesOf, noNames}
-use Rattle.template.specs.Template.{readShape, readShapes, readTemplate, templateSays, templateAnswer, TemplateReading}
-use Rattle.template.proofs.Laws.{pick-case}
+use Rattle.template.specs.Template.{readShape, readShapes, readTemplate, templateSays, templateAnswer}
+use Rattle.template.specs.Template.{TemplateReading}
+use Rattle.words.proofs.Bools.{cond-case}
 use Rattle.counts.specs.Fit.{Question, unlessOver, questionOf, fitQuestion, Answers, FitSays}
 use Rattle.script.specs.Link.{fromAt, kindAt, toAt, above}
 use Rattle.script.specs.Script.{ScriptReading, readLinks, readScript, scriptAnswer, scriptSays}
 use Rattle.script.specs.Script as reading
-use Rattle.typing.specs.Sheet.{Sheet, size}
-use Rattle.typing.specs.Bookings.{BookingReading, cardAt, shapeAt, readPairs, readBookings}
+use Rattle.sheet.specs.Sheet.{Sheet, size, SheetReading, withScript, withTemplate, readSheet}
+use Rattle.bookings.specs.Bookings.{BookingReading, cardAt, shapeAt, readPairs, readBookings}
 use Rattle.typing.specs.Answer.{BothSaid}
 use Rattle.typing.specs.Demand3.{Outcome, pairs, notMet}
-use Rattle.typing.specs.Calls.{SheetReading, withScript, withTemplate, readSheet, withGrid, afterBookings, withBookings}
-use Rattle.typing.specs.Calls.{LargestAnswered, LargestSays, SmallestAnswered, SmallestSays, outcomeSaid, Grids}
-use Rattle.typing.specs.Calls.{BothAnswered, BothSays}
+use Rattle.typing.specs.Calls.{withGrid, afterBookings, withBookings, LargestAnswered, LargestSays, SmallestAnswered}
+use Rattle.typing.specs.Calls.{SmallestSays, outcomeSaid, Grids, BothAnswered, BothSays}
 
 -- A number that is neither 0 nor 50.
 abbrev pub Plain : ℕ → Type 0
@@ -61,11 +61,11 @@ module _ (words : List ℕ) (end : ℕ) (sizes : Sizes) where
   plain-link : (at : ℕ) (row : List ℕ) (kind : ℕ) → PlainPart (readLink words end sizes at row kind)
   unfolding readLink
   plain-link at row kind =
-      pick-case PlainPart (ltb (end - at) 4) _ _ (λ _. (refl, refl))
-      (λ _. pick-case PlainPart (leb (sizes .kinds) kind) _ _ (λ _. (refl, refl))
-      (λ _. pick-case PlainPart (eqb (getD row kind 0) 0) _ _
-      (λ _. pick-case PlainPart (leb (sizes .shapes) (getD words (at + 1) 0)) _ _ (λ _. (refl, refl))
-      (λ _. pick-case PlainPart (limitsOk (getD words (at + 2) 0) (getD words (at + 3) 0)) _ _ (λ _. tt)
+      cond-case PlainPart (ltb (end - at) 4) _ _ (λ _. (refl, refl))
+      (λ _. cond-case PlainPart (leb (sizes .kinds) kind) _ _ (λ _. (refl, refl))
+      (λ _. cond-case PlainPart (eqb (getD row kind 0) 0) _ _
+      (λ _. cond-case PlainPart (leb (sizes .shapes) (getD words (at + 1) 0)) _ _ (λ _. (refl, refl))
+      (λ _. cond-case PlainPart (limitsOk (getD words (at + 2) 0) (getD words (at + 3) 0)) _ _ (λ _. tt)
       (λ _. (refl, refl))))
       (λ _. (refl, refl))))
 
@@ -79,9 +79,9 @@ module _ (words : List ℕ) (end : ℕ) (sizes : Sizes) where
 
     plain-group : (at : ℕ) (row : List ℕ) → PlainRun (readGroup inner words end at row)
     plain-group at row =
-        pick-case PlainRun (ltb (end - at) 2) _ _ (λ _. (refl, refl))
-        (λ _. pick-case PlainRun (ltb (getD words (at + 1) 0) 2) _ _ (λ _. (refl, refl))
-        (λ _. pick-case PlainRun (ltb 16 (getD words (at + 1) 0)) _ _ (λ _. (refl, refl))
+        cond-case PlainRun (ltb (end - at) 2) _ _ (λ _. (refl, refl))
+        (λ _. cond-case PlainRun (ltb (getD words (at + 1) 0) 2) _ _ (λ _. (refl, refl))
+        (λ _. cond-case PlainRun (ltb 16 (getD words (at + 1) 0)) _ _ (λ _. (refl, refl))
         (λ _. plain-run (getD words (at + 1) 0) (at + 2) row)))
 
     plain-code : (code : Code) (at : ℕ) (row : List ℕ) → PlainPart (readCode code inner words end sizes at row)
@@ -93,9 +93,9 @@ module _ (words : List ℕ) (end : ℕ) (sizes : Sizes) where
 
   plain-part : (left at : ℕ) (row : List ℕ) → PlainPart (readPart left words end sizes at row)
   unfolding readPart
-  plain-part zero at row = pick-case PlainPart (leb end at) _ _ (λ _. (refl, refl)) (λ _. (refl, refl))
+  plain-part zero at row = cond-case PlainPart (leb end at) _ _ (λ _. (refl, refl)) (λ _. (refl, refl))
   plain-part (suc left) at row =
-      pick-case PlainPart (leb end at) _ _ (λ _. (refl, refl))
+      cond-case PlainPart (leb end at) _ _ (λ _. (refl, refl))
       (λ _. plain-code (readPart left words end sizes) (plain-part left) (codeOf (getD words at 0)) at row)
 
 -- The same of shapes and of the template.
@@ -110,7 +110,7 @@ abbrev PlainShapes : Result (List Part) → Type 0
 PlainShapes r = PlainResult r
 
 plain-whole : (end : ℕ) (r : Reading Part) → PlainPart r → PlainShape (wholePart end r)
-plain-whole end (found p next row) h = pick-case PlainShape (ltb next end) _ _ (λ _. (refl, refl)) (λ _. tt)
+plain-whole end (found p next row) h = cond-case PlainShape (ltb next end) _ _ (λ _. (refl, refl)) (λ _. tt)
 plain-whole end (refused number place row) h = h
 
 plain-after : (p : Part) (r : Result (List Part)) → PlainShapes r → PlainShapes (mapResult (_∷_ p) r)
@@ -127,14 +127,14 @@ module _ (sizes : Sizes) (words : List ℕ) where
   plain-shape : (at : ℕ) → PlainShape (readShape sizes words at)
   unfolding readShape
   plain-shape at =
-      pick-case PlainShape (leb (length words) at) _ _ (λ _. (refl, refl))
-      (λ _. pick-case PlainShape (ltb (length words - (at + 1)) (getD words at 0)) _ _ (λ _. (refl, refl))
+      cond-case PlainShape (leb (length words) at) _ _ (λ _. (refl, refl))
+      (λ _. cond-case PlainShape (ltb (length words - (at + 1)) (getD words at 0)) _ _ (λ _. (refl, refl))
       (λ _. plain-whole (at + 1 + getD words at 0) (readPart 12 words (at + 1 + getD words at 0) sizes (at + 1) noNames)
       (plain-part words (at + 1 + getD words at 0) sizes 12 (at + 1) noNames)))
 
   plain-shapes : (n at : ℕ) → PlainShapes (readShapes sizes words n at)
   unfolding readShapes
-  plain-shapes zero at = pick-case PlainShapes (ltb at (length words)) _ _ (λ _. (refl, refl)) (λ _. tt)
+  plain-shapes zero at = cond-case PlainShapes (ltb at (length words)) _ _ (λ _. (refl, refl)) (λ _. tt)
   plain-shapes (suc n) at = plain-joined (readShape sizes words at) (readShapes sizes words n) (plain-shape at) (plain-shapes n)
 
 abbrev PlainTemplate : TemplateReading → Type 0
@@ -148,12 +148,12 @@ plain-after-shapes kinds shapes (fault number place) h = h
 plain-template : (words : List ℕ) → PlainTemplate (readTemplate words)
 unfolding readTemplate
 plain-template words =
-    pick-case PlainTemplate (ltb (length words) 2) _ _ (λ _. (refl, refl))
-    (λ _. pick-case PlainTemplate (ltb 4096 (length words)) _ _ (λ _. (refl, refl))
-    (λ _. pick-case PlainTemplate (ltb (getD words 0 0) 1) _ _ (λ _. (refl, refl))
-    (λ _. pick-case PlainTemplate (ltb 64 (getD words 0 0)) _ _ (λ _. (refl, refl))
-    (λ _. pick-case PlainTemplate (ltb (getD words 1 0) 1) _ _ (λ _. (refl, refl))
-    (λ _. pick-case PlainTemplate (ltb 32 (getD words 1 0)) _ _ (λ _. (refl, refl))
+    cond-case PlainTemplate (ltb (length words) 2) _ _ (λ _. (refl, refl))
+    (λ _. cond-case PlainTemplate (ltb 4096 (length words)) _ _ (λ _. (refl, refl))
+    (λ _. cond-case PlainTemplate (ltb (getD words 0 0) 1) _ _ (λ _. (refl, refl))
+    (λ _. cond-case PlainTemplate (ltb 64 (getD words 0 0)) _ _ (λ _. (refl, refl))
+    (λ _. cond-case PlainTemplate (ltb (getD words 1 0) 1) _ _ (λ _. (refl, refl))
+    (λ _. cond-case PlainTemplate (ltb 32 (getD words 1 0)) _ _ (λ _. (refl, refl))
     (λ _. plain-after-shapes (getD words 0 0) (getD words 1 0)
     (readShapes (sizesOf (getD words 0 0) (getD words 1 0)) words (getD words 1 0) 2)
     (plain-shapes (sizesOf (getD words 0 0) (getD words 1 0)) words (getD words 1 0) 2)))))))
@@ -185,19 +185,19 @@ plain-links :
 unfolding readLinks
 plain-links kinds cards script zero i done h = h
 plain-links kinds cards script (suc n) i done h =
-    pick-case PlainScript (leb cards (fromAt script i)) _ _ (λ _. (refl, refl))
-    (λ _. pick-case PlainScript (leb kinds (kindAt script i)) _ _ (λ _. (refl, refl))
-    (λ _. pick-case PlainScript (leb cards (toAt script i)) _ _ (λ _. (refl, refl))
-    (λ _. pick-case PlainScript (above script i) _ _ (λ _. plain-links kinds cards script n (suc i) done h)
+    cond-case PlainScript (leb cards (fromAt script i)) _ _ (λ _. (refl, refl))
+    (λ _. cond-case PlainScript (leb kinds (kindAt script i)) _ _ (λ _. (refl, refl))
+    (λ _. cond-case PlainScript (leb cards (toAt script i)) _ _ (λ _. (refl, refl))
+    (λ _. cond-case PlainScript (above script i) _ _ (λ _. plain-links kinds cards script n (suc i) done h)
     (λ _. (refl, refl)))))
 
 plain-script : (kinds : ℕ) (script : List ℕ) → PlainScript (readScript kinds script)
 unfolding readScript
 plain-script kinds script =
-    pick-case PlainScript (ltb (length script) 2) _ _ (λ _. (refl, refl))
-    (λ _. pick-case PlainScript (ltb 1024 (getD script 0 0)) _ _ (λ _. (refl, refl))
-    (λ _. pick-case PlainScript (ltb 8192 (getD script 1 0)) _ _ (λ _. (refl, refl))
-    (λ _. pick-case PlainScript (eqb (length script) (2 + 3 * getD script 1 0)) _ _
+    cond-case PlainScript (ltb (length script) 2) _ _ (λ _. (refl, refl))
+    (λ _. cond-case PlainScript (ltb 1024 (getD script 0 0)) _ _ (λ _. (refl, refl))
+    (λ _. cond-case PlainScript (ltb 8192 (getD script 1 0)) _ _ (λ _. (refl, refl))
+    (λ _. cond-case PlainScript (eqb (length script) (2 + 3 * getD script 1 0)) _ _
     (λ _. plain-links kinds (getD script 0 0) script (getD script 1 0) 0 _ tt)
     (λ _. (refl, refl)))))
 
@@ -226,14 +226,14 @@ plain-unless-over : (counts : List ℕ) (i : ℕ) (q : Question) → PlainQuesti
 unfolding unlessOver
 plain-unless-over [] i q h = h
 plain-unless-over (w ∷ ws) i q h =
-    pick-case PlainQuestion (ltb 8192 w) _ _ (λ _. (refl, refl)) (λ _. plain-unless-over ws (suc i) q h)
+    cond-case PlainQuestion (ltb 8192 w) _ _ (λ _. (refl, refl)) (λ _. plain-unless-over ws (suc i) q h)
 
 plain-question-of :
     (r : TemplateReading) (shape : ℕ) (counts : List ℕ) → PlainTemplate r → PlainQuestion (questionOf r shape counts)
 plain-question-of (TemplateReading.turnedDown number place) shape counts h = h
 plain-question-of (TemplateReading.accepted kinds shapes trees) shape counts h =
-    pick-case PlainQuestion (leb shapes shape) _ _ (λ _. (refl, refl))
-    (λ _. pick-case PlainQuestion (eqb (length counts) kinds) _ _
+    cond-case PlainQuestion (leb shapes shape) _ _ (λ _. (refl, refl))
+    (λ _. cond-case PlainQuestion (eqb (length counts) kinds) _ _
     (λ _. plain-unless-over counts 0 (Question.ask shapes (getD trees shape Part.nothing) counts) tt)
     (λ _. (refl, refl)))
 
@@ -275,7 +275,7 @@ plain-sheet template script = plain-sheet-of (readTemplate template) script (pla
 plain-grid : (grid : List ℕ) (r : SheetReading) → PlainSheet r → PlainSheet (withGrid grid r)
 plain-grid grid (SheetReading.turnedDown number place) h = h
 plain-grid grid (SheetReading.ask s) h =
-    pick-case PlainSheet (eqb (length grid) (size s)) _ _ (λ _. tt) (λ _. (refl, refl))
+    cond-case PlainSheet (eqb (length grid) (size s)) _ _ (λ _. tt) (λ _. (refl, refl))
 
 abbrev PlainBookings : BookingReading → Type 0
 PlainBookings (BookingReading.accepted count) = Unit {0}
@@ -287,16 +287,16 @@ plain-pairs :
 unfolding readPairs
 plain-pairs cards shapes bookings zero i done h = h
 plain-pairs cards shapes bookings (suc n) i done h =
-    pick-case PlainBookings (leb cards (cardAt bookings i)) _ _ (λ _. (refl, refl))
-    (λ _. pick-case PlainBookings (leb shapes (shapeAt bookings i)) _ _ (λ _. (refl, refl))
+    cond-case PlainBookings (leb cards (cardAt bookings i)) _ _ (λ _. (refl, refl))
+    (λ _. cond-case PlainBookings (leb shapes (shapeAt bookings i)) _ _ (λ _. (refl, refl))
     (λ _. plain-pairs cards shapes bookings n (suc i) done h))
 
 plain-read-bookings : (cards shapes : ℕ) (bookings : List ℕ) → PlainBookings (readBookings cards shapes bookings)
 unfolding readBookings
 plain-read-bookings cards shapes bookings =
-    pick-case PlainBookings (eqb (length bookings) 0) _ _ (λ _. (refl, refl))
-    (λ _. pick-case PlainBookings (ltb 1024 (getD bookings 0 0)) _ _ (λ _. (refl, refl))
-    (λ _. pick-case PlainBookings (eqb (length bookings) (1 + 2 * getD bookings 0 0)) _ _
+    cond-case PlainBookings (eqb (length bookings) 0) _ _ (λ _. (refl, refl))
+    (λ _. cond-case PlainBookings (ltb 1024 (getD bookings 0 0)) _ _ (λ _. (refl, refl))
+    (λ _. cond-case PlainBookings (eqb (length bookings) (1 + 2 * getD bookings 0 0)) _ _
     (λ _. plain-pairs cards shapes bookings (getD bookings 0 0) 0 (BookingReading.accepted (getD bookings 0 0)) tt)
     (λ _. (refl, refl))))
 

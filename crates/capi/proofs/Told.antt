@@ -4,10 +4,9 @@
 use Prim.Native.Nat.{ℕ}
 use mathlib.Core.Path.{_≡_, refl, sym, ap, subst, _∙_}
 use mathlib.Core.List.{List, [], _∷_}
-use mathlib.Core.Bool.{Bool}
+use mathlib.Core.Bool.{Bool, cond}
 use lib.Dec.{eqb}
-use Rattle.template.specs.Answer.{Said, values, refusal}
-use Rattle.template.specs.Reading.{pick}
+use Rattle.words.specs.Said.{Said, values, refusal}
 use Rattle.template.specs.Template.{templateSays}
 use Rattle.counts.specs.Fit.{FitSays}
 use Rattle.script.specs.Script.{scriptSays}
@@ -19,8 +18,9 @@ use Rattle.capi.specs.declared.PrepScript.{PrepScript}
 use Rattle.capi.specs.declared.PrepLargest.{PrepLargest}
 use Rattle.capi.specs.declared.PrepSmallest.{PrepSmallest}
 use Rattle.capi.specs.declared.PrepBoth.{PrepBoth}
-use Rattle.capi.specs.Numbers.{Zeros, said, templateSaid, templateRest, fitSaid, fitRest, scriptSaid, scriptRest}
-use Rattle.capi.specs.Numbers.{largestSaid, largestRest, smallestSaid, smallestRest, bothSaid, bothRest}
+use Rattle.capi.specs.Numbers.{Zeros, said, templateSaid, templateRest, fitSaid, fitRest, scriptSaid}
+use Rattle.capi.specs.Numbers.{scriptRest, largestSaid, largestRest, smallestSaid, smallestRest, bothSaid}
+use Rattle.capi.specs.Numbers.{bothRest}
 use Rattle.capi.proofs.Refusals.{Plain, PlainSaid, template-said-plain, fit-said-plain, script-said-plain}
 use Rattle.capi.proofs.Refusals.{largest-said-plain, smallest-said-plain, both-said-plain}
 
@@ -47,13 +47,13 @@ bothRefused number place =
 module _ (number place : ℕ) (plain : Plain number) where
   -- What a plain number says, and which numbers then say nothing.
   plain-said : (found : List ℕ) → said number (place ∷ []) found ≡ refusal number (place ∷ [])
-  plain-said found = ap (λ (b : Bool). pick b (values found) (refusal number (place ∷ []))) (plain .0)
+  plain-said found = ap (λ (b : Bool). cond b (values found) (refusal number (place ∷ []))) (plain .0)
 
-  plain-rest : (unplaced found : List ℕ) → Zeros found → Zeros (pick (eqb number 0) unplaced found)
-  plain-rest unplaced found z = subst (λ (b : Bool). Zeros (pick b unplaced found)) (sym (plain .0)) z
+  plain-rest : (unplaced found : List ℕ) → Zeros found → Zeros (cond (eqb number 0) unplaced found)
+  plain-rest unplaced found z = subst (λ (b : Bool). Zeros (cond b unplaced found)) (sym (plain .0)) z
 
-  not-50 : {A : Type 0} (x y : A) → pick (eqb number 50) x y ≡ y
-  not-50 x y = ap (λ (b : Bool). pick b x y) (plain .1)
+  not-50 : {A : Type 0} (x y : A) → cond (eqb number 50) x y ≡ y
+  not-50 x y = ap (λ (b : Bool). cond b x y) (plain .1)
 
   smallest-said : smallestSaid (smallestRefused number place) ≡ refusal number (place ∷ [])
   smallest-said =

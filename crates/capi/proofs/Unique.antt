@@ -6,12 +6,11 @@
 use Prim.Native.Nat.{ℕ}
 use mathlib.Core.Path.{_≡_, refl, sym, ap, _∙_}
 use mathlib.Core.List.{[], _∷_}
-use mathlib.Core.Bool.{Bool, true, false}
+use mathlib.Core.Bool.{Bool, true, false, cond}
 use lib.ListN.{getD}
 use lib.Dec.{eqb}
 use borrow.Author.Tests.{eqb-true}
-use Rattle.template.specs.Answer.{Said, values, refusal}
-use Rattle.template.specs.Reading.{pick}
+use Rattle.words.specs.Said.{Said, values, refusal}
 use Rattle.typing.specs.Answer.{BothSaid}
 use Rattle.capi.specs.declared.PrepTemplate.{PrepTemplate}
 use Rattle.capi.specs.declared.PrepFit.{PrepFit}
@@ -19,8 +18,9 @@ use Rattle.capi.specs.declared.PrepScript.{PrepScript}
 use Rattle.capi.specs.declared.PrepLargest.{PrepLargest}
 use Rattle.capi.specs.declared.PrepSmallest.{PrepSmallest}
 use Rattle.capi.specs.declared.PrepBoth.{PrepBoth}
-use Rattle.capi.specs.Numbers.{Zeros, said, templateSaid, templateRest, fitSaid, fitRest, scriptSaid, scriptRest}
-use Rattle.capi.specs.Numbers.{largestSaid, largestRest, smallestSaid, smallestRest, bothSaid, bothRest}
+use Rattle.capi.specs.Numbers.{Zeros, said, templateSaid, templateRest, fitSaid, fitRest, scriptSaid}
+use Rattle.capi.specs.Numbers.{scriptRest, largestSaid, largestRest, smallestSaid, smallestRest, bothSaid}
+use Rattle.capi.specs.Numbers.{bothRest}
 
 -- Answers on a template.
 abbrev templateOf : Said → PrepTemplate
@@ -28,8 +28,8 @@ templateOf (values found) = record { number = 0; kinds = getD found 0 0; shapes 
 templateOf (refusal number place) = record { number = number; kinds = 0; shapes = 0; place = getD place 0 0 }
 
 template-by-test :
-    (number kinds shapes place : ℕ) (b : Bool) → eqb number 0 ≡ b → Zeros (pick b (place ∷ []) (kinds ∷ shapes ∷ [])) →
-    templateOf (pick b (values (kinds ∷ shapes ∷ [])) (refusal number (place ∷ [])))
+    (number kinds shapes place : ℕ) (b : Bool) → eqb number 0 ≡ b → Zeros (cond b (place ∷ []) (kinds ∷ shapes ∷ [])) →
+    templateOf (cond b (values (kinds ∷ shapes ∷ [])) (refusal number (place ∷ [])))
     ≡ record { number = number; kinds = kinds; shapes = shapes; place = place }
 template-by-test number kinds shapes place true t z = rw (eqb-true number 0 t, z .0)
 template-by-test number kinds shapes place false t z = rw (z .0, z .1 .0)
@@ -47,8 +47,8 @@ fitOf (values found) = record { number = 0; fits = getD found 0 0; place = 0 }
 fitOf (refusal number place) = record { number = number; fits = 0; place = getD place 0 0 }
 
 fit-by-test :
-    (number fits place : ℕ) (b : Bool) → eqb number 0 ≡ b → Zeros (pick b (place ∷ []) (fits ∷ [])) →
-    fitOf (pick b (values (fits ∷ [])) (refusal number (place ∷ [])))
+    (number fits place : ℕ) (b : Bool) → eqb number 0 ≡ b → Zeros (cond b (place ∷ []) (fits ∷ [])) →
+    fitOf (cond b (values (fits ∷ [])) (refusal number (place ∷ [])))
     ≡ record { number = number; fits = fits; place = place }
 fit-by-test number fits place true t z = rw (eqb-true number 0 t, z .0)
 fit-by-test number fits place false t z = rw (z .0)
@@ -66,8 +66,8 @@ scriptOf (values found) = record { number = 0; cards = getD found 0 0; links = g
 scriptOf (refusal number place) = record { number = number; cards = 0; links = 0; place = getD place 0 0 }
 
 script-by-test :
-    (number cards links place : ℕ) (b : Bool) → eqb number 0 ≡ b → Zeros (pick b (place ∷ []) (cards ∷ links ∷ [])) →
-    scriptOf (pick b (values (cards ∷ links ∷ [])) (refusal number (place ∷ [])))
+    (number cards links place : ℕ) (b : Bool) → eqb number 0 ≡ b → Zeros (cond b (place ∷ []) (cards ∷ links ∷ [])) →
+    scriptOf (cond b (values (cards ∷ links ∷ [])) (refusal number (place ∷ [])))
     ≡ record { number = number; cards = cards; links = links; place = place }
 script-by-test number cards links place true t z = rw (eqb-true number 0 t, z .0)
 script-by-test number cards links place false t z = rw (z .0, z .1 .0)
@@ -85,8 +85,8 @@ largestOf (values found) = record { number = 0; place = 0; rounds = getD found 0
 largestOf (refusal number place) = record { number = number; place = getD place 0 0; rounds = 0; struck = 0; bare = 0 }
 
 largest-by-test :
-    (number place rounds struck bare : ℕ) (b : Bool) → eqb number 0 ≡ b → Zeros (pick b (place ∷ []) (rounds ∷ struck ∷ bare ∷ [])) →
-    largestOf (pick b (values (rounds ∷ struck ∷ bare ∷ [])) (refusal number (place ∷ [])))
+    (number place rounds struck bare : ℕ) (b : Bool) → eqb number 0 ≡ b → Zeros (cond b (place ∷ []) (rounds ∷ struck ∷ bare ∷ [])) →
+    largestOf (cond b (values (rounds ∷ struck ∷ bare ∷ [])) (refusal number (place ∷ [])))
     ≡ record { number = number; place = place; rounds = rounds; struck = struck; bare = bare }
 largest-by-test number place rounds struck bare true t z = rw (eqb-true number 0 t, z .0)
 largest-by-test number place rounds struck bare false t z = rw (z .0, z .1 .0, z .1 .1 .0)
@@ -104,17 +104,17 @@ smallestOf (values found) = record { number = 0; card = 0; shape = 0; place = 0;
 smallestOf (refusal number place) =
     record {
       number = number;
-      card = pick (eqb number 50) (getD place 0 0) 0;
-      shape = pick (eqb number 50) (getD place 1 0) 0;
-      place = pick (eqb number 50) 0 (getD place 0 0);
+      card = cond (eqb number 50) (getD place 0 0) 0;
+      shape = cond (eqb number 50) (getD place 1 0) 0;
+      place = cond (eqb number 50) 0 (getD place 0 0);
       pairs = 0;
     }
 
 smallest-by-test :
     (number card shape place pairs : ℕ) (b c : Bool) → eqb number 0 ≡ b → eqb number 50 ≡ c →
     Zeros
-    (pick b (place ∷ card ∷ shape ∷ []) (pick c (place ∷ pairs ∷ []) (card ∷ shape ∷ pairs ∷ []))) →
-    smallestOf (pick b (values (pairs ∷ [])) (refusal number (pick c (card ∷ shape ∷ []) (place ∷ []))))
+    (cond b (place ∷ card ∷ shape ∷ []) (cond c (place ∷ pairs ∷ []) (card ∷ shape ∷ pairs ∷ []))) →
+    smallestOf (cond b (values (pairs ∷ [])) (refusal number (cond c (card ∷ shape ∷ []) (place ∷ []))))
     ≡ record { number = number; card = card; shape = shape; place = place; pairs = pairs }
 smallest-by-test number card shape place pairs true c t u z =
     rw (eqb-true number 0 t, z .0, z .1 .0, z .1 .1 .0)
@@ -162,10 +162,10 @@ bothOf (refusal number place) small =
 both-by-test :
     (number card shape place rounds struck bare pairs : ℕ) (b c : Bool) → eqb number 0 ≡ b → eqb number 50 ≡ c →
     Zeros
-    (pick b (place ∷ card ∷ shape ∷ [])
-    (pick c (place ∷ pairs ∷ []) (card ∷ shape ∷ rounds ∷ struck ∷ bare ∷ pairs ∷ []))) →
-    bothOf (said (pick c 0 number) (place ∷ []) (rounds ∷ struck ∷ bare ∷ []))
-    (pick b (values (pairs ∷ [])) (refusal number (pick c (card ∷ shape ∷ []) (place ∷ []))))
+    (cond b (place ∷ card ∷ shape ∷ [])
+    (cond c (place ∷ pairs ∷ []) (card ∷ shape ∷ rounds ∷ struck ∷ bare ∷ pairs ∷ []))) →
+    bothOf (said (cond c 0 number) (place ∷ []) (rounds ∷ struck ∷ bare ∷ []))
+    (cond b (values (pairs ∷ [])) (refusal number (cond c (card ∷ shape ∷ []) (place ∷ []))))
     ≡ record {
       number = number;
       card = card;

@@ -5,13 +5,13 @@
 -- templateSaid, templateRest ..   what each struct says, and its numbers that say nothing
 -- copied                          a buffer after words are copied to its start
 -- Assumes nothing.
+use mathlib.Core.Bool.{cond}
 use Prim.Native.Nat.{ℕ}
 use mathlib.Core.Path.{_≡_}
 use mathlib.Core.List.{List, [], _∷_, _++_}
 use lib.ListN.{length, take, drop}
 use lib.Dec.{eqb}
-use Rattle.template.specs.Answer.{Said, values, refusal}
-use Rattle.template.specs.Reading.{pick}
+use Rattle.words.specs.Said.{Said, values, refusal}
 use Rattle.typing.specs.Answer.{BothSaid}
 use Rattle.capi.specs.declared.PrepTemplate.{PrepTemplate}
 use Rattle.capi.specs.declared.PrepFit.{PrepFit}
@@ -22,11 +22,11 @@ use Rattle.capi.specs.declared.PrepBoth.{PrepBoth}
 
 -- Of a number, the words of its place and the values: the values where the number is 0, else the refusal.
 abbrev pub said : ℕ → List ℕ → List ℕ → Said
-said number place found = pick (eqb number 0) (values found) (refusal number place)
+said number place found = cond (eqb number 0) (values found) (refusal number place)
 
 -- The numbers that say nothing: those of the place where the number is 0, else the values.
 abbrev pub rest : ℕ → List ℕ → List ℕ → List ℕ
-rest number place found = pick (eqb number 0) place found
+rest number place found = cond (eqb number 0) place found
 
 -- Each number of the list is 0.
 abbrev pub Zeros : List ℕ → Type 0
@@ -69,24 +69,24 @@ largestRest r = rest (r .number) (r .place ∷ []) (r .rounds ∷ r .struck ∷ 
 abbrev pub smallestSaid : PrepSmallest → Said
 smallestSaid r =
     said (r .number)
-    (pick (eqb (r .number) 50) (r .card ∷ r .shape ∷ []) (r .place ∷ []))
+    (cond (eqb (r .number) 50) (r .card ∷ r .shape ∷ []) (r .place ∷ []))
     (r .pairs ∷ [])
 
 abbrev pub smallestRest : PrepSmallest → List ℕ
 smallestRest r =
     rest (r .number)
     (r .place ∷ r .card ∷ r .shape ∷ [])
-    (pick (eqb (r .number) 50) (r .place ∷ r .pairs ∷ []) (r .card ∷ r .shape ∷ r .pairs ∷ []))
+    (cond (eqb (r .number) 50) (r .place ∷ r .pairs ∷ []) (r .card ∷ r .shape ∷ r .pairs ∷ []))
 
 -- With 50 the largest typing has its numbers; another refusal is said of both.
 abbrev pub bothSaid : PrepBoth → BothSaid
 bothSaid r =
     record {
       largest =
-          said (pick (eqb (r .number) 50) 0 (r .number)) (r .place ∷ []) (r .rounds ∷ r .struck ∷ r .bare ∷ []);
+          said (cond (eqb (r .number) 50) 0 (r .number)) (r .place ∷ []) (r .rounds ∷ r .struck ∷ r .bare ∷ []);
       smallest =
           said (r .number)
-          (pick (eqb (r .number) 50) (r .card ∷ r .shape ∷ []) (r .place ∷ []))
+          (cond (eqb (r .number) 50) (r .card ∷ r .shape ∷ []) (r .place ∷ []))
           (r .pairs ∷ []);
     }
 
@@ -94,6 +94,6 @@ abbrev pub bothRest : PrepBoth → List ℕ
 bothRest r =
     rest (r .number)
     (r .place ∷ r .card ∷ r .shape ∷ [])
-    (pick (eqb (r .number) 50)
+    (cond (eqb (r .number) 50)
     (r .place ∷ r .pairs ∷ [])
     (r .card ∷ r .shape ∷ r .rounds ∷ r .struck ∷ r .bare ∷ r .pairs ∷ []))

@@ -13,10 +13,11 @@ use lib.Dec.{ltb, leb, eqb}
 use Rattle.bags.specs.Part.{Part, Parts}
 use Rattle.bags.specs.Span.{limitOf}
 use Rattle.template.specs.declared.Sizes.{Sizes}
-use Rattle.template.specs.Reading.{Code, codeOf, Reading, found, refused, limitsOk, readLink, readRun, readPart, readCode, readGroup, andThen, mapped}
+use Rattle.template.specs.Reading.{Code, codeOf, Reading, found, refused, limitsOk, readLink, readRun, readPart}
+use Rattle.template.specs.Reading.{readCode, readGroup, andThen, mapped}
 use Rattle.template.specs.Template.{accepted, readTemplate, noNames, sizesOf, shapePlace}
 use Rattle.counts.specs.Trees.{Placed, placed, onto, before, treesAt, treeBy, treeAt}
-use Rattle.template.proofs.Laws.{pick-case}
+use Rattle.words.proofs.Bools.{cond-case}
 use Rattle.template.proofs.Accepted.{template-accepted}
 
 abbrev pub Agrees : {A : Type 0} → Reading A → Placed A → Type 0
@@ -52,11 +53,11 @@ module _ (words : List ℕ) (end : ℕ) (sizes : Sizes) where
   link-agrees at row k =
       let P : Reading Part → Type 0 = λ r. Agrees r
       (placed (Part.link k (getD words (at + 1) 0) (getD words (at + 2) 0) (limitOf (getD words (at + 3) 0))) (at + 4)) in
-      pick-case P (ltb (end - at) 4) _ _ (λ e. tt)
-      (λ e. pick-case P (leb (sizes .kinds) k) _ _ (λ e₂. tt)
-      (λ e₂. pick-case P (eqb (getD row k 0) 0) _ _
-      (λ e₃. pick-case P (leb (sizes .shapes) (getD words (at + 1) 0)) _ _ (λ e₄. tt)
-      (λ e₄. pick-case P (limitsOk (getD words (at + 2) 0) (getD words (at + 3) 0)) _ _ (λ e₅. refl) (λ e₅. tt)))
+      cond-case P (ltb (end - at) 4) _ _ (λ e. tt)
+      (λ e. cond-case P (leb (sizes .kinds) k) _ _ (λ e₂. tt)
+      (λ e₂. cond-case P (eqb (getD row k 0) 0) _ _
+      (λ e₃. cond-case P (leb (sizes .shapes) (getD words (at + 1) 0)) _ _ (λ e₄. tt)
+      (λ e₄. cond-case P (limitsOk (getD words (at + 2) 0) (getD words (at + 3) 0)) _ _ (λ e₅. refl) (λ e₅. tt)))
       (λ e₃. tt)))
 
   code-agrees :
@@ -70,9 +71,9 @@ module _ (words : List ℕ) (end : ℕ) (sizes : Sizes) where
       let t : Placed Parts = treesAt g (getD words (at + 1) 0) (at + 2) in
       let P : Reading Parts → Type 0 = λ r. Agrees r t in
       mapped-agrees w (readGroup f words end at row) t
-      (pick-case P (ltb (end - at) 2) _ _ (λ e. tt)
-      (λ e. pick-case P (ltb (getD words (at + 1) 0) 2) _ _ (λ e₂. tt)
-      (λ e₂. pick-case P (ltb 16 (getD words (at + 1) 0)) _ _ (λ e₃. tt)
+      (cond-case P (ltb (end - at) 2) _ _ (λ e. tt)
+      (λ e. cond-case P (ltb (getD words (at + 1) 0) 2) _ _ (λ e₂. tt)
+      (λ e₂. cond-case P (ltb 16 (getD words (at + 1) 0)) _ _ (λ e₃. tt)
       (λ e₃. run-agrees f g h (getD words (at + 1) 0) (at + 2) row))))
   code-agrees (Code.link k) f g at row h = link-agrees at row k
 
@@ -81,9 +82,9 @@ module _ (words : List ℕ) (end : ℕ) (sizes : Sizes) where
       Agrees (readPart left words end sizes at row) (treeAt left words at)
   unfolding readPart treeAt
   part-agrees zero at row h =
-      pick-case (λ (r : Reading Part). Agrees r (placed Part.nothing at)) (leb end at) _ _ (λ e. tt) (λ e. tt)
+      cond-case (λ (r : Reading Part). Agrees r (placed Part.nothing at)) (leb end at) _ _ (λ e. tt) (λ e. tt)
   part-agrees (suc left) at row h =
-      pick-case (λ (r : Reading Part). Agrees r (treeAt (suc left) words at)) (leb end at) _ _ (λ e. tt)
+      cond-case (λ (r : Reading Part). Agrees r (treeAt (suc left) words at)) (leb end at) _ _ (λ e. tt)
       (λ e.
       let i = leb-false end at e in
       let j : at < length words = omega arith in

@@ -13,7 +13,8 @@ use borrow.Author.Tests.{eq-eqb, ne-eqb}
 use lib.ListN.{length}
 use lib.Dec.{eqb}
 use Rattle.bags.specs.Part.{Part, Parts, Limit}
-use Rattle.bags.specs.Interval.{from, add, meet, starInterval, plusInterval, linkInterval, interval, count, inside, othersZero, fits}
+use Rattle.bags.specs.Interval.{from, add, meet, starInterval, plusInterval, linkInterval, interval, count, inside}
+use Rattle.bags.specs.Interval.{othersZero, fits}
 use Rattle.bags.specs.Span.{view, Small}
 use Rattle.bags.specs.declared.Span.{Span}
 use Rattle.bags.proofs.Spans.{span, small-more, small-up}

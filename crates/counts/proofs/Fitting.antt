@@ -19,8 +19,8 @@ use Rattle.bags.specs.Part.{Part, named}
 use Rattle.bags.specs.Bag.{Fits}
 use Rattle.bags.specs.Interval.{count, fits}
 use Rattle.bags.proofs.Decide.{fits-decided}
-use Rattle.template.specs.Answer.{Said, values, refusal}
-use Rattle.template.specs.Template.{TemplateReading, accepted, readTemplate, templateAnswer, templateSays, shapePlace, Tabled}
+use Rattle.words.specs.Said.{Said, values, refusal}
+use Rattle.template.specs.Template.{accepted, readTemplate, templateSays, shapePlace, Tabled}
 use Rattle.template.proofs.Accepted.{template-accepted}
 use Rattle.counts.specs.declared.FitAnswer.{FitAnswer}
 use Rattle.counts.specs.declared.FitAnswer.the-variants.{Yes, No, Refused}

@@ -11,7 +11,7 @@ use lib.Dec.{ltb}
 use Rattle.bags.specs.Part.{Part}
 use Rattle.template.specs.Reading.{Code, codeOf}
 use Rattle.counts.specs.Trees.{Placed, treesAt, treeBy, treeAt}
-use Rattle.template.proofs.Laws.{pick-case}
+use Rattle.words.proofs.Bools.{cond-case}
 
 abbrev pub Ends : {A : Type 0} → List ℕ → ℕ → Placed A → Type 0
 Ends words at t = (at ≤ t .next) × (t .next ≤ max at (length words + 3))
@@ -43,7 +43,7 @@ module _ (words : List ℕ) where
   unfolding treeAt
   next-bound zero at = omega arith
   next-bound (suc left) at =
-      pick-case (Ends words at) (ltb at (length words)) _ _
+      cond-case (Ends words at) (ltb at (length words)) _ _
       (λ e. code-ends (treeAt left words) (λ next. next-bound left next) at (ltb-true _ _ e) (codeOf (getD words at 0)))
       (λ e. omega arith)
 

@@ -1,7 +1,7 @@
 -- Document 01's number and values for each case of the enum `FitAnswer`.
 -- Assumes nothing.
 use mathlib.Core.List.{[], _∷_}
-use Rattle.template.specs.Answer.{Said, values, refusal}
+use Rattle.words.specs.Said.{Said, values, refusal}
 use Rattle.counts.specs.declared.FitAnswer.{FitAnswer}
 use Rattle.counts.specs.declared.FitAnswer.the-variants.{Yes, No, Refused}
 

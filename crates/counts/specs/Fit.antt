@@ -4,6 +4,7 @@
 -- Answers                 which answer a question has: yes exactly where the counts fit, no exactly where they do not
 -- FitSays                 the contract of "Fit counts"
 -- Assumes nothing.
+use mathlib.Core.Bool.{cond}
 use Prim.Native.Nat.{ℕ, suc, _≤_, _<_}
 use mathlib.Core.Path.{_≡_}
 use mathlib.Core.Logic.{_⊎_}
@@ -13,8 +14,7 @@ use lib.Dec.{ltb, leb, eqb}
 use Rattle.bags.specs.Part.{Part}
 use Rattle.bags.specs.Bag.{Fits}
 use Rattle.bags.specs.Interval.{count}
-use Rattle.template.specs.Answer.{Said, values, refusal}
-use Rattle.template.specs.Reading.{pick}
+use Rattle.words.specs.Said.{Said, values, refusal}
 use Rattle.template.specs.Template.{TemplateReading, readTemplate}
 
 -- A refusal's number and place; or the count of shapes, the shape's part and the counts.
@@ -25,7 +25,7 @@ pub data Question : Type 0 where
 -- "43 a count over 8,192, at the first": the counts from the place i on are looked at.
 unfoldable pub unlessOver : List ℕ → ℕ → Question → Question
 unlessOver [] i question = question
-unlessOver (w ∷ ws) i question = pick (ltb 8192 w) (turnedDown 43 i) (unlessOver ws (suc i) question)
+unlessOver (w ∷ ws) i question = cond (ltb 8192 w) (turnedDown 43 i) (unlessOver ws (suc i) question)
 
 -- The place of the first count over 8,192, or the length of the counts where there is none.
 pub record FirstOver (counts : List ℕ) (place : ℕ) : Type 0 where
@@ -37,8 +37,8 @@ pub record FirstOver (counts : List ℕ) (place : ℕ) : Type 0 where
 abbrev pub questionOf : TemplateReading → ℕ → List ℕ → Question
 questionOf (TemplateReading.turnedDown number place) shape counts = turnedDown number place
 questionOf (TemplateReading.accepted kinds shapes trees) shape counts =
-    pick (leb shapes shape) (turnedDown 42 0)
-    (pick (eqb (length counts) kinds)
+    cond (leb shapes shape) (turnedDown 42 0)
+    (cond (eqb (length counts) kinds)
     (unlessOver counts 0 (ask shapes (getD trees shape Part.nothing) counts))
     (turnedDown 41 0))
 

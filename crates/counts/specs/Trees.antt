@@ -3,13 +3,14 @@
 -- Placed             a tree and the next place
 -- treesAt, treeAt    a run of so many trees, and a tree: each leads to the other
 -- Assumes nothing.
+use mathlib.Core.Bool.{cond}
 use Prim.Native.Nat.{ℕ, zero, suc, _+_}
 use mathlib.Core.List.{List}
 use lib.ListN.{length, getD}
 use lib.Dec.{ltb}
 use Rattle.bags.specs.Part.{Part, Parts}
 use Rattle.bags.specs.Span.{limitOf}
-use Rattle.template.specs.Reading.{pick, Code, codeOf}
+use Rattle.template.specs.Reading.{Code, codeOf}
 
 -- A tree, and the place after its words.
 pub record Placed (A : Type 0) : Type 0 where
@@ -47,5 +48,5 @@ treeBy (Code.link label) inner words at =
 unfoldable pub treeAt : ℕ → List ℕ → ℕ → Placed Part
 treeAt zero words at = placed Part.nothing at
 treeAt (suc left) words at =
-    pick (ltb at (length words)) (treeBy (codeOf (getD words at 0)) (treeAt left words) words at)
+    cond (ltb at (length words)) (treeBy (codeOf (getD words at 0)) (treeAt left words) words at)
     (placed Part.nothing at)

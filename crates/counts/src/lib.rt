@@ -10,7 +10,7 @@ ghost use Rattle.bags.specs.Part.{Part, Parts, named};
 ghost use Rattle.bags.specs.Interval.{count, othersZero, fits as countsFit};
 ghost use Rattle.bags.specs.Span.{Small, limitOf};
 ghost use Rattle.template.specs.Reading.{wrapped, gathered};
-ghost use Rattle.template.specs.Answer.{values};
+ghost use Rattle.words.specs.Said.{values};
 ghost use Rattle.template.specs.Template.{accepted, readTemplate, templateSays, shapePlace, Tabled};
 ghost use Rattle.counts.specs.Answer.{fitSaid};
 ghost use Rattle.counts.specs.Fit.{FirstOver, FitSays};
@@ -28,6 +28,7 @@ use bags::star_span;
 use template::Shape;
 use template::TemplateAnswer;
 use template::read_names;
+use words::wide;
 
 // What evaluating a part finds: the next place, whether all counts of its labels are 0, and its interval.
 pub struct Eval {
@@ -41,12 +42,6 @@ pub enum FitAnswer {
     Yes,
     No,
     Refused(u16, usize),
-}
-
-fn wide(x: u16) -> usize
-    ensures { λ r. ⌜ (r ≡ x) × (r < 65536) ⌝ }
-{
-    x as usize
 }
 
 fn and(a: bool, b: bool) -> bool

@@ -12,8 +12,8 @@ use Rattle.script.specs.declared.ScriptAnswer.{ScriptAnswer}
 use Rattle.script.specs.declared.ScriptAnswer.the-variants.{Counts, Refused}
 use Rattle.script.specs.Answer.{scriptSaid}
 use Rattle.script.specs.Script.{ScriptReading, accepted, turnedDown, scriptAnswer, scriptSays, cardLinks}
-use Rattle.template.specs.Answer.{values, refusal}
-use Rattle.template.proofs.Answers.{values-refusal}
+use Rattle.words.specs.Said.{values, refusal}
+use Rattle.words.proofs.Said.{values-refusal}
 
 pub script-answer-unique : (a b : ScriptAnswer) → scriptSaid a ≡ scriptSaid b → a ≡ b
 script-answer-unique (Counts n m) (Counts k l) e = cc

@@ -8,7 +8,7 @@
 use Prim.Native.Nat.{ℕ, zero, suc, _+_, _-_, _*_, _≤_, _<_}
 use mathlib.Core.Path.{_≡_, refl, sym, ap, ap₂, subst, _∙_}
 use mathlib.Core.Logic.{⊎-elim, _↔_}
-use mathlib.Core.Bool.{true, false}
+use mathlib.Core.Bool.{true, false, cond}
 use mathlib.Core.List.{List, [], _∷_, _++_, append-nil}
 use native.Mathlib.Omega.{arith}
 use native.Mathlib.Nat.{eq-or-lt-of-le, le-of-suc-le-suc, not-suc-le-zero, add-zero, add-suc}
@@ -16,9 +16,8 @@ use lib.ListN.{length, getD, take, drop}
 use lib.Seq.{take-add, drop-drop, drop-cons}
 use lib.Dec.{ltb, eqb}
 use borrow.Author.Tests.{lt-ltb, le-ltb, eq-eqb, ne-eqb}
-use Rattle.template.specs.Reading.{pick}
 use Rattle.script.specs.Link.{fromAt, kindAt, toAt, Ascending, cardWords, below}
-use Rattle.script.proofs.Cases.{le-or-lt, one-or-none}
+use Rattle.words.proofs.Bools.{le-or-lt, one-or-none}
 use Rattle.script.proofs.Order.{StartsRise, starts-rise}
 
 -- Where the first r links start below card c and the others do not, r is how many do.
@@ -62,7 +61,7 @@ split-low script c m rise l =
 split-high : (script : List ℕ) (c m : ℕ) → Split script c m → c ≤ fromAt script m → Split script c (suc m)
 unfolding below
 split-high script c m (low, high) l =
-    let e : below script c m + pick (ltb (fromAt script m) c) 1 0 ≡ below script c m =
+    let e : below script c m + cond (ltb (fromAt script m) c) 1 0 ≡ below script c m =
     rw (le-ltb (fromAt script m) c l) (omega arith) in (
       λ k h. low k (omega arith),
       λ k a b.

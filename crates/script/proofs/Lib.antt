@@ -1,9 +1,6 @@
-pub mod Cases
-pub mod Cells
 pub mod Order
 pub mod Reading
 pub mod Cards
 pub mod Neighbours
-pub mod Chains
 pub mod WithTemplate
 pub mod Answers

@@ -5,7 +5,7 @@
 use Prim.Native.Nat.{ℕ, zero, suc, _+_, _-_, _≤_, _<_}
 use mathlib.Core.Path.{_≡_, refl, sym, ap, ap₂, subst, _∙_}
 use mathlib.Core.Logic.{⊎-elim, _↔_}
-use mathlib.Core.Bool.{Bool, true, false}
+use mathlib.Core.Bool.{Bool, true, false, cond}
 use mathlib.Core.List.{List, [], _∷_, _++_, append-nil, List·Memᴰ, List·Memᴰ·head, List·Memᴰ·not-nil}
 use mathlib.Core.List.{List·Memᴰ·append-cases, List·Memᴰ·eq-of-singleton, Memᴰ·append-left, Memᴰ·append-right}
 use native.Mathlib.Omega.{arith}
@@ -17,9 +17,8 @@ use lib.Dec.{eqb}
 use borrow.Author.Tests.{eq-eqb, ne-eqb, le-leb, lt-leb}
 use Rattle.bags.specs.Bag.{when}
 use Rattle.bags.specs.Choice.{Neighbour, to, labelCount}
-use Rattle.template.specs.Reading.{pick}
 use Rattle.script.specs.Link.{fromAt, kindAt, toAt, neighbours, below, kindCount}
-use Rattle.script.proofs.Cases.{le-or-lt, eq-or-ne, one-or-none}
+use Rattle.words.proofs.Bools.{le-or-lt, eq-or-ne, one-or-none}
 use Rattle.script.proofs.Order.{StartsRise}
 use Rattle.script.proofs.Cards.{below-le, test-before, test-within, test-after}
 
@@ -87,7 +86,7 @@ label-count-append : (xs ys : List Neighbour) (k : ℕ)
 label-count-append [] ys k = omega arith
 label-count-append (to label far ∷ xs) ys k = omega (arith, label-count-append xs ys k)
 
-when-one : (b : Bool) → when b 1 ≡ pick b 1 0
+when-one : (b : Bool) → when b 1 ≡ cond b 1 0
 when-one true = refl
 when-one false = refl
 

@@ -6,17 +6,16 @@
 use Prim.Native.Nat.{ℕ, zero, suc, _+_, _-_, _≤_, _<_}
 use mathlib.Core.Path.{_≡_, refl, sym}
 use mathlib.Core.Logic.{⊎-elim}
-use mathlib.Core.Bool.{Bool, true, false}
+use mathlib.Core.Bool.{Bool, true, false, cond}
 use mathlib.Core.List.{List}
 use native.Mathlib.Omega.{arith}
 use native.Mathlib.Nat.{le-refl, le-trans, add-zero, add-suc}
 use lib.Dec.{ltb}
 use borrow.Author.Tests.{le-ltb, eq-eqb, ne-eqb}
-use Rattle.template.specs.Reading.{pick}
 use Rattle.script.specs.Link.{fromAt, kindAt, toAt, greater, above, Ascending}
-use Rattle.script.proofs.Cases.{le-or-lt, false-true}
+use Rattle.words.proofs.Bools.{le-or-lt, false-true}
 
-pick-bool : (b : Bool) → pick b true false ≡ b
+pick-bool : (b : Bool) → cond b true false ≡ b
 pick-bool true = refl
 pick-bool false = refl
 

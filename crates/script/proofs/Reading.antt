@@ -7,7 +7,7 @@
 use Prim.Native.Nat.{ℕ, zero, suc, _+_, _-_, _*_, _≤_, _<_}
 use mathlib.Core.Path.{_≡_, refl, subst}
 use mathlib.Core.Logic.{⊎-elim}
-use mathlib.Core.Bool.{Bool, true, false}
+use mathlib.Core.Bool.{Bool, true, false, cond}
 use mathlib.Core.List.{List}
 use native.Mathlib.Omega.{arith}
 use native.Mathlib.Nat.{eq-or-lt-of-le}
@@ -15,7 +15,6 @@ use native.Mathlib.Numerals.{add-one}
 use lib.ListN.{length, getD}
 use lib.Dec.{ltb, leb, eqb}
 use borrow.Author.Tests.{le-leb, lt-leb, lt-ltb, le-ltb, eq-eqb, ne-eqb, leb-false, ltb-false, eqb-true}
-use Rattle.template.specs.Reading.{pick}
 use Rattle.script.specs.Link.{fromAt, kindAt, toAt, above, Ascending}
 use Rattle.script.specs.declared.LinkTest.{LinkTest}
 use Rattle.script.specs.Script.{ScriptReading, accepted, turnedDown, readLinks, readScript}
@@ -112,12 +111,12 @@ module _ (kinds : ℕ) (script : List ℕ) where
 
 -- A test whose true side turns down was false where the script is accepted, and the other way round.
 passed : (b : Bool) (number place : ℕ) (rest : ScriptReading) (N M : ℕ)
-    → pick b (turnedDown number place) rest ≡ accepted N M → (b ≡ false) × (rest ≡ accepted N M)
+    → cond b (turnedDown number place) rest ≡ accepted N M → (b ≡ false) × (rest ≡ accepted N M)
 passed true number place rest N M e = let z : _≡_ {A = ℕ} 0 1 = cc in absurd (omega arith)
 passed false number place rest N M e = (refl, e)
 
 met : (b : Bool) (number place : ℕ) (rest : ScriptReading) (N M : ℕ)
-    → pick b rest (turnedDown number place) ≡ accepted N M → (b ≡ true) × (rest ≡ accepted N M)
+    → cond b rest (turnedDown number place) ≡ accepted N M → (b ≡ true) × (rest ≡ accepted N M)
 met true number place rest N M e = (refl, e)
 met false number place rest N M e = let z : _≡_ {A = ℕ} 0 1 = cc in absurd (omega arith)
 

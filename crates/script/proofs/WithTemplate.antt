@@ -8,8 +8,8 @@ use mathlib.Core.Path.{_≡_, refl, sym, ap}
 use mathlib.Core.List.{List, [], _∷_}
 use native.Mathlib.Omega.{arith}
 use borrow.Author.Tests.{lt-ltb, le-ltb}
-use Rattle.template.specs.Answer.{values, refusal}
-use Rattle.template.proofs.Answers.{values-refusal}
+use Rattle.words.specs.Said.{values, refusal}
+use Rattle.words.proofs.Said.{values-refusal}
 use Rattle.script.proofs.Answers.{script-read}
 use Rattle.template.specs.Template.{TemplateReading, readTemplate, templateAnswer, templateSays}
 use Rattle.script.specs.Link.{cardWords}

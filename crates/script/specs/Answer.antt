@@ -1,7 +1,7 @@
 -- Document 01's number and values for each case of the enum `ScriptAnswer`.
 -- Assumes nothing.
 use mathlib.Core.List.{[], _∷_}
-use Rattle.template.specs.Answer.{Said, values, refusal}
+use Rattle.words.specs.Said.{Said, values, refusal}
 use Rattle.script.specs.declared.ScriptAnswer.{ScriptAnswer}
 use Rattle.script.specs.declared.ScriptAnswer.the-variants.{Counts, Refused}
 

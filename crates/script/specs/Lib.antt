@@ -1,5 +1,4 @@
 pub mod Link
 pub mod Answer
 pub mod Script
-pub mod Chain
 pub mod Steps

@@ -10,11 +10,10 @@
 use Prim.Native.Nat.{ℕ, zero, suc, _+_, _*_, _≤_, _<_}
 use mathlib.Core.Path.{_≡_}
 use mathlib.Core.List.{List, [], _∷_, _++_}
-use mathlib.Core.Bool.{Bool, true, false}
+use mathlib.Core.Bool.{Bool, true, false, cond}
 use lib.ListN.{length, getD}
 use lib.Dec.{ltb, leb, eqb}
 use Rattle.bags.specs.Choice.{Neighbour, to}
-use Rattle.template.specs.Reading.{pick}
 
 unfoldable pub fromAt : List ℕ → ℕ → ℕ
 fromAt script i = getD script (2 + 3 * i) 0
@@ -28,10 +27,10 @@ toAt script i = getD script (4 + 3 * i) 0
 -- Link i is above link j: by its from, then its kind, then its to.
 unfoldable pub greater : List ℕ → ℕ → ℕ → Bool
 greater script i j =
-    pick (ltb (fromAt script j) (fromAt script i)) true
-    (pick (eqb (fromAt script j) (fromAt script i))
-    (pick (ltb (kindAt script j) (kindAt script i)) true
-    (pick (eqb (kindAt script j) (kindAt script i)) (ltb (toAt script j) (toAt script i)) false))
+    cond (ltb (fromAt script j) (fromAt script i)) true
+    (cond (eqb (fromAt script j) (fromAt script i))
+    (cond (ltb (kindAt script j) (kindAt script i)) true
+    (cond (eqb (kindAt script j) (kindAt script i)) (ltb (toAt script j) (toAt script i)) false))
     false)
 
 -- The first link is above none; any other is above the one before it.
@@ -50,20 +49,20 @@ unfoldable pub cardWords : List ℕ → ℕ → ℕ → List ℕ
 cardWords script card zero = []
 cardWords script card (suc i) =
     cardWords script card i
-    ++ pick (eqb (fromAt script i) card) (fromAt script i ∷ kindAt script i ∷ toAt script i ∷ []) []
+    ++ cond (eqb (fromAt script i) card) (fromAt script i ∷ kindAt script i ∷ toAt script i ∷ []) []
 
 -- Of the first m links, the label and the far card of those that start at a card. A link's label is its kind.
 unfoldable pub neighbours : List ℕ → ℕ → ℕ → List Neighbour
 neighbours script card zero = []
 neighbours script card (suc i) =
-    neighbours script card i ++ pick (eqb (fromAt script i) card) (to (kindAt script i) (toAt script i) ∷ []) []
+    neighbours script card i ++ cond (eqb (fromAt script i) card) (to (kindAt script i) (toAt script i) ∷ []) []
 
 -- Of the first m links, how many start at a card below c.
 unfoldable pub below : List ℕ → ℕ → ℕ → ℕ
 below script c zero = 0
-below script c (suc i) = below script c i + pick (ltb (fromAt script i) c) 1 0
+below script c (suc i) = below script c i + cond (ltb (fromAt script i) c) 1 0
 
 -- Of the links from link lo on and below link hi, how many have the kind k.
 unfoldable pub kindCount : List ℕ → ℕ → ℕ → ℕ → ℕ
 kindCount script k lo zero = 0
-kindCount script k lo (suc i) = kindCount script k lo i + pick (leb lo i) (pick (eqb k (kindAt script i)) 1 0) 0
+kindCount script k lo (suc i) = kindCount script k lo i + cond (leb lo i) (cond (eqb k (kindAt script i)) 1 0) 0

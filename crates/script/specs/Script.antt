@@ -3,12 +3,12 @@
 -- scriptSays              what document 01 has "Read a script" say
 -- cardLinks               the words that "Links of a card" gives
 -- Assumes nothing.
+use mathlib.Core.Bool.{cond}
 use Prim.Native.Nat.{ℕ, zero, suc, _+_, _*_}
 use mathlib.Core.List.{List, [], _∷_}
 use lib.ListN.{length, getD}
 use lib.Dec.{ltb, leb, eqb}
-use Rattle.template.specs.Answer.{Said, values, refusal}
-use Rattle.template.specs.Reading.{pick}
+use Rattle.words.specs.Said.{Said, values, refusal}
 use Rattle.template.specs.Template.{TemplateReading, readTemplate}
 use Rattle.script.specs.Link.{fromAt, kindAt, toAt, above, cardWords}
 
@@ -22,18 +22,18 @@ pub data ScriptReading : Type 0 where
 unfoldable pub readLinks : ℕ → ℕ → List ℕ → ℕ → ℕ → ScriptReading → ScriptReading
 readLinks kinds cards script zero i done = done
 readLinks kinds cards script (suc n) i done =
-    pick (leb cards (fromAt script i)) (turnedDown 23 (2 + 3 * i))
-    (pick (leb kinds (kindAt script i)) (turnedDown 24 (3 + 3 * i))
-    (pick (leb cards (toAt script i)) (turnedDown 23 (4 + 3 * i))
-    (pick (above script i) (readLinks kinds cards script n (suc i) done) (turnedDown 25 (2 + 3 * i)))))
+    cond (leb cards (fromAt script i)) (turnedDown 23 (2 + 3 * i))
+    (cond (leb kinds (kindAt script i)) (turnedDown 24 (3 + 3 * i))
+    (cond (leb cards (toAt script i)) (turnedDown 23 (4 + 3 * i))
+    (cond (above script i) (readLinks kinds cards script n (suc i) done) (turnedDown 25 (2 + 3 * i)))))
 
 -- "20 under 2 words, place 0; 21 N; 22 M; 20 if not 2 + 3M words", for a template with so many kinds.
 unfoldable pub readScript : ℕ → List ℕ → ScriptReading
 readScript kinds script =
-    pick (ltb (length script) 2) (turnedDown 20 0)
-    (pick (ltb 1024 (getD script 0 0)) (turnedDown 21 0)
-    (pick (ltb 8192 (getD script 1 0)) (turnedDown 22 1)
-    (pick (eqb (length script) (2 + 3 * getD script 1 0))
+    cond (ltb (length script) 2) (turnedDown 20 0)
+    (cond (ltb 1024 (getD script 0 0)) (turnedDown 21 0)
+    (cond (ltb 8192 (getD script 1 0)) (turnedDown 22 1)
+    (cond (eqb (length script) (2 + 3 * getD script 1 0))
     (readLinks kinds (getD script 0 0) script (getD script 1 0) 0 (accepted (getD script 0 0) (getD script 1 0)))
     (turnedDown 20 0))))
 
@@ -52,7 +52,7 @@ scriptSays template script = scriptAnswer (withTemplate (readTemplate template) 
 
 -- "An empty part if template or script is refused, the card isn't below N or has no links."
 abbrev pub linksOf : ScriptReading → List ℕ → ℕ → List ℕ
-linksOf (accepted cards links) script card = pick (ltb card cards) (cardWords script card links) []
+linksOf (accepted cards links) script card = cond (ltb card cards) (cardWords script card links) []
 linksOf (turnedDown number place) script card = []
 
 unfoldable pub cardLinks : List ℕ → List ℕ → ℕ → List ℕ

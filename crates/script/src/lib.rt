@@ -1,15 +1,15 @@
 // Reading a script (a graph): its cards (nodes) and links (edges), the links of a card and the links by target.
 use template::TemplateAnswer;
 use template::read_template;
+use words::wide;
 ghost use mathlib.Core.Path.{_≡_};
 ghost use Prim.Native.Nat.{ℕ, suc, _+_, _*_, _≤_, _<_};
 ghost use lib.ListN.{length, getD};
-ghost use Rattle.script.specs.Link.{kindAt, toAt, greater, above, Ascending, cardWords, below, kindCount};
+ghost use Rattle.script.specs.Link.{kindAt, greater, above, Ascending, cardWords, below, kindCount};
 ghost use Rattle.script.specs.Answer.{scriptSaid};
-ghost use Rattle.script.specs.Script.{ScriptReading, accepted, readLinks, readScript};
+ghost use Rattle.script.specs.Script.{ScriptReading, accepted, readLinks, readScript, scriptAnswer, scriptSays};
+ghost use Rattle.script.specs.Script.{cardLinks};
 ghost use Rattle.script.specs.Steps.{afterLink};
-ghost use Rattle.script.specs.Script.{scriptAnswer, scriptSays, cardLinks};
-ghost use Rattle.script.specs.Chain.{Chained};
 
 // The number of a card: it counts the script's cards from 0.
 pub struct Card(pub u16);
@@ -24,13 +24,6 @@ pub enum ScriptAnswer {
 enum LinkTest {
     Passed,
     Refused(u16, usize),
-}
-
-// A word as a size.
-fn wide(x: u16) -> usize
-    ensures { λ r. ⌜ (r ≡ x) × (r < 65536) ⌝ }
-{
-    x as usize
 }
 
 // Whether link i is above link j: by its from, then its kind, then its to.
@@ -187,41 +180,6 @@ pub fn links_of_card<'t, 's>(template: &'t [u16], script: &'s [u16], card: Card)
             card_part(script, wide(links), wide(number))
         }
         ScriptAnswer::Refused(_, _) => none,
-    }
-}
-
-// Where the links of each card start: `starts[c]` is how many start at a card below c. The links of c end where those of
-// c + 1 start.
-pub fn link_starts(script: &[u16], links: usize, cards: usize, starts: &mut [u16])
-    requires { ⌜ Ascending (now script) links ⌝ }
-    requires { ⌜ cards < length (now starts) ⌝ }
-    ensures exact { λ _. ⌜ ((c : ℕ) → c ≤ cards → getD (now (starts .exit)) c 0 ≡ below (now (script .entry)) c links) ⌝ }
-    ensures size { λ _. ⌜ length (now (starts .exit)) ≡ length (now (starts .entry)) ⌝ }
-{
-    let mut c = 0;
-    while c <= cards {
-        starts[c] = count_below(script, links, c) as u16;
-        c += 1;
-    }
-}
-
-// Chains the links by their targets, in one pass: `first[m]` is one more than the last link to card m, or 0, and `next[i]`
-// one more than the last link before link i to the same card, or 0.
-pub fn chain(script: &[u16], links: usize, first: &mut [u16], next: &mut [u16])
-    requires { ⌜ (links ≤ 8192) × (2 + 3 * links ≤ length (now script)) ⌝ }
-    requires { ⌜ links ≤ length (now next) ⌝ }
-    requires { ⌜ ((i : ℕ) → i < links → toAt (now script) i < length (now first)) ⌝ }
-    requires { ⌜ ((m : ℕ) → m < length (now first) → getD (now first) m 0 ≡ 0) ⌝ }
-    ensures chained { λ _. ⌜ Chained (toAt (now (script .entry))) (now (first .exit)) (now (next .exit)) links ⌝ }
-    ensures sizes { λ _. ⌜ (length (now (first .exit)) ≡ length (now (first .entry)))
-        × (length (now (next .exit)) ≡ length (now (next .entry))) ⌝ }
-{
-    let mut i = 0;
-    while i < links {
-        let m = wide(script[4 + 3 * i]);
-        next[i] = first[m];
-        first[m] = (i + 1) as u16;
-        i += 1;
     }
 }
 

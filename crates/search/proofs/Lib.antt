@@ -1,7 +1,9 @@
-pub mod Places
+pub mod Chains
 pub mod Walks
 pub mod Names
-pub mod Boards
+pub mod Followed
 pub mod Needs
 pub mod Indexes
 pub mod Tallies
+pub mod Marks
+pub mod Closures

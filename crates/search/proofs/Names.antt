@@ -12,10 +12,10 @@ use native.Mathlib.Omega.{arith}
 use lib.ListN.{getD}
 use borrow.Author.Tests.{eq-eqb, ne-eqb}
 use Rattle.board.specs.Work.{Work, Swept}
-use Rattle.board.proofs.Bools.{eq-or-ne}
+use Rattle.words.proofs.Bools.{eq-or-ne}
 use Rattle.board.proofs.Worklist.{swept-same}
 use Rattle.search.specs.Search.{entryKey, NamedGood}
-use Rattle.search.proofs.Places.{card-in, card-of, shape-of, place-of}
+use Rattle.words.proofs.Places.{card-in, card-of, shape-of, place-of}
 use Rattle.search.proofs.Walks.{Later}
 
 module _ (names : List ℕ) (p : ℕ) where

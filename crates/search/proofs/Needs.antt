@@ -17,11 +17,11 @@ use lib.ListN.{length, getD}
 use Rattle.script.specs.Link.{fromAt, kindAt, toAt}
 use Rattle.board.specs.Work.{Work, strikeOne, Swept}
 use Rattle.board.proofs.Worklist.{swept-none, swept-same, swept-one}
-use Rattle.search.specs.Needs.{entryAt, Needs}
-use Rattle.search.specs.Search.{Ready, Starts, NamedGood, TargetGood, CardGood}
-use Rattle.search.proofs.Places.{place-in, place-from, card-in, shape-in, place-of, card-of, shape-of}
+use Rattle.typing.specs.Needs.{entryAt, Needs, Ready}
+use Rattle.search.specs.Search.{Starts, NamedGood, TargetGood, CardGood}
+use Rattle.words.proofs.Places.{place-in, place-from, card-in, shape-in, place-of, card-of, shape-of}
 use Rattle.search.proofs.Walks.{Later}
-use Rattle.search.proofs.Boards.{entry-shape}
+use Rattle.typing.proofs.Boards.{entry-shape}
 
 -- ---- the words of a link
 pub from-word : (script : List ℕ) (i : ℕ) → getD script (2 + 3 * i) 0 ≡ fromAt script i

@@ -15,12 +15,12 @@ use Prim.Native.Nat.{ℕ, suc, _-_, _≤_, _<_}
 use native.Mathlib.Nat.{eq-or-lt-of-le}
 use native.Mathlib.Omega.{arith}
 use lib.ListN.{length}
-use Rattle.script.specs.Chain.{lastAt}
+use Rattle.search.specs.Chain.{lastAt}
 use Rattle.board.specs.Grid.{on}
 use Rattle.board.specs.Work.{Work, strikeOne, stay, then, Swept}
-use Rattle.board.proofs.Bools.{le-or-lt}
+use Rattle.words.proofs.Bools.{le-or-lt}
 use Rattle.board.proofs.Worklist.{one-off, swept-none, swept-same, swept-append}
-use Rattle.script.proofs.Chains.{last-le, last-is, last-none}
+use Rattle.search.proofs.Chains.{last-le, last-is, last-none}
 
 pub swept-strike : (w : Work) (p : ℕ) → p < length (w .grid) → Swept (λ q. q ≡ p) w (strikeOne w p)
 swept-strike w p l = record {

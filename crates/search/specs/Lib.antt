@@ -1,3 +1,4 @@
-pub mod Needs
+pub mod Chain
 pub mod Search
 pub mod Tally
+pub mod Closing

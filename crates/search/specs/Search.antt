@@ -1,5 +1,4 @@
 -- What the searches are given and what they find.
--- Ready         a script and a table of names that fit together
 -- entryKey      by which the table's places are chained: a label and the shape named for it
 -- NameIndex     the chains of the table's places
 -- LinkIndex     the chains of the links by target; Starts: where each card's links start
@@ -7,34 +6,21 @@
 -- CardGood      the pairs that a pair needs, by its card's links
 -- Searched      the answer of the search backwards; Followed: of the one forwards
 -- Assumes nothing.
-use Prim.Native.Nat.{ℕ, suc, _+_, _-_, _*_, _/_, _%_, _≤_, _<_}
+use Prim.Native.Nat.{ℕ, suc, _+_, _-_, _*_, _%_, _≤_, _<_}
 use mathlib.Core.Path.{_≡_}
 use mathlib.Core.List.{List}
-use mathlib.Core.Bool.{Bool, false, not}
+use mathlib.Core.Bool.{Bool, false, not, cond}
 use lib.ListN.{length, getD}
 use lib.Dec.{eqb}
-use Rattle.template.specs.Reading.{pick}
 use Rattle.script.specs.Link.{fromAt, kindAt, toAt}
-use Rattle.script.specs.Chain.{Chained}
+use Rattle.search.specs.Chain.{Chained}
 use Rattle.board.specs.Grid.{on}
 use Rattle.board.specs.Board.{Board, Finished, Flooded}
-use Rattle.search.specs.Needs.{entryAt, boardOf}
-
-pub record Ready (script names : List ℕ) (shapes : ℕ) : Type 0 where
-  pub one-shape : 0 < shapes
-  pub few-shapes : shapes ≤ 32
-  pub few-cards : getD script 0 0 ≤ 1024
-  pub few-links : getD script 1 0 ≤ 8192
-  pub words : 2 + 3 * getD script 1 0 ≤ length script
-  pub from-in : (i : ℕ) → i < getD script 1 0 → fromAt script i < getD script 0 0
-  pub kind-in : (i : ℕ) → i < getD script 1 0 → kindAt script i < 64
-  pub to-in : (i : ℕ) → i < getD script 1 0 → toAt script i < getD script 0 0
-  pub table : shapes * 64 ≤ length names
-  pub entry-in : (t k : ℕ) → t < shapes → k < 64 → entryAt names t k ≤ shapes
+use Rattle.typing.specs.Needs.{entryAt, boardOf}
 
 -- 32 × label + shape for a place of the table that names a shape; 2,048 for one that does not.
 unfoldable pub entryKey : List ℕ → ℕ → ℕ
-entryKey names p = pick (eqb (getD names p 0) 0) 2048 (p % 64 * 32 + (getD names p 0 - 1))
+entryKey names p = cond (eqb (getD names p 0) 0) 2048 (p % 64 * 32 + (getD names p 0 - 1))
 
 pub record NameIndex (names : List ℕ) (shapes : ℕ) (first next : List ℕ) : Type 0 where
   pub keys : length first ≡ 2049

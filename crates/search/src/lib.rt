@@ -1,16 +1,29 @@
 // The two searches over pairs of a card and a shape, each linear in links times shapes: backwards from the pairs whose
 // counts do not fit, for the largest typing, and forwards from the bookings, for the smallest.
 ghost use mathlib.Core.Path.{_≡_};
-ghost use Prim.Native.Nat.{ℕ, suc, _+_, _*_, _<_, _≤_};
+ghost use Prim.Native.Nat.{ℕ, _+_, _*_, _<_, _≤_};
 ghost use lib.ListN.{length, getD};
-ghost use Rattle.board.specs.Grid.{on, Marks};
+ghost use Rattle.board.specs.Grid.{on, Marks, tally};
 ghost use Rattle.board.specs.Work.{work, Room, Swept};
 ghost use Rattle.board.specs.Listing.{Listed};
-ghost use Rattle.search.specs.Needs.{boardOf};
+ghost use Rattle.typing.specs.Needs.{boardOf, Ready};
 ghost use Rattle.search.specs.Tally.{closed};
-ghost use Rattle.search.specs.Search.{Ready, entryKey, NameIndex, LinkIndex, Starts, NamedGood, TargetGood, CardGood, Searched, Followed};
+ghost use Rattle.search.specs.Search.{entryKey, NameIndex, LinkIndex, Starts, NamedGood, TargetGood, CardGood};
+ghost use Rattle.search.specs.Search.{Searched, Followed};
+use board::fill;
+use board::first_missing;
+use board::flip;
 use board::list_off;
 use board::strike_one;
+use script::Card;
+use script::count_below;
+use template::Shape;
+use words::byte;
+use words::wide;
+ghost use Rattle.bookings.specs.Bookings.{cardAt, shapeAt};
+ghost use Rattle.search.specs.Closing.{Marked, Closes, UnfitFound};
+ghost use Rattle.script.specs.Link.{toAt, Ascending, below};
+ghost use Rattle.search.specs.Chain.{Chained};
 
 // Rounds and pairs struck.
 pub struct Tally {
@@ -18,16 +31,10 @@ pub struct Tally {
     pub struck: usize,
 }
 
-fn wide(x: u16) -> usize
-    ensures { λ r. ⌜ (r ≡ x) × (r < 65536) ⌝ }
-{
-    x as usize
-}
-
-fn byte(x: u8) -> usize
-    ensures { λ r. ⌜ (r ≡ x) × (r < 256) ⌝ }
-{
-    x as usize
+// Whether each pair of a closure fits, or the lowest that does not.
+pub enum Unfit {
+    Nowhere,
+    At(Card, Shape),
 }
 
 // By which the place p of the table is chained: 2,048 where it names no shape.
@@ -53,6 +60,41 @@ pub fn index_names(names: &[u8], shapes: usize, first: &mut [u16], next: &mut [u
         next[p] = first[key];
         first[key] = (p + 1) as u16;
         p += 1;
+    }
+}
+
+// Chains the links by their targets, in one pass: `first[m]` is one more than the last link to card m, or 0, and `next[i]`
+// one more than the last link before link i to the same card, or 0.
+pub fn chain(script: &[u16], links: usize, first: &mut [u16], next: &mut [u16])
+    requires { ⌜ (links ≤ 8192) × (2 + 3 * links ≤ length (now script)) ⌝ }
+    requires { ⌜ links ≤ length (now next) ⌝ }
+    requires { ⌜ ((i : ℕ) → i < links → toAt (now script) i < length (now first)) ⌝ }
+    requires { ⌜ ((m : ℕ) → m < length (now first) → getD (now first) m 0 ≡ 0) ⌝ }
+    ensures chained { λ _. ⌜ Chained (toAt (now (script .entry))) (now (first .exit)) (now (next .exit)) links ⌝ }
+    ensures sizes { λ _. ⌜ (length (now (first .exit)) ≡ length (now (first .entry)))
+        × (length (now (next .exit)) ≡ length (now (next .entry))) ⌝ }
+{
+    let mut i = 0;
+    while i < links {
+        let to = wide(script[4 + 3 * i]);
+        next[i] = first[to];
+        first[to] = (i + 1) as u16;
+        i += 1;
+    }
+}
+
+// Where the links of each card start: `starts[c]` is how many start at a card below c. The links of c end where those of
+// c + 1 start.
+pub fn link_starts(script: &[u16], links: usize, cards: usize, starts: &mut [u16])
+    requires { ⌜ Ascending (now script) links ⌝ }
+    requires { ⌜ cards < length (now starts) ⌝ }
+    ensures exact { λ _. ⌜ ((c : ℕ) → c ≤ cards → getD (now (starts .exit)) c 0 ≡ below (now (script .entry)) c links) ⌝ }
+    ensures size { λ _. ⌜ length (now (starts .exit)) ≡ length (now (starts .entry)) ⌝ }
+{
+    let mut c = 0;
+    while c <= cards {
+        starts[c] = count_below(script, links, c) as u16;
+        c += 1;
     }
 }
 
@@ -189,6 +231,40 @@ pub fn strike_rounds(
     after_round(tally, tail)
 }
 
+// Strikes rounds from a grid that has the pairs whose counts fit, until one strikes nothing.
+pub fn strike_all(
+    script: &[u16],
+    names: &[u8],
+    links: usize,
+    shapes: usize,
+    grid: &mut [u8],
+    queue: &mut [u16],
+) -> Tally
+    requires { ⌜ Ready (now script) (now names) shapes × (links ≡ getD (now script) 1 0) × (length (now names) ≡ 2048)
+        × (length (now grid) ≡ getD (now script) 0 0 * shapes) × (length (now grid) ≤ length (now queue)) ⌝ }
+    ensures { λ r. ⌜ Searched (boardOf (now (script .entry)) (now (names .entry)) shapes (now (grid .entry)))
+        (on (now (grid .exit))) (r .rounds) (r .struck) × (length (now (grid .exit)) ≡ length (now (grid .entry)))
+        × (Marks (now (grid .entry)) → Marks (now (grid .exit))) ⌝ }
+{
+    let mut named = [0u16; 2049];
+    let mut alike = [0u16; 2048];
+    index_names(names, shapes, &mut named, &mut alike);
+    let mut first = [0u16; 1024];
+    let mut next = [0u16; 8192];
+    chain(script, links, &mut first, &mut next);
+    strike_rounds(
+        script,
+        &first,
+        &next,
+        names,
+        shapes,
+        &named,
+        &alike,
+        grid,
+        queue,
+    )
+}
+
 // Strikes what the links lo up to hi of a card lead to from its shape t.
 fn strike_needs(
     script: &[u16],
@@ -243,4 +319,63 @@ pub fn flood(
         head += 1;
     }
     tail
+}
+
+// Turns the pairs of the bookings off in a grid that has every pair.
+fn mark_bookings(bookings: &[u16], count: u16, cards: usize, shapes: usize, grid: &mut [u8])
+    requires { ⌜ (1 + 2 * count ≤ length (now bookings)) × (length (now grid) ≡ cards * shapes) × (cards ≤ 1024)
+        × (shapes ≤ 32)
+        × ((i : ℕ) → i < count → (cardAt (now bookings) i < cards) × (shapeAt (now bookings) i < shapes))
+        × ((p : ℕ) → p < length (now grid) → getD (now grid) p 0 ≡ 1) ⌝ }
+    ensures { λ _. ⌜ Marked (now (bookings .entry)) shapes count (now (grid .exit))
+        × (length (now (grid .exit)) ≡ length (now (grid .entry))) ⌝ }
+{
+    let mut i = 0;
+    while i < wide(count) {
+        let card = wide(bookings[1 + 2 * i]);
+        let shape = wide(bookings[2 + 2 * i]);
+        grid[card * shapes + shape] = 0;
+        i += 1;
+    }
+}
+
+// Writes the closure of the bookings into the grid, whatever it held, and returns its number of pairs.
+pub fn close(
+    script: &[u16],
+    bookings: &[u16],
+    count: u16,
+    names: &[u8],
+    starts: &[u16],
+    cards: usize,
+    shapes: usize,
+    grid: &mut [u8],
+    queue: &mut [u16],
+) -> usize
+    requires { ⌜ Ready (now script) (now names) shapes × Starts (now script) (now starts)
+        × (cards ≡ getD (now script) 0 0) × (1 + 2 * count ≤ length (now bookings))
+        × ((i : ℕ) → i < count → (cardAt (now bookings) i < cards) × (shapeAt (now bookings) i < shapes))
+        × (length (now grid) ≡ cards * shapes) × (length (now grid) ≤ length (now queue)) ⌝ }
+    ensures { λ r. ⌜ Closes (now (script .entry)) (now (names .entry)) shapes (now (bookings .entry)) count
+        (now (grid .exit)) r ⌝ }
+{
+    fill(grid, 1);
+    mark_bookings(bookings, count, cards, shapes, grid);
+    let booked = list_off(grid, queue);
+    let found = flood(script, starts, names, shapes, grid, queue, booked);
+    flip(grid);
+    found
+}
+
+// Whether each pair of a closure fits, or the lowest that does not; the grid is then all 0.
+pub fn first_unfit(grid: &mut [u8], fitting: &[u8], shapes: usize) -> Unfit
+    requires { ⌜ (length (now grid) ≡ length (now fitting)) × (0 < shapes) × (shapes ≤ 32)
+        × (length (now grid) ≤ 32768) ⌝ }
+    ensures { λ r. ⌜ UnfitFound (now (grid .entry)) (now (fitting .entry)) shapes (now (grid .exit)) r ⌝ }
+{
+    let p = first_missing(grid, fitting);
+    if p < grid.len() {
+        fill(grid, 0);
+        return Unfit::At(Card((p / shapes) as u16), Shape((p % shapes) as u16));
+    }
+    Unfit::Nowhere
 }

@@ -1,3 +1,2 @@
-pub mod Writes
-pub mod Sheets
-pub mod Unique
+pub mod Openings
+pub mod Accepted

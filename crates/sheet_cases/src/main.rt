@@ -3,7 +3,7 @@ ghost use Prim.Native.Nat.{_<_, _*_, _+_};
 ghost use mathlib.Core.Path.{_≡_};
 use io::read_full;
 use io::write_all;
-use sheet::print_sheet;
+use printer::print_sheet;
 
 fn wide(x: u8) -> usize
     ensures { λ r. ⌜ (r ≡ x) × (r < 256) ⌝ }

@@ -3,6 +3,6 @@ fn main() {
     let mut input = [0u8; 65537];
     let count = io::read_full(libc::STDIN_FILENO, &mut input);
     let mut out = [0u8; 262144];
-    let end = sheet::print_sheet(&input[..count], &mut out);
+    let end = printer::print_sheet(&input[..count], &mut out);
     io::write_all(libc::STDOUT_FILENO, &out[..end]);
 }

@@ -19,7 +19,8 @@ use Rattle.template.specs.Reading.{Reading, found, refused, readPart}
 use Rattle.template.specs.Template.{Result, ok, fault, wholePart, noNames, readShape, readShapes}
 use Rattle.template.specs.Template.{TemplateReading, accepted, turnedDown, afterShapes, sizesOf, readTemplate}
 use Rattle.template.specs.Template.{shapePlace}
-use Rattle.template.proofs.Laws.{pick-case, reads-within}
+use Rattle.words.proofs.Bools.{cond-case}
+use Rattle.template.proofs.Laws.{reads-within}
 use Rattle.template.proofs.Trees.{LimitsOk, PartRead, reads-part}
 use Rattle.template.proofs.ShapeLaws.{shapes-first, shapes-last, shapes-length}
 
@@ -44,7 +45,7 @@ module _ (sizes : Sizes) (words : List ℕ) (b : sizes .kinds ≤ 64) where
       ShapeAccepted sizes words at p n
   whole-accepted at end p n h i j (found q m after) e =
       let w = reads-within 12 words end sizes (at + 1) noNames q m after e in
-      pick-case (λ r. r ≡ ok p n → ShapeAccepted sizes words at p n) (ltb m end) _ _ (λ o f. absurd (fault-ok f))
+      cond-case (λ r. r ≡ ok p n → ShapeAccepted sizes words at p n) (ltb m end) _ _ (λ o f. absurd (fault-ok f))
       (λ o f.
       let s : q ≡ p = cc in
       let t : end ≡ n = cc in
@@ -66,8 +67,8 @@ module _ (sizes : Sizes) (words : List ℕ) (b : sizes .kinds ≤ 64) where
   unfolding readShape
   reads-shape at p n =
       let P : Result Part → Type 0 = λ r. r ≡ ok p n → ShapeAccepted sizes words at p n in
-      pick-case P (leb (length words) at) _ _ (λ e f. absurd (fault-ok f))
-      (λ e. pick-case P (ltb (length words - (at + 1)) (getD words at 0)) _ _ (λ e₂ f. absurd (fault-ok f))
+      cond-case P (leb (length words) at) _ _ (λ e f. absurd (fault-ok f))
+      (λ e. cond-case P (ltb (length words - (at + 1)) (getD words at 0)) _ _ (λ e₂ f. absurd (fault-ok f))
       (λ e₂ f.
       let h : at < length words = leb-false (length words) at e in
       let i : getD words at 0 ≤ length words - (at + 1) = ltb-false (length words - (at + 1)) (getD words at 0) e₂ in
@@ -201,12 +202,12 @@ module _ (words : List ℕ) (L S : ℕ) (trees : List Part) where
   unfolding readTemplate
   template-accepted =
       let P : TemplateReading → Type 0 = λ r. r ≡ accepted L S trees → Accepted words L S trees in
-      pick-case P (ltb (length words) 2) _ _ (λ e q. absurd (turned-accepted q))
-      (λ e. pick-case P (ltb 4096 (length words)) _ _ (λ e₂ q. absurd (turned-accepted q))
-      (λ e₂. pick-case P (ltb (getD words 0 0) 1) _ _ (λ e₃ q. absurd (turned-accepted q))
-      (λ e₃. pick-case P (ltb 64 (getD words 0 0)) _ _ (λ e₄ q. absurd (turned-accepted q))
-      (λ e₄. pick-case P (ltb (getD words 1 0) 1) _ _ (λ e₅ q. absurd (turned-accepted q))
-      (λ e₅. pick-case P (ltb 32 (getD words 1 0)) _ _ (λ e₆ q. absurd (turned-accepted q))
+      cond-case P (ltb (length words) 2) _ _ (λ e q. absurd (turned-accepted q))
+      (λ e. cond-case P (ltb 4096 (length words)) _ _ (λ e₂ q. absurd (turned-accepted q))
+      (λ e₂. cond-case P (ltb (getD words 0 0) 1) _ _ (λ e₃ q. absurd (turned-accepted q))
+      (λ e₃. cond-case P (ltb 64 (getD words 0 0)) _ _ (λ e₄ q. absurd (turned-accepted q))
+      (λ e₄. cond-case P (ltb (getD words 1 0) 1) _ _ (λ e₅ q. absurd (turned-accepted q))
+      (λ e₅. cond-case P (ltb 32 (getD words 1 0)) _ _ (λ e₆ q. absurd (turned-accepted q))
       (λ e₆ q. after-accepted (getD words 0 0) (getD words 1 0) (ltb-false (length words) 2 e)
       (ltb-false 4096 (length words) e₂) (ltb-false (getD words 0 0) 1 e₃) (ltb-false 64 (getD words 0 0) e₄)
       (ltb-false (getD words 1 0) 1 e₅) (ltb-false 32 (getD words 1 0) e₆) refl refl

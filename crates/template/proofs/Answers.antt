@@ -1,7 +1,6 @@
 -- What the contract of `read_template` leaves to no choice, what it tells of the reading, and document 01's sample.
 -- template-answer-unique   what an answer says tells the answer
 -- read-template-unique     two answers that the contract allows for the same words are equal
--- values-refusal           values are no refusal
 -- template-read, template-turned   the template's reading, from what it says
 -- sample-read              the sample template has 2 kinds and 2 shapes
 -- Assumes nothing.
@@ -12,10 +11,12 @@ use native.Mathlib.Omega.{arith}
 use Rattle.bags.specs.Part.{Part}
 use Rattle.template.specs.declared.TemplateAnswer.{TemplateAnswer}
 use Rattle.template.specs.declared.TemplateAnswer.the-variants.{Counts, Refused}
-use Rattle.template.specs.Answer.{values, refusal, templateSaid}
+use Rattle.words.specs.Said.{values, refusal}
+use Rattle.template.specs.Answer.{templateSaid}
+use Rattle.words.proofs.Said.{values-refusal}
 use Rattle.template.specs.Reading.{readLink, readRun, readPart}
-use Rattle.template.specs.Template.{readShape, readShapes, TemplateReading, accepted, turnedDown}
-use Rattle.template.specs.Template.{readTemplate, templateAnswer, templateSays}
+use Rattle.template.specs.Template.{readShape, readShapes, TemplateReading, accepted, turnedDown, readTemplate}
+use Rattle.template.specs.Template.{templateAnswer, templateSays}
 
 -- What an answer says tells the answer.
 pub template-answer-unique : (a b : TemplateAnswer) → templateSaid a ≡ templateSaid b → a ≡ b
@@ -35,10 +36,6 @@ pub read-template-unique :
     (words : List ℕ) (a b : TemplateAnswer) → templateSaid a ≡ templateSays words →
     templateSaid b ≡ templateSays words → a ≡ b
 read-template-unique words a b e f = template-answer-unique a b (e ∙ sym f)
-
--- Values are no refusal.
-pub values-refusal : {A : Type 0} {xs places : List ℕ} {number : ℕ} → values xs ≡ refusal number places → A
-values-refusal e = let z : _≡_ {A = ℕ} 0 1 = cc in absurd (omega arith)
 
 accepted-of :
     (r : TemplateReading) (kinds shapes : ℕ) → values (kinds ∷ shapes ∷ []) ≡ templateAnswer r →

@@ -6,7 +6,7 @@
 -- reads-above        the next place after a part is above it and not past the end
 -- Assumes nothing.
 use mathlib.Core.Path.{_≡_, refl, ap, sym, _∙_}
-use mathlib.Core.Bool.{Bool, true, false}
+use mathlib.Core.Bool.{true, false}
 use mathlib.Core.List.{List}
 use Prim.Native.Nat.{ℕ, zero, suc, _+_, _-_, _≤_, _<_}
 use native.Mathlib.Omega.{arith}
@@ -15,22 +15,13 @@ use borrow.Author.Tests.{le-ltb, lt-ltb, le-leb, lt-leb, eq-eqb, ne-eqb, ltb-fal
 use lib.ListN.{getD, set}
 use lib.Dec.{ltb, leb, eqb}
 use Rattle.bags.specs.Part.{Part, Parts}
+use Rattle.words.proofs.Bools.{cond-case}
 use Rattle.template.specs.declared.Read.{Read}
 use Rattle.template.specs.declared.Read.the-variants.{Next, Refused}
 use Rattle.template.specs.declared.Sizes.{Sizes}
-use Rattle.template.specs.Reading.{pick, Code, nothing, single, group, unknown, link, wrapped, gathered, codeOf}
-use Rattle.template.specs.Reading.{Reading, found, refused, Outcome, both, outcome, andThen, mapped}
-use Rattle.template.specs.Reading.{limitsOk, readLink, readRun, readGroup, readCode, readPart}
-
--- What holds of both ways of a test holds of what it picks.
-pub pick-case :
-    {A : Type 0} (P : A → Type 0) (b : Bool) (x y : A) → (b ≡ true → P x) → (b ≡ false → P y) → P (pick b x y)
-pick-case P true x y f g = f refl
-pick-case P false x y f g = g refl
-
-pub bool-case : {A : Type 0} (b : Bool) → (b ≡ true → A) → (b ≡ false → A) → A
-bool-case true f g = f refl
-bool-case false f g = g refl
+use Rattle.template.specs.Reading.{Code, nothing, single, group, unknown, link, wrapped, gathered, codeOf}
+use Rattle.template.specs.Reading.{Reading, found, refused, Outcome, both, outcome, andThen, mapped, limitsOk}
+use Rattle.template.specs.Reading.{readLink, readRun, readGroup, readCode, readPart}
 
 -- Codes, by their ranges.
 pub code-nothing : (n : ℕ) → n ≡ 0 → codeOf n ≡ nothing
@@ -302,11 +293,11 @@ within-link :
     Within (at + 1) end (readLink words end sizes at row kind)
 unfolding readLink
 within-link words end sizes at row kind =
-    pick-case (Within (at + 1) end) (ltb (end - at) 4) _ _ (λ e. tt)
-    (λ e. pick-case (Within (at + 1) end) (leb (sizes .kinds) kind) _ _ (λ e₂. tt)
-    (λ e₂. pick-case (Within (at + 1) end) (eqb (getD row kind 0) 0) _ _
-    (λ e₃. pick-case (Within (at + 1) end) (leb (sizes .shapes) (getD words (at + 1) 0)) _ _ (λ e₄. tt)
-    (λ e₄. pick-case (Within (at + 1) end) (limitsOk (getD words (at + 2) 0) (getD words (at + 3) 0)) _ _
+    cond-case (Within (at + 1) end) (ltb (end - at) 4) _ _ (λ e. tt)
+    (λ e. cond-case (Within (at + 1) end) (leb (sizes .kinds) kind) _ _ (λ e₂. tt)
+    (λ e₂. cond-case (Within (at + 1) end) (eqb (getD row kind 0) 0) _ _
+    (λ e₃. cond-case (Within (at + 1) end) (leb (sizes .shapes) (getD words (at + 1) 0)) _ _ (λ e₄. tt)
+    (λ e₄. cond-case (Within (at + 1) end) (limitsOk (getD words (at + 2) 0) (getD words (at + 3) 0)) _ _
     (λ e₅. omega (arith, ltb-false (end - at) 4 e)) (λ e₅. tt)))
     (λ e₃. tt)))
 
@@ -320,9 +311,9 @@ within-code (single f) inner words end sizes at row h w =
     (within-less (at + 1 + 1) (at + 1) end (inner (at + 1) row) (omega arith) (w (at + 1) row))
 within-code (group f) inner words end sizes at row h w =
     within-mapped (at + 1) end f (readGroup inner words end at row)
-    (pick-case (Within (at + 1) end) (ltb (end - at) 2) _ _ (λ e. tt)
-    (λ e. pick-case (Within (at + 1) end) (ltb (getD words (at + 1) 0) 2) _ _ (λ e₂. tt)
-    (λ e₂. pick-case (Within (at + 1) end) (ltb 16 (getD words (at + 1) 0)) _ _ (λ e₃. tt)
+    (cond-case (Within (at + 1) end) (ltb (end - at) 2) _ _ (λ e. tt)
+    (λ e. cond-case (Within (at + 1) end) (ltb (getD words (at + 1) 0) 2) _ _ (λ e₂. tt)
+    (λ e₂. cond-case (Within (at + 1) end) (ltb 16 (getD words (at + 1) 0)) _ _ (λ e₃. tt)
     (λ e₃. within-less (at + 2) (at + 1) end (readRun inner (getD words (at + 1) 0) (at + 2) row) (omega arith)
     (within-run inner end w (getD words (at + 1) 0) (at + 2) row (omega (arith, ltb-false (end - at) 2 e)))))))
 within-code (link kind) inner words end sizes at row h w = within-link words end sizes at row kind
@@ -332,9 +323,9 @@ within-part :
     (left : ℕ) (words : List ℕ) (end : ℕ) (sizes : Sizes) (at : ℕ) (row : List ℕ) →
     Within (at + 1) end (readPart left words end sizes at row)
 unfolding readPart
-within-part zero words end sizes at row = pick-case (Within (at + 1) end) (leb end at) _ _ (λ e. tt) (λ e. tt)
+within-part zero words end sizes at row = cond-case (Within (at + 1) end) (leb end at) _ _ (λ e. tt) (λ e. tt)
 within-part (suc l) words end sizes at row =
-    pick-case (Within (at + 1) end) (leb end at) _ _ (λ e. tt)
+    cond-case (Within (at + 1) end) (leb end at) _ _ (λ e. tt)
     (λ e. within-code (codeOf (getD words at 0)) (readPart l words end sizes) words end sizes at row
     (leb-false _ _ e) (λ m q. within-part l words end sizes m q))
 

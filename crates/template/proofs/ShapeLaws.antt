@@ -4,7 +4,7 @@
 -- template-…    the template: one law for each refusal, and `template-counts`
 -- Assumes nothing.
 use mathlib.Core.Path.{_≡_, refl, ap, sym, _∙_}
-use mathlib.Core.Bool.{Bool, true, false}
+use mathlib.Core.Bool.{Bool, true, false, cond}
 use mathlib.Core.List.{List, [], _∷_}
 use Prim.Native.Nat.{ℕ, zero, suc, _+_, _-_, _≤_, _<_}
 use native.Mathlib.Omega.{arith}
@@ -15,11 +15,11 @@ use Rattle.bags.specs.Part.{Part, named}
 use Rattle.template.specs.declared.Read.{Read}
 use Rattle.template.specs.declared.Read.the-variants.{Next, Refused}
 use Rattle.template.specs.declared.Sizes.{Sizes}
-use Rattle.template.specs.Answer.{Said, values, refusal}
-use Rattle.template.specs.Reading.{pick, Reading, found, refused, Outcome, both, outcome, readPart}
-use Rattle.template.specs.Template.{Result, ok, fault, resultRead, wholePart, noNames, readShape}
-use Rattle.template.specs.Template.{mapResult, joined, readShapes, accepted}
-use Rattle.template.specs.Template.{afterShapes, sizesOf, readTemplate, templateAnswer, templateSays}
+use Rattle.words.specs.Said.{Said, values, refusal}
+use Rattle.template.specs.Reading.{Reading, found, refused, Outcome, both, outcome, readPart}
+use Rattle.template.specs.Template.{Result, ok, fault, resultRead, wholePart, noNames, readShape, mapResult}
+use Rattle.template.specs.Template.{joined, readShapes, accepted, afterShapes, sizesOf, readTemplate}
+use Rattle.template.specs.Template.{templateAnswer, templateSays}
 use Rattle.template.proofs.Trees.{reads-names}
 
 -- An answer tells whether something was read.
@@ -35,12 +35,12 @@ next-fault e = let z : _≡_ {A = ℕ} 0 1 = cc in omega arith
 
 -- What the code makes of a part's answer at the shape's end.
 abbrev finished : ℕ → Read → Read
-finished end (Next n) = pick (ltb n end) (Refused 12 n) (Next end)
+finished end (Next n) = cond (ltb n end) (Refused 12 n) (Next end)
 finished end (Refused n p) = Refused n p
 
 finished-pick :
     (b : Bool) (p : Part) (n end : ℕ) →
-    pick b (Refused 12 n) (Next end) ≡ resultRead (pick b (fault 12 n) (ok p end))
+    cond b (Refused 12 n) (Next end) ≡ resultRead (cond b (fault 12 n) (ok p end))
 finished-pick true p n end = refl
 finished-pick false p n end = refl
 
@@ -58,7 +58,7 @@ whole-names end (found q m after) r row p n e w h k =
     let s : q ≡ p = whole-part (ltb m end) w in
     ap (λ (o : Outcome). getD (o .row) k 0) e ∙ h q m after refl k ∙ ap (λ t. named t k) s
   where
-    whole-part : (b : Bool) → pick b (fault 12 m) (ok q end) ≡ ok p n → q ≡ p
+    whole-part : (b : Bool) → cond b (fault 12 m) (ok q end) ≡ ok p n → q ≡ p
     whole-part true e = absurd (let z : _≡_ {A = ℕ} 0 1 = cc in omega arith)
     whole-part false e = cc
 whole-names end (refused m q after) r row p n e w h k = absurd (let z : _≡_ {A = ℕ} 0 1 = cc in omega arith)
@@ -208,7 +208,7 @@ module _ (sizes : Sizes) (words : List ℕ) where
   shapes-first count at trees n e =
       joined-first (readShape sizes words at) (readShapes sizes words count) trees n e
 
-  no-shapes : (b : Bool) (at : ℕ) (trees : List Part) (n : ℕ) → pick b (fault 12 at) (ok [] at) ≡ ok trees n →
+  no-shapes : (b : Bool) (at : ℕ) (trees : List Part) (n : ℕ) → cond b (fault 12 at) (ok [] at) ≡ ok trees n →
       (b ≡ false) × (trees ≡ []) × (n ≡ at)
   no-shapes true at trees n e = absurd (let z : _≡_ {A = ℕ} 0 1 = cc in omega arith)
   no-shapes false at trees n e = (refl, cc, cc)

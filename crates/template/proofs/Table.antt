@@ -4,7 +4,6 @@
 -- filling-row      the row of the next shape has no names
 -- filling-next     it holds after that shape was read into its row
 -- filling-…        one law for each answer after the loop or in it
--- put-before, put-inside   a part of a list put back: what stands before it, and in it
 -- Assumes nothing.
 use mathlib.Core.Path.{_≡_, ap, sym, _∙_}
 use mathlib.Core.List.{List, [], _∷_}
@@ -12,17 +11,17 @@ use Prim.Native.Nat.{ℕ, zero, suc, _+_, _-_, _*_, _≤_, _<_}
 use native.Mathlib.Omega.{arith}
 use native.Mathlib.Numerals.{add-one}
 use borrow.Author.Tests.{ltb-true, ltb-false}
-use borrow.Rule.Slice.PartMut.{midOf, putMid, same-len-mid, mid-len, take-put, drop-put}
+use borrow.Rule.Slice.PartMut.{midOf, putMid, same-len-mid, mid-len}
 use lib.ListN.{length, getD, take, drop, replicate, length-replicate}
-use lib.ListN.{List·getD-append}
-use lib.Seq.{ext-getD, getD-take, getD-drop, getD-append-add, length-take-le}
+use lib.Seq.{ext-getD, getD-take, getD-drop}
 use lib.Dec.{ltb}
 use Rattle.bags.specs.Part.{Part, named}
 use Rattle.template.specs.declared.Read.{Read}
 use Rattle.template.specs.declared.Read.the-variants.{Next, Refused}
 use Rattle.template.specs.declared.Sizes.{Sizes}
 use Rattle.template.specs.Template.{ok, resultRead, noNames, readShape, readShapes, Tabled}
-use Rattle.template.proofs.Laws.{bool-case}
+use Rattle.words.proofs.Bools.{bool-case}
+use Rattle.words.proofs.Cells.{put-before, put-inside, put-after}
 use Rattle.template.proofs.Trees.{no-entry}
 use Rattle.template.proofs.ShapeLaws.{refused-ok, shapes-next, shapes-refused, shapes-more, shapes-end}
 use Rattle.template.proofs.ShapeLaws.{FirstRead, shapes-first, shapes-length}
@@ -45,30 +44,6 @@ pub record Filling (sizes : Sizes) (words names : List ℕ) (at t : ℕ) : Type 
   pub filled :
       (trees : List Part) (n : ℕ) → readShapes sizes words (sizes .shapes) 2 ≡ ok trees n →
       (s k : ℕ) → s < t → k < 64 → getD names (s * 64 + k) 0 ≡ named (getD trees s Part.nothing) k
-
--- A part of a list put back: what stands before it, in it and after it.
-pub put-before :
-    (a k : ℕ) (xs ys : List ℕ) (j : ℕ) → a ≤ length xs → j < a → getD (putMid a k xs ys) j 0 ≡ getD xs j 0
-put-before a k xs ys j h i =
-    sym (getD-take a (putMid a k xs ys) j 0 i) ∙ ap (λ (l : List ℕ). getD l j 0) (take-put a k xs ys h)
-    ∙ getD-take a xs j 0 i
-
-pub put-inside :
-    (a k : ℕ) (xs ys : List ℕ) (j : ℕ) → a ≤ length xs → j < length ys →
-    getD (putMid a k xs ys) (a + j) 0 ≡ getD ys j 0
-put-inside a k xs ys j h i =
-    ap (λ (n : ℕ). getD (putMid a k xs ys) (n + j) 0) (sym (length-take-le a xs h))
-    ∙ getD-append-add (take a xs) _ j 0 ∙ List·getD-append ys _ 0 j i
-
-put-after :
-    (a e : ℕ) (xs ys : List ℕ) (j : ℕ) → a ≤ e → e ≤ length xs → length ys ≡ e - a → e ≤ j →
-    getD (putMid a (e - a) xs ys) j 0 ≡ getD xs j 0
-put-after a e xs ys j h i l g =
-    let q : e + (j - e) ≡ j = omega arith in
-    ap (λ (n : ℕ). getD (putMid a (e - a) xs ys) n 0) (sym q)
-    ∙ sym (getD-drop e (putMid a (e - a) xs ys) (j - e) 0)
-    ∙ ap (λ (m : List ℕ). getD m (j - e) 0) (drop-put a e xs ys h i l) ∙ getD-drop e xs (j - e) 0
-    ∙ ap (λ (n : ℕ). getD xs n 0) q
 
 -- What is left of a list starts with its next element.
 drop-first :

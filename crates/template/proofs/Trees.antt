@@ -20,11 +20,10 @@ use Rattle.bags.specs.Part.{Limit, at-most, no-limit, Part, Parts, Names, RunNa
 use Rattle.bags.specs.Part.{depth, runDepth, entry, firstEntry, named, runNamed}
 use Rattle.bags.specs.Span.{limitOf}
 use Rattle.template.specs.declared.Sizes.{Sizes}
-use Rattle.template.specs.Reading.{Code, nothing, single, link, wrapped, gathered, codeOf}
-use Rattle.template.specs.Reading.{Reading, found, refused, andThen, mapped}
-use Rattle.template.specs.Reading.{limitsOk, readLink, readRun, readGroup, readCode, readPart}
+use Rattle.template.specs.Reading.{Code, single, wrapped, gathered, codeOf, Reading, found, refused, andThen}
+use Rattle.template.specs.Reading.{mapped, limitsOk, readLink, readRun, readGroup, readCode, readPart}
 use Rattle.template.specs.Template.{noNames}
-use Rattle.template.proofs.Laws.{pick-case, bool-case}
+use Rattle.words.proofs.Bools.{cond-case, bool-case}
 
 -- "Low is 0 to 8,192; high is low to 8,192, or no limit."
 abbrev pub InLimits : ℕ → Limit → Type 0
@@ -121,10 +120,10 @@ false-true e = let z : _≡_ {A = ℕ} 0 1 = cc in omega arith
 -- The limits that the test lets pass.
 limits-in : (low high : ℕ) → limitsOk low high ≡ true → InLimits low (limitOf high)
 limits-in low high =
-    pick-case (λ b. b ≡ true → InLimits low (limitOf high)) (ltb 8192 low) _ _ (λ e o. absurd (false-true o))
-    (λ e. pick-case (λ b. b ≡ true → InLimits low (limitOf high)) (eqb high 65535) _ _
+    cond-case (λ b. b ≡ true → InLimits low (limitOf high)) (ltb 8192 low) _ _ (λ e o. absurd (false-true o))
+    (λ e. cond-case (λ b. b ≡ true → InLimits low (limitOf high)) (eqb high 65535) _ _
     (λ e₂ o. rw e₂ (ltb-false _ _ e))
-    (λ e₂. pick-case (λ b. b ≡ true → InLimits low (limitOf high)) (ltb high low) _ _ (λ e₃ o. absurd (false-true o))
+    (λ e₂. cond-case (λ b. b ≡ true → InLimits low (limitOf high)) (ltb high low) _ _ (λ e₃ o. absurd (false-true o))
     (λ e₃ o. rw e₂ (ltb-false _ _ e, ltb-false _ _ e₃, leb-true _ _ o))))
 
 -- The row after a link whose kind had no entry.
@@ -144,7 +143,7 @@ module _ (sizes : Sizes) where
   wrapped-read n left row p after w =
       let P : Part → Type 0 = λ q. PartRead sizes (suc left) row q after in
       let deep : suc (depth p) ≤ suc left = omega (arith, w .deep) in
-      pick-case P (eqb n 1) _ _
+      cond-case P (eqb n 1) _ _
       (λ e. record {
         single = w .single;
         shapes = w .shapes;
@@ -155,7 +154,7 @@ module _ (sizes : Sizes) where
         entries = w .entries;
         size = w .size;
       })
-      (λ e. pick-case P (eqb n 2) _ _
+      (λ e. cond-case P (eqb n 2) _ _
       (λ e₂. record {
         single = w .single;
         shapes = w .shapes;
@@ -182,7 +181,7 @@ module _ (sizes : Sizes) where
       (n left : ℕ) (row : List ℕ) (ps : Parts) (after : List ℕ) → PartRead sizes left row (Part.choice ps) after →
       PartRead sizes left row (gathered n ps) after
   gathered-read n left row ps after w =
-      pick-case (λ q. PartRead sizes left row q after) (eqb n 16) _ _ (λ e. w)
+      cond-case (λ q. PartRead sizes left row q after) (eqb n 16) _ _ (λ e. w)
       (λ e. record {
         single = w .single;
         shapes = w .shapes;
@@ -289,11 +288,11 @@ module _ (sizes : Sizes) where
     unfolding readLink
     link-reads left at row kind b =
         let P : Reading Part → Type 0 = Found (PartRead sizes (suc left) row) in
-        pick-case P (ltb (end - at) 4) _ _ (λ e. tt)
-        (λ e. pick-case P (leb (sizes .kinds) kind) _ _ (λ e₂. tt)
-        (λ e₂. pick-case P (eqb (getD row kind 0) 0) _ _
-        (λ e₃. pick-case P (leb (sizes .shapes) (getD words (at + 1) 0)) _ _ (λ e₄. tt)
-        (λ e₄. pick-case P (limitsOk (getD words (at + 2) 0) (getD words (at + 3) 0)) _ _
+        cond-case P (ltb (end - at) 4) _ _ (λ e. tt)
+        (λ e. cond-case P (leb (sizes .kinds) kind) _ _ (λ e₂. tt)
+        (λ e₂. cond-case P (eqb (getD row kind 0) 0) _ _
+        (λ e₃. cond-case P (leb (sizes .shapes) (getD words (at + 1) 0)) _ _ (λ e₄. tt)
+        (λ e₄. cond-case P (limitsOk (getD words (at + 2) 0) (getD words (at + 3) 0)) _ _
         (λ e₅. link-read left row kind (getD words (at + 1) 0) (getD words (at + 2) 0) (getD words (at + 3) 0)
         (leb-false _ _ e₂) b (eqb-true _ _ e₃) (leb-false _ _ e₄) e₅)
         (λ e₅. tt)))
@@ -307,9 +306,9 @@ module _ (sizes : Sizes) where
         (readGroup (readPart left words end sizes) words end at row)
     group-reads left at row b h =
         let P : Reading Parts → Type 0 = Found (λ ps after. PartRead sizes (suc left) row (Part.choice ps) after) in
-        pick-case P (ltb (end - at) 2) _ _ (λ e. tt)
-        (λ e. pick-case P (ltb (getD words (at + 1) 0) 2) _ _ (λ e₂. tt)
-        (λ e₂. pick-case P (ltb 16 (getD words (at + 1) 0)) _ _ (λ e₃. tt)
+        cond-case P (ltb (end - at) 2) _ _ (λ e. tt)
+        (λ e. cond-case P (ltb (getD words (at + 1) 0) 2) _ _ (λ e₂. tt)
+        (λ e₂. cond-case P (ltb 16 (getD words (at + 1) 0)) _ _ (λ e₃. tt)
         (λ e₃. run-reads (readPart left words end sizes) left h (getD words (at + 1) 0) (at + 2) row b)))
 
     code-reads :
@@ -322,27 +321,27 @@ module _ (sizes : Sizes) where
         let P : Code → Type 0 =
         λ code. Found (PartRead sizes (suc left) row)
         (readCode code (readPart left words end sizes) words end sizes at row) in
-        pick-case P (eqb n 0) _ _ (λ e. nothing-read left row)
-        (λ e. pick-case P (ltb n 4) _ _
+        cond-case P (eqb n 0) _ _ (λ e. nothing-read left row)
+        (λ e. cond-case P (ltb n 4) _ _
         (λ e₂. found-mapped (PartRead sizes left row) (PartRead sizes (suc left) row) (wrapped n)
         (λ p after w. wrapped-read n left row p after w) (readPart left words end sizes (at + 1) row)
         (h (at + 1) row b))
-        (λ e₂. pick-case P (ltb n 16) _ _ (λ e₃. tt)
-        (λ e₃. pick-case P (ltb n 18) _ _
+        (λ e₂. cond-case P (ltb n 16) _ _ (λ e₃. tt)
+        (λ e₃. cond-case P (ltb n 18) _ _
         (λ e₄. found-mapped (λ ps after. PartRead sizes (suc left) row (Part.choice ps) after)
         (PartRead sizes (suc left) row) (gathered n)
         (λ ps after w. gathered-read n (suc left) row ps after w)
         (readGroup (readPart left words end sizes) words end at row) (group-reads left at row b h))
-        (λ e₄. pick-case P (ltb n 256) _ _ (λ e₅. tt)
-        (λ e₅. pick-case P (ltb n 320) _ _ (λ e₆. link-reads left at row (n - 256) b) (λ e₆. tt))))))
+        (λ e₄. cond-case P (ltb n 256) _ _ (λ e₅. tt)
+        (λ e₅. cond-case P (ltb n 320) _ _ (λ e₆. link-reads left at row (n - 256) b) (λ e₆. tt))))))
 
     part-reads :
         (left at : ℕ) (row : List ℕ) → sizes .kinds ≤ length row →
         Found (PartRead sizes left row) (readPart left words end sizes at row)
     unfolding readPart
-    part-reads zero at row b = pick-case (Found (PartRead sizes zero row)) (leb end at) _ _ (λ e. tt) (λ e. tt)
+    part-reads zero at row b = cond-case (Found (PartRead sizes zero row)) (leb end at) _ _ (λ e. tt) (λ e. tt)
     part-reads (suc left) at row b =
-        pick-case (Found (PartRead sizes (suc left) row)) (leb end at) _ _ (λ e. tt)
+        cond-case (Found (PartRead sizes (suc left) row)) (leb end at) _ _ (λ e. tt)
         (λ e. code-reads (getD words at 0) left at row b (part-reads left))
 
     -- A part that was read obeys document 01, and the row has its names.

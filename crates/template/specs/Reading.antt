@@ -8,7 +8,7 @@
 -- Assumes nothing.
 use Prim.Native.Nat.{ℕ, zero, suc, _+_, _-_}
 use mathlib.Core.List.{List}
-use mathlib.Core.Bool.{Bool, true, false}
+use mathlib.Core.Bool.{Bool, true, false, cond}
 use lib.ListN.{getD, set}
 use lib.Dec.{ltb, leb, eqb}
 use Rattle.bags.specs.Part.{Part, Parts}
@@ -16,11 +16,6 @@ use Rattle.bags.specs.Span.{limitOf}
 use Rattle.template.specs.declared.Read.{Read}
 use Rattle.template.specs.declared.Read.the-variants.{Next, Refused}
 use Rattle.template.specs.declared.Sizes.{Sizes}
-
--- The first where the test is true, else the second.
-abbrev pub pick {ℓ} : {A : Type ℓ} → Bool → A → A → A
-pick true a b = a
-pick false a b = b
 
 -- What a code starts: nothing, one part that is wrapped, a group of parts, a link of a kind, or nothing known.
 pub data Code : Type 0 where
@@ -32,21 +27,21 @@ pub data Code : Type 0 where
 
 -- 1: star, 2: plus, 3: optional.
 abbrev pub wrapped : ℕ → Part → Part
-wrapped n p = pick (eqb n 1) (Part.star p) (pick (eqb n 2) (Part.plus p) (Part.optional p))
+wrapped n p = cond (eqb n 1) (Part.star p) (cond (eqb n 2) (Part.plus p) (Part.optional p))
 
 -- 16: choice, 17: all.
 abbrev pub gathered : ℕ → Parts → Part
-gathered n ps = pick (eqb n 16) (Part.choice ps) (Part.all ps)
+gathered n ps = cond (eqb n 16) (Part.choice ps) (Part.all ps)
 
 -- 0; 1 to 3; 16 and 17; 256 to 319; 4 to 15, 18 to 255 and 320 and above are unknown.
 abbrev pub codeOf : ℕ → Code
 codeOf n =
-    pick (eqb n 0) nothing
-    (pick (ltb n 4) (single (wrapped n))
-    (pick (ltb n 16) unknown
-    (pick (ltb n 18) (group (gathered n))
-    (pick (ltb n 256) unknown
-    (pick (ltb n 320) (link (n - 256)) unknown)))))
+    cond (eqb n 0) nothing
+    (cond (ltb n 4) (single (wrapped n))
+    (cond (ltb n 16) unknown
+    (cond (ltb n 18) (group (gathered n))
+    (cond (ltb n 256) unknown
+    (cond (ltb n 320) (link (n - 256)) unknown)))))
 
 -- What was read, the next place and the row; or a refusal's number and place, and the row as it was then.
 pub data Reading (A : Type 0) : Type 0 where
@@ -66,17 +61,17 @@ mapped f (refused number place row) = refused number place row
 -- "Low is 0 to 8,192; high is low to 8,192, or 65,535."
 abbrev pub limitsOk : ℕ → ℕ → Bool
 limitsOk low high =
-    pick (ltb 8192 low) false (pick (eqb high 65535) true (pick (ltb high low) false (leb high 8192)))
+    cond (ltb 8192 low) false (cond (eqb high 65535) true (cond (ltb high low) false (leb high 8192)))
 
 -- "For a link all four words (4), then 7 kind not below L and 8 kind already in this shape, at the code;
 -- 9 shape not below S; 10 low or high, at the low."
 unfoldable pub readLink : List ℕ → ℕ → Sizes → ℕ → List ℕ → ℕ → Reading Part
 readLink words end sizes at row kind =
-    pick (ltb (end - at) 4) (refused 4 end row)
-    (pick (leb (sizes .kinds) kind) (refused 7 at row)
-    (pick (eqb (getD row kind 0) 0)
-    (pick (leb (sizes .shapes) (getD words (at + 1) 0)) (refused 9 (at + 1) row)
-    (pick (limitsOk (getD words (at + 2) 0) (getD words (at + 3) 0))
+    cond (ltb (end - at) 4) (refused 4 end row)
+    (cond (leb (sizes .kinds) kind) (refused 7 at row)
+    (cond (eqb (getD row kind 0) 0)
+    (cond (leb (sizes .shapes) (getD words (at + 1) 0)) (refused 9 (at + 1) row)
+    (cond (limitsOk (getD words (at + 2) 0) (getD words (at + 3) 0))
     (found
     (Part.link kind (getD words (at + 1) 0) (getD words (at + 2) 0) (limitOf (getD words (at + 3) 0)))
     (at + 4)
@@ -93,9 +88,9 @@ readRun inner (suc n) at row =
 -- "For a group 4, then 11 its count": 2 to 16, and so many parts follow.
 abbrev pub readGroup : (ℕ → List ℕ → Reading Part) → List ℕ → ℕ → ℕ → List ℕ → Reading Parts
 readGroup inner words end at row =
-    pick (ltb (end - at) 2) (refused 4 end row)
-    (pick (ltb (getD words (at + 1) 0) 2) (refused 11 (at + 1) row)
-    (pick (ltb 16 (getD words (at + 1) 0)) (refused 11 (at + 1) row)
+    cond (ltb (end - at) 2) (refused 4 end row)
+    (cond (ltb (getD words (at + 1) 0) 2) (refused 11 (at + 1) row)
+    (cond (ltb 16 (getD words (at + 1) 0)) (refused 11 (at + 1) row)
     (readRun inner (getD words (at + 1) 0) (at + 2) row)))
 
 -- The part that a code starts; 5 for an unknown code.
@@ -109,9 +104,9 @@ readCode unknown inner words end sizes at row = refused 5 at row
 -- The part at a place below the shape's end, where `left` levels are still allowed: 12 for a shape's whole part.
 -- "For each part 4, 6 depth over 12, 5 unknown code."
 unfoldable pub readPart : ℕ → List ℕ → ℕ → Sizes → ℕ → List ℕ → Reading Part
-readPart zero words end sizes at row = pick (leb end at) (refused 4 end row) (refused 6 at row)
+readPart zero words end sizes at row = cond (leb end at) (refused 4 end row) (refused 6 at row)
 readPart (suc left) words end sizes at row =
-    pick (leb end at) (refused 4 end row)
+    cond (leb end at) (refused 4 end row)
     (readCode (codeOf (getD words at 0)) (readPart left words end sizes) words end sizes at row)
 
 -- What the code's answer and the row that it leaves say of a reading: all but the tree.

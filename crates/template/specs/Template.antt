@@ -5,6 +5,7 @@
 -- shapePlace              where a shape's count of words stands
 -- Tabled                  a table has the shapes that each shape names, 64 labels to a shape
 -- Assumes nothing.
+use mathlib.Core.Bool.{cond}
 use Prim.Native.Nat.{ℕ, zero, suc, _+_, _-_, _*_, _<_}
 use mathlib.Core.Path.{_≡_}
 use mathlib.Core.List.{List, [], _∷_}
@@ -14,8 +15,8 @@ use Rattle.bags.specs.Part.{Part, named}
 use Rattle.template.specs.declared.Read.{Read}
 use Rattle.template.specs.declared.Read.the-variants.{Next, Refused}
 use Rattle.template.specs.declared.Sizes.{Sizes}
-use Rattle.template.specs.Answer.{Said, values, refusal}
-use Rattle.template.specs.Reading.{pick, Reading, found, refused, readPart}
+use Rattle.words.specs.Said.{Said, values, refusal}
+use Rattle.template.specs.Reading.{Reading, found, refused, readPart}
 
 -- What was read and the next place, or a refusal's number and place.
 pub data Result (A : Type 0) : Type 0 where
@@ -24,7 +25,7 @@ pub data Result (A : Type 0) : Type 0 where
 
 -- "12 words left after a shape's part, at the first."
 abbrev pub wholePart : ℕ → Reading Part → Result Part
-wholePart end (found p next row) = pick (ltb next end) (fault 12 next) (ok p end)
+wholePart end (found p next row) = cond (ltb next end) (fault 12 next) (ok p end)
 wholePart end (refused number place row) = fault number place
 
 -- No label has been named yet.
@@ -35,8 +36,8 @@ noNames = replicate 64 0
 -- at the template's length, before its part is read)." A shape is one part exactly.
 unfoldable pub readShape : Sizes → List ℕ → ℕ → Result Part
 readShape sizes words at =
-    pick (leb (length words) at) (fault 4 (length words))
-    (pick (ltb (length words - (at + 1)) (getD words at 0)) (fault 4 (length words))
+    cond (leb (length words) at) (fault 4 (length words))
+    (cond (ltb (length words - (at + 1)) (getD words at 0)) (fault 4 (length words))
     (wholePart (at + 1 + getD words at 0)
     (readPart 12 words (at + 1 + getD words at 0) sizes (at + 1) noNames)))
 
@@ -50,7 +51,7 @@ joined f (fault number place) rest = fault number place
 
 -- "Then shape by shape, left to right", and 12 for words left after the last shape, at the first.
 unfoldable pub readShapes : Sizes → List ℕ → ℕ → ℕ → Result (List Part)
-readShapes sizes words zero at = pick (ltb at (length words)) (fault 12 at) (ok [] at)
+readShapes sizes words zero at = cond (ltb at (length words)) (fault 12 at) (ok [] at)
 readShapes sizes words (suc n) at = joined _∷_ (readShape sizes words at) (readShapes sizes words n)
 
 -- L, S and the tree of each shape, or the first refusal.
@@ -68,12 +69,12 @@ sizesOf kinds shapes = record { kinds = kinds; shapes = shapes }
 -- "1 under 2 or over 4,096 words, place 0; 2 L; 3 S."
 unfoldable pub readTemplate : List ℕ → TemplateReading
 readTemplate words =
-    pick (ltb (length words) 2) (turnedDown 1 0)
-    (pick (ltb 4096 (length words)) (turnedDown 1 0)
-    (pick (ltb (getD words 0 0) 1) (turnedDown 2 0)
-    (pick (ltb 64 (getD words 0 0)) (turnedDown 2 0)
-    (pick (ltb (getD words 1 0) 1) (turnedDown 3 1)
-    (pick (ltb 32 (getD words 1 0)) (turnedDown 3 1)
+    cond (ltb (length words) 2) (turnedDown 1 0)
+    (cond (ltb 4096 (length words)) (turnedDown 1 0)
+    (cond (ltb (getD words 0 0) 1) (turnedDown 2 0)
+    (cond (ltb 64 (getD words 0 0)) (turnedDown 2 0)
+    (cond (ltb (getD words 1 0) 1) (turnedDown 3 1)
+    (cond (ltb 32 (getD words 1 0)) (turnedDown 3 1)
     (afterShapes (getD words 0 0) (getD words 1 0)
     (readShapes (sizesOf (getD words 0 0) (getD words 1 0)) words (getD words 1 0) 2)))))))
 

@@ -7,7 +7,9 @@ ghost use lib.ListN.{length, getD, replicate};
 ghost use Rattle.bags.specs.Part.{Part, named};
 ghost use Rattle.template.specs.Answer.{templateSaid};
 ghost use Rattle.template.specs.Reading.{limitsOk, both, outcome, readLink, readPart, readRun};
-ghost use Rattle.template.specs.Template.{ok, accepted, noNames, resultRead, readShape, readShapes, readTemplate, templateSays, Tabled};
+ghost use Rattle.template.specs.Template.{ok, accepted, noNames, resultRead, readShape, readShapes};
+ghost use Rattle.template.specs.Template.{readTemplate, templateSays, Tabled};
+use words::wide;
 
 // The number of a kind: it counts the template's kinds from 0.
 pub struct Kind(pub u16);
@@ -37,12 +39,6 @@ pub enum Read {
 pub enum TemplateAnswer {
     Counts(u16, u16),
     Refused(u16, usize),
-}
-
-fn wide(x: u16) -> usize
-    ensures { λ r. ⌜ (r ≡ x) × (r < 65536) ⌝ }
-{
-    x as usize
 }
 
 // A shape's entry in the table of names: its number plus one.

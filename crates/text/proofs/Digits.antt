@@ -6,14 +6,14 @@
 use mathlib.Core.Path.{_≡_, refl, sym, ap, _∙_, subst}
 use mathlib.Core.Logic.{_⊎_, inl, inr, ⊎-elim}
 use mathlib.Core.List.{List, [], _∷_, _++_}
-use mathlib.Core.Bool.{Bool, true, false}
+use mathlib.Core.Bool.{Bool, true, false, cond}
 use Prim.Native.Nat.{ℕ, zero, suc, _+_, _*_, _-_, _/_, _%_, _^_, _≤_, _<_}
 use native.Mathlib.Nat.{div-lt-iff-lt-mul, div-add-mod, pow-suc}
 use native.Mathlib.Omega.{arith}
 use lib.Dec.{ltb, lit<}
 use lib.ListN.{length, length-append}
 use borrow.Author.Tests.{ltb-true, ltb-false, lt-ltb, le-ltb}
-use Rattle.text.specs.Text.{pick, digit, digitsBy, digits}
+use Rattle.text.specs.Text.{digit, digitsBy, digits}
 
 -- a number's value by its digits, the first one first
 unfoldable pub valueOnto : ℕ → List ℕ → ℕ
@@ -42,12 +42,12 @@ tenth-below k n h = div-lt-iff-lt-mul (lit< tt) .1 (subst (λ (m : ℕ). n < m) 
 by-small : (k n : ℕ) → n < 10 → digitsBy (suc k) n ≡ digit n ∷ []
 unfolding digitsBy
 by-small k n h =
-    ap (λ (b : Bool). pick b (digit n ∷ []) (digitsBy k (n / 10) ++ (digit (n % 10) ∷ []))) (lt-ltb n 10 h)
+    ap (λ (b : Bool). cond b (digit n ∷ []) (digitsBy k (n / 10) ++ (digit (n % 10) ∷ []))) (lt-ltb n 10 h)
 
 by-more : (k n : ℕ) → 10 ≤ n → digitsBy (suc k) n ≡ digitsBy k (n / 10) ++ (digit (n % 10) ∷ [])
 unfolding digitsBy
 by-more k n h =
-    ap (λ (b : Bool). pick b (digit n ∷ []) (digitsBy k (n / 10) ++ (digit (n % 10) ∷ []))) (le-ltb n 10 h)
+    ap (λ (b : Bool). cond b (digit n ∷ []) (digitsBy k (n / 10) ++ (digit (n % 10) ∷ []))) (le-ltb n 10 h)
 
 -- k steps are enough below 10^k
 by-enough : (k n : ℕ) → n < 10 ^ suc k → digitsBy (suc (suc k)) n ≡ digitsBy (suc k) n

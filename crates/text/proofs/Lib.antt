@@ -1,4 +1,2 @@
-pub mod Writing
 pub mod Digits
 pub mod Lines
-pub mod Inputs

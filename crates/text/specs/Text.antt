@@ -7,7 +7,7 @@
 -- Assumes nothing.
 use Prim.Native.Nat.{ℕ, zero, suc, _+_, _*_, _/_, _%_}
 use mathlib.Core.List.{List, [], _∷_, _++_}
-use mathlib.Core.Bool.{Bool, true, false}
+use mathlib.Core.Bool.{Bool, true, false, cond}
 use lib.Dec.{ltb}
 use Rattle.board.specs.Grid.{on}
 
@@ -15,11 +15,6 @@ use Rattle.board.specs.Grid.{on}
 abbrev pub whenOn : Bool → List ℕ → List ℕ
 whenOn true text = text
 whenOn false text = []
-
--- The first text if a test passes, else the second.
-abbrev pub pick : Bool → List ℕ → List ℕ → List ℕ
-pick true a b = a
-pick false a b = b
 
 -- A digit's byte.
 abbrev pub digit : ℕ → ℕ
@@ -29,7 +24,7 @@ digit d = 48 + d
 -- part and the rest.
 unfoldable pub digitsBy : ℕ → ℕ → List ℕ
 digitsBy zero n = []
-digitsBy (suc steps) n = pick (ltb n 10) (digit n ∷ []) (digitsBy steps (n / 10) ++ (digit (n % 10) ∷ []))
+digitsBy (suc steps) n = cond (ltb n 10) (digit n ∷ []) (digitsBy steps (n / 10) ++ (digit (n % 10) ∷ []))
 
 -- A number below 10^20 in base ten.
 unfoldable pub digits : ℕ → List ℕ

@@ -10,13 +10,13 @@ use mathlib.Core.Bool.{false}
 use native.Mathlib.Omega.{arith}
 use Rattle.board.specs.Grid.{on}
 use Rattle.board.specs.Board.{Board}
-use Rattle.board.proofs.Bools.{never-both, is-false}
+use Rattle.words.proofs.Bools.{never-both, is-false}
 use Rattle.board.proofs.Tally.{tally-ext}
-use Rattle.template.specs.Answer.{Said}
-use Rattle.typing.specs.Sheet.{Sheet, place, size}
+use Rattle.words.specs.Said.{Said}
+use Rattle.sheet.specs.Sheet.{Sheet, place, size}
 use Rattle.typing.specs.Typing.{Pairs, Holds, SoundTyping}
 use Rattle.typing.specs.Largest.{Largest, bareCards}
-use Rattle.typing.specs.Bookings as bookings
+use Rattle.bookings.specs.Bookings as bookings
 use Rattle.typing.specs.Smallest.{booked, Accepted, TurnedDown}
 use Rattle.typing.specs.Demand3.{Outcome, pairs, notMet, Demand3}
 use Rattle.typing.specs.Answer.{BothSaid}

@@ -19,20 +19,21 @@ use Rattle.template.specs.Template.{Tabled}
 use Rattle.script.specs.Link.{neighbours}
 use Rattle.board.specs.Grid.{on, bit}
 use Rattle.board.specs.Board.{Board}
-use Rattle.board.proofs.Bools.{true-or-false}
+use Rattle.words.proofs.Bools.{true-or-false}
 use Rattle.board.proofs.Tally.{bit-true, bit-false}
 use Rattle.board.proofs.Grids.{on-yes, on-no}
-use Rattle.search.specs.Needs.{boardOf}
-use Rattle.search.proofs.Places.{place-in, card-of, shape-of}
+use Rattle.typing.specs.Needs.{boardOf}
+use Rattle.words.proofs.Places.{place-in, card-of, shape-of}
 use Rattle.typing.specs.declared.LargestAnswer.{LargestAnswer}
 use Rattle.typing.specs.declared.SmallestAnswer.{SmallestAnswer}
 use Rattle.typing.specs.declared.BothAnswer.{BothAnswer}
-use Rattle.typing.specs.Sheet.{Sheet, partOf, place, size}
+use Rattle.sheet.specs.Sheet.{Sheet, partOf, place, size, readSheet}
 use Rattle.typing.specs.Answer.{largestSaid, smallestSaid, bothSaid}
-use Rattle.typing.specs.Calls.{readSheet, Grids, LargestSays, SmallestSays, BothSays}
+use Rattle.typing.specs.Calls.{Grids, LargestSays, SmallestSays, BothSays}
 use Rattle.typing.proofs.Represents.{Represents}
 use Rattle.typing.proofs.Unique.{Represented, largest-says-unique, smallest-says-unique, both-says-unique}
-use Rattle.typing.proofs.Instance.{SheetRead, sheet-read, FitsGrid, CountsOf, counts-all, fits-grid, represents}
+use Rattle.sheet.proofs.Accepted.{SheetAccepted, sheet-read}
+use Rattle.typing.proofs.Instance.{FitsGrid, CountsOf, counts-all, fits-grid, represents}
 
 -- f 0, f 1, .., f (n - 1).
 listOf : (ℕ → ℕ) → ℕ → List ℕ
@@ -68,7 +69,7 @@ countsOf s kinds n = listOf (λ k. labelCount (neighbours (s .script) n (s .link
 fitsOf : Sheet → ℕ → List ℕ
 fitsOf s kinds = listOf (λ p. bit (fits (partOf s (p % s .shapes)) (countsOf s kinds (p / s .shapes)))) (size s)
 
-module _ {words : List ℕ} {kinds : ℕ} {s : Sheet} (read : SheetRead words kinds s) where
+module _ {words : List ℕ} {kinds : ℕ} {s : Sheet} (read : SheetAccepted words kinds s) where
   names-tabled : Tabled (s .parts) (namesOf s)
   unfolding namesOf
   names-tabled t k lt lk =

@@ -1,6 +1,4 @@
 -- The board of a template's table of names, a script and a grid of fits stands for their sheet.
---   SheetRead    a sheet whose template and script are read
---   sheet-asked, sheet-made, sheet-read   the readings ask for the sheet that they make, and for no other
 --   FitsGrid     a grid is 1 just where a card's counts fit a shape
 --   CountsOf     a list has the counts of a card's labels; counts-all: enough that it has those below its length
 --   fits-counted the test of such a list says whether the card's counts fit; fits-grid: and the grid of these tests
@@ -15,7 +13,7 @@ use mathlib.Core.Bool.{true}
 use mathlib.Core.List.{List, List·Memᴰ}
 use native.Mathlib.Omega.{arith}
 use lib.ListN.{length, getD, List·getD-eq-default}
-use Rattle.bags.specs.Part.{Part, Names, Declares}
+use Rattle.bags.specs.Part.{Names, Declares}
 use Rattle.bags.specs.Bag.{Fits}
 use Rattle.bags.specs.Interval.{count, fits}
 use Rattle.bags.specs.Choice.{to, labelCount}
@@ -23,69 +21,22 @@ use Rattle.bags.proofs.Naming.{names-dec, names-declares, declares-below, decla
 use Rattle.bags.proofs.Exact.{fits-exact}
 use Rattle.bags.proofs.Decide.{fits-decided}
 use Rattle.bags.proofs.Choosing.{met-exact}
-use Rattle.template.specs.Template.{TemplateReading, readTemplate, Tabled}
+use Rattle.template.specs.Template.{Tabled}
 use Rattle.template.proofs.Accepted as template
 use Rattle.script.specs.Link.{kindAt, toAt, neighbours}
-use Rattle.script.specs.Script.{ScriptReading, readScript}
 use Rattle.script.proofs.Reading as script
 use Rattle.script.proofs.Neighbours.{neighbours-exact}
 use Rattle.board.specs.Grid.{on}
 use Rattle.board.specs.Board.{Lawful}
-use Rattle.board.proofs.Bools.{le-or-lt}
-use Rattle.search.specs.Needs.{entryAt, Needs, metTest, boardOf}
-use Rattle.search.specs.Search.{Ready}
-use Rattle.search.proofs.Places.{card-of, shape-of}
-use Rattle.search.proofs.Boards.{board-lawful}
-use Rattle.typing.specs.Sheet.{Sheet, partOf, neighboursOf, place, size}
+use Rattle.words.proofs.Bools.{le-or-lt}
+use Rattle.typing.specs.Needs.{entryAt, Needs, metTest, boardOf, Ready}
+use Rattle.words.proofs.Places.{card-of, shape-of}
+use Rattle.typing.proofs.Boards.{board-lawful}
+use Rattle.sheet.specs.Sheet.{Sheet, partOf, neighboursOf, place}
 use Rattle.typing.specs.Typing.{Pairs, Has, Met}
-use Rattle.typing.specs.Calls.{ask, withScript, withTemplate, readSheet}
+use Rattle.sheet.proofs.Accepted.{SheetAccepted}
 use Rattle.typing.proofs.Represents.{Follows, Represents}
 use Rattle.typing.proofs.Neighbours.{targets-of, targets-at, label-counted, label-none}
-
--- The sheet's shapes are those of a template with so many kinds that is read, its links those of a script that is.
-pub record SheetRead (words : List ℕ) (kinds : ℕ) (s : Sheet) : Type 0 where
-  pub shapes : template.Accepted words kinds (s .shapes) (s .parts)
-  pub links : script.Accepted kinds (s .script) (s .cards) (s .links)
-
--- The sheet of what the two readings found.
-abbrev pub sheetOf : ℕ → List Part → ℕ → ℕ → List ℕ → Sheet
-sheetOf shapes parts cards links script =
-    record { shapes = shapes; parts = parts; cards = cards; links = links; script = script }
-
-module _ (words list : List ℕ) (kinds shapes : ℕ) (parts : List Part) (cards links : ℕ)
-    (t : readTemplate words ≡ TemplateReading.accepted kinds shapes parts)
-    (a : readScript kinds list ≡ ScriptReading.accepted cards links) where
-  pub sheet-asked : readSheet words list ≡ ask (sheetOf shapes parts cards links list)
-  unfolding readSheet
-  sheet-asked = rw (t, a)
-
-  pub sheet-made : SheetRead words kinds (sheetOf shapes parts cards links list)
-  sheet-made = record {
-    shapes = template.template-accepted words kinds shapes parts t;
-    links = script.script-accepted kinds list cards links a;
-  }
-
-pub sheet-read : (words list : List ℕ) (s : Sheet) → readSheet words list ≡ ask s
-    → (kinds : ℕ) × SheetRead words kinds s × (s .script ≡ list)
-unfolding readSheet
-sheet-read words list s e = by-template (readTemplate words) refl e
-  where
-    by-script : (kinds shapes : ℕ) (parts : List Part)
-        → readTemplate words ≡ TemplateReading.accepted kinds shapes parts
-        → (r : ScriptReading) → readScript kinds list ≡ r → withScript shapes parts list r ≡ ask s
-        → (k : ℕ) × SheetRead words k s × (s .script ≡ list)
-    by-script kinds shapes parts t (ScriptReading.turnedDown number at) a e =
-        let z : _≡_ {A = ℕ} 0 1 = cc in absurd (omega arith)
-    by-script kinds shapes parts t (ScriptReading.accepted cards links) a e =
-        let same : sheetOf shapes parts cards links list ≡ s = cc in
-        subst (λ (x : Sheet). (k : ℕ) × SheetRead words k x × (x .script ≡ list)) same
-        (kinds, sheet-made words list kinds shapes parts cards links t a, refl)
-
-    by-template : (r : TemplateReading) → readTemplate words ≡ r → withTemplate r list ≡ ask s
-        → (k : ℕ) × SheetRead words k s × (s .script ≡ list)
-    by-template (TemplateReading.turnedDown number at) t e = let z : _≡_ {A = ℕ} 0 1 = cc in absurd (omega arith)
-    by-template (TemplateReading.accepted kinds shapes parts) t e =
-        by-script kinds shapes parts t (readScript kinds list) refl e
 
 -- A grid is 1 just where the counts of a card's links fit a shape.
 abbrev pub FitsGrid : Sheet → List ℕ → Type 0
@@ -96,7 +47,7 @@ FitsGrid s grid = (n t : ℕ) → n < s .cards → t < s .shapes
 abbrev pub CountsOf : Sheet → ℕ → List ℕ → Type 0
 CountsOf s n counts = (k : ℕ) → getD counts k 0 ≡ labelCount (neighbours (s .script) n (s .links)) k
 
-module _ {words : List ℕ} {kinds : ℕ} {s : Sheet} (read : SheetRead words kinds s) where
+module _ {words : List ℕ} {kinds : ℕ} {s : Sheet} (read : SheetAccepted words kinds s) where
   -- ---- counts
   -- no neighbour has a label that is not below the count of kinds
   pub counts-all : (n : ℕ) (counts : List ℕ) → kinds ≤ length counts

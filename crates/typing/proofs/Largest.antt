@@ -17,11 +17,10 @@ use lib.Dec.{eqb}
 use Rattle.board.specs.Grid.{on}
 use Rattle.board.specs.Board.{Board, Finished}
 use Rattle.board.proofs.Tally.{tally-ext}
-use Rattle.board.proofs.Rounds.{after, Last, struck, quiet-or-noisy, quiet-not-noisy, rounds-struck}
-use Rattle.board.proofs.Rounds.{under-after, settles, last-unique}
-use Rattle.board.proofs.Rounds.{finished-quiet, finished-noisy, finished-is, finished-strikes}
-use Rattle.template.specs.Answer.{values}
-use Rattle.typing.specs.Sheet.{Sheet, place}
+use Rattle.board.proofs.Rounds.{after, Last, struck, quiet-or-noisy, quiet-not-noisy, rounds-struck, under-after}
+use Rattle.board.proofs.Rounds.{settles, last-unique, finished-quiet, finished-noisy, finished-is, finished-strikes}
+use Rattle.words.specs.Said.{values}
+use Rattle.sheet.specs.Sheet.{Sheet, place}
 use Rattle.typing.specs.Typing.{Pairs, Sound, Below, Typing}
 use Rattle.typing.specs.Largest.{Largest, bare, bareCards}
 use Rattle.typing.specs.Calls.{LargestFound}

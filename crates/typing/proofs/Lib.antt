@@ -3,7 +3,7 @@
 -- the board's. Largest, Smallest: the two typings. Demand: demand 3. Booked: bookings of a list that is read. Unique:
 -- two answers to one call are the same. Neighbours, Instance: the board of a template and a script. Existence: every
 -- sheet has one, so no contract leaves a choice.
-pub mod Places
+pub mod Boards
 pub mod Represents
 pub mod Rounds
 pub mod Largest

@@ -15,8 +15,8 @@ use Rattle.bags.specs.Part.{Declares}
 use Rattle.board.specs.Board.{Board, Lawful, SoundSet}
 use Rattle.board.proofs.Rounds.{mono}
 use Rattle.script.specs.Link.{fromAt, kindAt, toAt}
-use Rattle.search.proofs.Places.{place-in, place-of, card-in, shape-in}
-use Rattle.typing.specs.Sheet.{Sheet, partOf, place, size}
+use Rattle.words.proofs.Places.{place-in, place-of, card-in, shape-in}
+use Rattle.sheet.specs.Sheet.{Sheet, partOf, place, size}
 use Rattle.typing.specs.Typing.{Pairs, Met, Sound}
 
 -- q is the place of a pair that the closure goes on to from card n with shape t.

@@ -8,10 +8,10 @@ use mathlib.Core.Path.{_≡_, refl, sym, ap, _∙_, subst}
 use mathlib.Core.Bool.{true, not, _&&_}
 use Rattle.board.specs.Grid.{tally}
 use Rattle.board.specs.Board.{Board}
-use Rattle.board.proofs.Bools.{never-both, is-false, bools-equal}
+use Rattle.words.proofs.Bools.{never-both, is-false, bools-equal}
 use Rattle.board.proofs.Tally.{tally-ext, tally-none, tally-split}
 use Rattle.board.proofs.Rounds.{after, struck, after-down, after-met, met-after, keep-struck}
-use Rattle.typing.specs.Sheet.{Sheet, place, size}
+use Rattle.sheet.specs.Sheet.{Sheet, place, size}
 use Rattle.typing.specs.Typing.{Pairs}
 use Rattle.typing.specs.Largest.{Round, gone, Rounds, start, more}
 use Rattle.typing.proofs.Represents.{Represents, Alike, on-board, pair-in, each-place, met-alike}

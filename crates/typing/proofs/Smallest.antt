@@ -19,17 +19,17 @@ use Rattle.bags.specs.Part.{Declares}
 use Rattle.board.specs.Grid.{on, tally}
 use Rattle.board.specs.Board.{Board, Flooded}
 use Rattle.board.specs.Board as board
-use Rattle.board.proofs.Bools.{never-both, is-false, bools-equal}
+use Rattle.words.proofs.Bools.{never-both, is-false, bools-equal}
 use Rattle.board.proofs.Tally.{tally-ext}
 use Rattle.script.specs.Link.{fromAt, kindAt, toAt}
-use Rattle.template.specs.Answer.{values, refusal}
-use Rattle.typing.specs.Sheet.{Sheet, partOf, place, size}
+use Rattle.words.specs.Said.{values, refusal}
+use Rattle.sheet.specs.Sheet.{Sheet, partOf, place, size}
 use Rattle.typing.specs.Typing.{Pairs, Has, Met, Sound, Holds, Typing}
-use Rattle.typing.specs.Bookings as bookings
+use Rattle.bookings.specs.Bookings as bookings
 use Rattle.typing.specs.Smallest.{Closure, booked, follow, IsClosure, Accepted, TurnedDown}
 use Rattle.typing.specs.Demand3.{pairs, notMet}
 use Rattle.typing.specs.Calls.{SmallestFound}
-use Rattle.typing.proofs.Places.{card-below, place-unique}
+use Rattle.words.proofs.Places.{card-below, place-unique}
 use Rattle.typing.proofs.Represents.{Represents, Alike, on-board, pair-in, each-place}
 
 -- p is the place of a pair of some kind: of a booking, or of the closure.

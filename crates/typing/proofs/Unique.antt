@@ -13,10 +13,10 @@ use lib.ListN.{getD}
 use lib.Seq.{ext-getD}
 use Rattle.board.specs.Grid.{on}
 use Rattle.board.specs.Board.{Board}
-use Rattle.board.proofs.Bools.{le-or-lt}
+use Rattle.words.proofs.Bools.{le-or-lt}
 use Rattle.board.proofs.Grids.{on-yes, on-byte}
 use Rattle.board.proofs.Tally.{tally-ext}
-use Rattle.template.specs.Answer.{Said}
+use Rattle.words.specs.Said.{Said}
 use Rattle.template.specs.declared.Shape.{Shape}
 use Rattle.script.specs.declared.Card.{Card}
 use Rattle.typing.specs.declared.LargestAnswer.{LargestAnswer}
@@ -25,17 +25,16 @@ use Rattle.typing.specs.declared.SmallestAnswer.{SmallestAnswer}
 use Rattle.typing.specs.declared.SmallestAnswer.the-variants as small
 use Rattle.typing.specs.declared.BothAnswer.{BothAnswer}
 use Rattle.typing.specs.declared.BothAnswer.the-variants as both
-use Rattle.typing.specs.Sheet.{Sheet, place, size}
+use Rattle.sheet.specs.Sheet.{Sheet, place, size, SheetReading, ask, turnedDown, readSheet}
 use Rattle.typing.specs.Typing.{Typing}
-use Rattle.typing.specs.Bookings.{Booked}
+use Rattle.bookings.specs.Bookings.{Booked}
 use Rattle.typing.specs.Smallest.{Accepted, TurnedDown}
 use Rattle.typing.specs.Demand3.{Outcome, pairs, notMet}
 use Rattle.typing.specs.Answer.{largestSaid, smallestSaid, BothSaid, bothSaid}
-use Rattle.typing.specs.Calls.{SheetReading, ask, turnedDown, readSheet, withBookings, withGrid}
-use Rattle.typing.specs.Calls.{Leaves, outcomeSaid, Grids, LargestFound, LargestAnswered, LargestSays}
-use Rattle.typing.specs.Calls.{SmallestFound, SmallestAnswered, SmallestSays}
+use Rattle.typing.specs.Calls.{withBookings, withGrid, Leaves, outcomeSaid, Grids, LargestFound}
+use Rattle.typing.specs.Calls.{LargestAnswered, LargestSays, SmallestFound, SmallestAnswered, SmallestSays}
 use Rattle.typing.specs.Calls.{BothFound, BothAnswered, BothSays}
-use Rattle.typing.proofs.Places.{place-unique}
+use Rattle.words.proofs.Places.{place-unique}
 use Rattle.typing.proofs.Represents.{Represents, Alike}
 use Rattle.typing.proofs.Largest.{largest-unique, bare-alike}
 use Rattle.typing.proofs.Smallest.{BookedIn, closure-in, closure-unique, met-again}

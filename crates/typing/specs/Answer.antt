@@ -1,8 +1,7 @@
 -- Document 01's number and values for each case of the enums `LargestAnswer`, `SmallestAnswer` and `BothAnswer`.
 -- Assumes nothing.
-use Prim.Native.Nat.{ℕ}
 use mathlib.Core.List.{[], _∷_}
-use Rattle.template.specs.Answer.{Said, values, refusal}
+use Rattle.words.specs.Said.{Said, values, refusal}
 use Rattle.typing.specs.declared.LargestAnswer.{LargestAnswer}
 use Rattle.typing.specs.declared.LargestAnswer.the-variants as large
 use Rattle.typing.specs.declared.SmallestAnswer.{SmallestAnswer}

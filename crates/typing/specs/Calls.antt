@@ -4,48 +4,26 @@
 -- LargestFound, SmallestFound, BothFound            what is said and written where nothing is refused
 -- LargestSays, SmallestSays, BothSays   the contracts: a refusal other than 50 changes no grid
 -- Assumes nothing.
+use mathlib.Core.Bool.{cond}
 use Prim.Native.Nat.{ℕ}
 use mathlib.Core.Path.{_≡_}
 use mathlib.Core.List.{List, [], _∷_}
 use lib.ListN.{length}
 use lib.Dec.{eqb}
-use Rattle.bags.specs.Part.{Part}
-use Rattle.template.specs.Answer.{Said, values, refusal}
-use Rattle.template.specs.Reading.{pick}
-use Rattle.template.specs.Template.{TemplateReading, readTemplate}
-use Rattle.script.specs.Script.{ScriptReading, readScript}
+use Rattle.words.specs.Said.{Said, values, refusal}
 use Rattle.board.specs.Grid.{on}
-use Rattle.typing.specs.Sheet.{Sheet, size}
+use Rattle.sheet.specs.Sheet.{Sheet, size, SheetReading, ask, turnedDown, readSheet}
 use Rattle.typing.specs.Typing.{Typing}
 use Rattle.typing.specs.Largest.{Largest, bareCards}
-use Rattle.typing.specs.Bookings.{BookingReading, readBookings, Booked}
+use Rattle.bookings.specs.Bookings.{BookingReading, readBookings, Booked}
 use Rattle.typing.specs.Smallest.{Accepted, TurnedDown}
 use Rattle.typing.specs.Demand3.{Outcome, pairs, notMet, Demand3}
 use Rattle.typing.specs.Answer.{BothSaid}
 
--- A sheet, or a refusal's number and place.
-pub data SheetReading : Type 0 where
-  ask : Sheet → SheetReading
-  turnedDown : ℕ → ℕ → SheetReading
-
--- The sheet of a template's shapes with a script.
-abbrev pub withScript : ℕ → List Part → List ℕ → ScriptReading → SheetReading
-withScript shapes parts script (ScriptReading.turnedDown number place) = turnedDown number place
-withScript shapes parts script (ScriptReading.accepted cards links) =
-    ask (record { shapes = shapes; parts = parts; cards = cards; links = links; script = script })
-
-abbrev pub withTemplate : TemplateReading → List ℕ → SheetReading
-withTemplate (TemplateReading.turnedDown number place) script = turnedDown number place
-withTemplate (TemplateReading.accepted kinds shapes parts) script = withScript shapes parts script (readScript kinds script)
-
--- "Template, script": their refusals in that order.
-unfoldable pub readSheet : List ℕ → List ℕ → SheetReading
-readSheet template script = withTemplate (readTemplate template) script
-
 -- "40 grid not N × S bytes, place 0."
 abbrev pub withGrid : List ℕ → SheetReading → SheetReading
 withGrid grid (turnedDown number place) = turnedDown number place
-withGrid grid (ask s) = pick (eqb (length grid) (size s)) (ask s) (turnedDown 40 0)
+withGrid grid (ask s) = cond (eqb (length grid) (size s)) (ask s) (turnedDown 40 0)
 
 abbrev pub afterBookings : Sheet → BookingReading → SheetReading
 afterBookings s (BookingReading.accepted count) = ask s

@@ -6,10 +6,10 @@ use Prim.Native.Nat.{ℕ, _+_, _≤_, _<_}
 use mathlib.Core.Path.{_≡_}
 use mathlib.Core.Logic.{_↔_}
 use mathlib.Core.List.{List}
-use mathlib.Core.Bool.{Bool, true, false}
+use mathlib.Core.Bool.{false}
 use Rattle.board.specs.Grid.{on, tally}
-use Rattle.typing.specs.Sheet.{Sheet, place, size}
-use Rattle.typing.specs.Typing.{Pairs, Has, Below, Holds, SoundTyping}
+use Rattle.sheet.specs.Sheet.{Sheet, place, size}
+use Rattle.typing.specs.Typing.{Pairs, Below, Holds, SoundTyping}
 use Rattle.typing.specs.Largest.{Largest, bareCards}
 use Rattle.typing.specs.Smallest.{IsClosure}
 

@@ -6,10 +6,10 @@
 -- Assumes nothing.
 use Prim.Native.Nat.{ℕ, suc, _+_, _<_}
 use mathlib.Core.Path.{_≡_}
-use mathlib.Core.Bool.{Bool, true, false, not, _&&_}
+use mathlib.Core.Bool.{Bool, false, not, _&&_}
 use lib.Dec.{eqb}
 use Rattle.board.specs.Grid.{tally}
-use Rattle.typing.specs.Sheet.{Sheet, place, size}
+use Rattle.sheet.specs.Sheet.{Sheet, place, size}
 use Rattle.typing.specs.Typing.{Pairs, Has, Met, Sound}
 
 -- "A round strikes all pairs not met under the grid as the round found it": of X just the pairs met under X are in Y.

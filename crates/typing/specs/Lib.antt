@@ -1,7 +1,6 @@
-pub mod Sheet
+pub mod Needs
 pub mod Typing
 pub mod Largest
-pub mod Bookings
 pub mod Smallest
 pub mod Demand3
 pub mod Answer

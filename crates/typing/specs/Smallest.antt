@@ -6,12 +6,11 @@
 use Prim.Native.Nat.{ℕ, _<_}
 use mathlib.Core.Path.{_≡_}
 use mathlib.Core.List.{List}
-use mathlib.Core.Bool.{Bool, true}
-use lib.ListN.{length, getD, replicate}
+use lib.ListN.{replicate}
 use Rattle.bags.specs.Part.{Declares}
 use Rattle.board.specs.Grid.{on, tally}
 use Rattle.script.specs.Link.{fromAt, kindAt, toAt}
-use Rattle.typing.specs.Sheet.{Sheet, partOf, place, size}
+use Rattle.sheet.specs.Sheet.{Sheet, partOf, place, size}
 use Rattle.typing.specs.Typing.{Pairs, Has, Met, Typing}
 
 -- "The least set of pairs with the bookings and, for (n, t) in it and a link of n whose kind t names with shape u,

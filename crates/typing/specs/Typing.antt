@@ -13,7 +13,7 @@ use mathlib.Core.Bool.{Bool, true}
 use lib.ListN.{length, getD}
 use Rattle.bags.specs.Choice as choice
 use Rattle.board.specs.Grid.{on}
-use Rattle.typing.specs.Sheet.{Sheet, partOf, neighboursOf, place, size}
+use Rattle.sheet.specs.Sheet.{Sheet, partOf, neighboursOf, place, size}
 
 abbrev pub Pairs : Type 0
 Pairs = ℕ → Bool

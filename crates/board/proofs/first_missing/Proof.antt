@@ -11,7 +11,7 @@ use borrow.Author.Count.{below-more}
 use borrow.Author.Needs.{needs}
 use borrow.Author.Tests.{not-true, not-false}
 use Rattle.board.specs.Grid.{on}
-use Rattle.board.proofs.Bools.{never-both}
+use Rattle.words.proofs.Bools.{never-both}
 use Rattle.board.proofs.Grids.{on-yes, on-no}
 use Rattle.board.proofs.first_missing.Statement.{statement}
 use Rattle.board.proofs.first_missing.Tie as tie

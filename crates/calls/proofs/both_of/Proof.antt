@@ -3,8 +3,8 @@ use Prim.Native.Nat.{ℕ, _*_}
 use mathlib.Core.Path.{sym, ap, _∙_}
 use native.Mathlib.Omega.{arith}
 use denote.Ref.{now}
-use Rattle.search.proofs.Boards.{pairs-bound}
-use Rattle.pairs.specs.Pairs.{StartsOf}
+use Rattle.typing.proofs.Boards.{pairs-bound}
+use Rattle.script.specs.Steps.{StartsOf}
 use Rattle.calls.proofs.Found.{read, pairs-few, opened-ready, opened-starts, fitted-marks, largest-by}
 use Rattle.calls.proofs.Found.{smallest-met, smallest-unmet, both-by, listed-room, listed-in}
 use borrow.Author.Needs.{needs}
@@ -72,11 +72,11 @@ close-requires c κs =
       omega (arith, pairs-few o),
     )
 
-cast-judge : tie.Need-cast-judge
-cast-judge c = search needs
+cast-first-unfit : tie.Need-cast-first-unfit
+cast-first-unfit c = search needs
 
-judge-requires : tie.Need-judge-requires
-judge-requires c κs =
+first-unfit-requires : tie.Need-first-unfit-requires
+first-unfit-requires c κs =
     let s = c .before .before .before .before .before .before .before .before .before .before .before .before .before .before .before .before .before .before .before .before .before .before .before .before .before .before .before .before in
     let o = s .pre .0 in
     let fit = c .before .before .before .before .before .before .before .before .before .before .before .before .before .before .fit-grid .ensures (s .args .e .kinds) (o .parts) (o .template-read) in
@@ -118,14 +118,14 @@ count-bare-requires c κs =
 enum-told : tie.Need-enum-told
 enum-told c = search needs
 
-enum-known-verdict : tie.Need-enum-known-verdict
-enum-known-verdict c = search needs
+enum-known-unfit : tie.Need-enum-known-unfit
+enum-known-unfit c = search needs
 
 same-length : tie.Need-same-length
 same-length c =
     let b = c .before .before .before .before .before .before .before .before .before .before .before .before .before .before .before .before .before .before .before .before .before .before .before .before .before .before .before .before .before .before .before .before .before .before .before .before .before .before .before .before .before .before .before .before .before in
     let o = b .pre .0 in
-    c .before .before .before .before .before .before .before .before .before .before .before .before .before .before .before .before .judge .kept .0 ∙ c .before .before .before .before .before .before .before .before .before .before .before .before .before .before .before .before .before .before .before .before .before .before .before .close .ensures .full
+    c .before .before .before .before .before .before .before .before .before .before .before .before .before .before .before .before .first-unfit .kept .0 ∙ c .before .before .before .before .before .before .before .before .before .before .before .before .before .before .before .before .before .before .before .before .before .before .before .close .ensures .full
     ∙ ap (λ (n : ℕ). n * b .args .e .shapes) (sym (read o .links .cards)) ∙ sym (b .pre .4)
 
 same-length-2 : tie.Need-same-length-2
@@ -142,19 +142,19 @@ returns c =
     let names = now (b .args .names) in
     let bookings = now (b .args .bookings) in
     let fit = c .before .before .before .before .before .before .before .before .before .before .before .before .before .before .before .before .before .before .before .before .before .before .before .before .before .before .before .before .before .before .before .fit-grid .ensures (b .args .e .kinds) (o .parts) (o .template-read) in
-    let judged = c .before .before .before .before .before .before .before .before .before .before .before .before .before .before .before .before .judge in
+    let unfit = c .before .before .before .before .before .before .before .before .before .before .before .before .before .before .before .before .first-unfit in
     let struck = c .before .before .before .before .before .before .before .before .before .strike-all in
     λ s q. both-by o names (b .pre .1) (b .pre .2) fit bookings (b .args .count) (b .pre .3) _ _ _ s q
     (largest-by o names (b .pre .1) (b .pre .2) fit _ _ _ _ (struck .ensures .0) (struck .ensures .1)
     (struck .ensures .2 (fitted-marks o names (b .pre .1) (b .pre .2) fit)) (c .before .before .count-bare .ensures) s q)
     (smallest-met o names (b .pre .1) (b .pre .2) fit bookings (b .args .count) (b .pre .3)
-    (c .before .before .before .before .before .before .before .before .before .before .before .before .before .before .before .before .before .before .before .before .before .before .before .close .ensures) _ (judged .result) (c .enum-told .given .1) (judged .ensures) s q)
+    (c .before .before .before .before .before .before .before .before .before .before .before .before .before .before .before .before .before .before .before .before .before .before .before .close .ensures) _ (unfit .result) (c .enum-told .given .1) (unfit .ensures) s q)
 
 same-length-3 : tie.Need-same-length-3
 same-length-3 c =
     let b = c .before .before .before .before .before .before .before .before .before .before .before .before .before .before .before .before .before .before .before .before .before .before .before .before .before .before .before .before .before .before .before .before .before .before .before .before .before .before .before .before .before .before .before .before .before .before in
     let o = b .pre .0 in
-    c .before .before .before .before .before .before .before .before .before .before .before .before .before .before .before .before .before .judge .kept .0 ∙ c .before .before .before .before .before .before .before .before .before .before .before .before .before .before .before .before .before .before .before .before .before .before .before .before .close .ensures .full
+    c .before .before .before .before .before .before .before .before .before .before .before .before .before .before .before .before .before .first-unfit .kept .0 ∙ c .before .before .before .before .before .before .before .before .before .before .before .before .before .before .before .before .before .before .before .before .before .before .before .before .close .ensures .full
     ∙ ap (λ (n : ℕ). n * b .args .e .shapes) (sym (read o .links .cards)) ∙ sym (b .pre .4)
 
 same-length-4 : tie.Need-same-length-4
@@ -171,13 +171,13 @@ returns-2 c =
     let names = now (b .args .names) in
     let bookings = now (b .args .bookings) in
     let fit = c .before .before .before .before .before .before .before .before .before .before .before .before .before .before .before .before .before .before .before .before .before .before .before .before .before .before .before .before .before .before .before .before .fit-grid .ensures (b .args .e .kinds) (o .parts) (o .template-read) in
-    let judged = c .before .before .before .before .before .before .before .before .before .before .before .before .before .before .before .before .before .judge in
+    let unfit = c .before .before .before .before .before .before .before .before .before .before .before .before .before .before .before .before .before .first-unfit in
     let struck = c .before .before .before .before .before .before .before .before .before .before .strike-all in
     λ s q. both-by o names (b .pre .1) (b .pre .2) fit bookings (b .args .count) (b .pre .3) _ _ _ s q
     (largest-by o names (b .pre .1) (b .pre .2) fit _ _ _ _ (struck .ensures .0) (struck .ensures .1)
     (struck .ensures .2 (fitted-marks o names (b .pre .1) (b .pre .2) fit)) (c .before .before .before .count-bare .ensures) s q)
     (smallest-unmet o names (b .pre .1) (b .pre .2) fit bookings (b .args .count) (b .pre .3)
-    (c .before .before .before .before .before .before .before .before .before .before .before .before .before .before .before .before .before .before .before .before .before .before .before .before .close .ensures) _ (judged .result) _ _ (c .before .verdict .given .1) (judged .ensures) s q)
+    (c .before .before .before .before .before .before .before .before .before .before .before .before .before .before .before .before .before .before .before .before .before .before .before .before .close .ensures) _ (unfit .result) _ _ (c .before .unfit .given .1) (unfit .ensures) s q)
 
 pub both-of-spec : {M : Type 1} → statement M
 both-of-spec =
@@ -194,8 +194,8 @@ both-of-spec =
     cast-close-2
     slice-aggregate-close-2
     close-requires
-    cast-judge
-    judge-requires
+    cast-first-unfit
+    first-unfit-requires
     cast-strike-all
     cast-strike-all-2
     slice-aggregate-strike-all
@@ -204,7 +204,7 @@ both-of-spec =
     cast-count-bare-2
     count-bare-requires
     enum-told
-    enum-known-verdict
+    enum-known-unfit
     same-length
     same-length-2
     returns

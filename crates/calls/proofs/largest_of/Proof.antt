@@ -3,7 +3,7 @@ use Prim.Native.Nat.{ℕ, _*_}
 use mathlib.Core.Path.{ap, _∙_}
 use native.Mathlib.Omega.{arith}
 use denote.Ref.{now}
-use Rattle.search.proofs.Boards.{pairs-bound}
+use Rattle.typing.proofs.Boards.{pairs-bound}
 use Rattle.calls.proofs.Found.{read, opened-ready, fitted-marks, largest-by}
 use borrow.Author.Needs.{needs}
 use Rattle.calls.proofs.largest_of.Statement.{statement}

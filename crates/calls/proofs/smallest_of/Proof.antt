@@ -3,7 +3,7 @@ use Prim.Native.Nat.{ℕ, _*_}
 use mathlib.Core.Path.{sym, ap, _∙_}
 use native.Mathlib.Omega.{arith}
 use denote.Ref.{now}
-use Rattle.pairs.specs.Pairs.{StartsOf}
+use Rattle.script.specs.Steps.{StartsOf}
 use Rattle.calls.proofs.Found.{read, pairs-few, opened-ready, opened-starts, smallest-met, smallest-unmet}
 use Rattle.calls.proofs.Found.{listed-room, listed-in}
 use borrow.Author.Needs.{needs}
@@ -71,11 +71,11 @@ close-requires c κs =
       omega (arith, pairs-few o),
     )
 
-cast-judge : tie.Need-cast-judge
-cast-judge c = search needs
+cast-first-unfit : tie.Need-cast-first-unfit
+cast-first-unfit c = search needs
 
-judge-requires : tie.Need-judge-requires
-judge-requires c κs =
+first-unfit-requires : tie.Need-first-unfit-requires
+first-unfit-requires c κs =
     let s = c .before .before .before .before .before .before .before .before .before .before .before .before .before .before .before .before .before .before .before .before .before .before .before .before .before .before .before .before in
     let o = s .pre .0 in
     let fit = c .before .before .before .before .before .before .before .before .before .before .before .before .before .before .fit-grid .ensures (s .args .e .kinds) (o .parts) (o .template-read) in
@@ -86,8 +86,8 @@ judge-requires c κs =
 enum-told : tie.Need-enum-told
 enum-told c = search needs
 
-enum-known-verdict : tie.Need-enum-known-verdict
-enum-known-verdict c = search needs
+enum-known-unfit : tie.Need-enum-known-unfit
+enum-known-unfit c = search needs
 
 same-length : tie.Need-same-length
 same-length c = search needs
@@ -100,9 +100,9 @@ returns c =
     let s = c .before .before .before .before .before .before .before .before .before .before .before .before .before .before .before .before .before .before .before .before .before .before .before .before .before .before .before .before .before .before .before .before .before in
     let o = s .pre .0 in
     let fit = c .before .before .before .before .before .before .before .before .before .before .before .before .before .before .before .before .before .before .before .fit-grid .ensures (s .args .e .kinds) (o .parts) (o .template-read) in
-    let judged = c .before .before .before .before .judge in
+    let unfit = c .before .before .before .before .first-unfit in
     smallest-met o (now (s .args .names)) (s .pre .1) (s .pre .2) fit (now (s .args .bookings)) (s .args .count) (s .pre .3)
-    (c .before .before .before .before .before .before .before .before .before .before .before .close .ensures) _ (judged .result) (c .enum-told .given .1) (judged .ensures)
+    (c .before .before .before .before .before .before .before .before .before .before .before .close .ensures) _ (unfit .result) (c .enum-told .given .1) (unfit .ensures)
 
 same-length-3 : tie.Need-same-length-3
 same-length-3 c = search needs
@@ -115,9 +115,9 @@ returns-2 c =
     let s = c .before .before .before .before .before .before .before .before .before .before .before .before .before .before .before .before .before .before .before .before .before .before .before .before .before .before .before .before .before .before .before .before .before .before in
     let o = s .pre .0 in
     let fit = c .before .before .before .before .before .before .before .before .before .before .before .before .before .before .before .before .before .before .before .before .fit-grid .ensures (s .args .e .kinds) (o .parts) (o .template-read) in
-    let judged = c .before .before .before .before .before .judge in
+    let unfit = c .before .before .before .before .before .first-unfit in
     smallest-unmet o (now (s .args .names)) (s .pre .1) (s .pre .2) fit (now (s .args .bookings)) (s .args .count)
-    (s .pre .3) (c .before .before .before .before .before .before .before .before .before .before .before .before .close .ensures) _ (judged .result) _ _ (c .before .verdict .given .1) (judged .ensures)
+    (s .pre .3) (c .before .before .before .before .before .before .before .before .before .before .before .before .close .ensures) _ (unfit .result) _ _ (c .before .unfit .given .1) (unfit .ensures)
 
 pub smallest-of-spec : {M : Type 1} → statement M
 smallest-of-spec =
@@ -134,10 +134,10 @@ smallest-of-spec =
     cast-close-2
     slice-aggregate-close-2
     close-requires
-    cast-judge
-    judge-requires
+    cast-first-unfit
+    first-unfit-requires
     enum-told
-    enum-known-verdict
+    enum-known-unfit
     same-length
     same-length-2
     returns

@@ -7,7 +7,8 @@ use native.Mathlib.Omega.{arith}
 use lib.ListN.{length}
 use Rattle.counts.proofs.Sizes.{next-bound}
 use Rattle.counts.proofs.Evaluations.{part-small, run-small}
-use Rattle.counts.proofs.Steps.{part-deep, part-past, part-nothing, part-low, part-middle, part-high, part-single, part-group, part-link, run-none, run-more}
+use Rattle.counts.proofs.Steps.{part-deep, part-past, part-nothing, part-low, part-middle, part-high}
+use Rattle.counts.proofs.Steps.{part-single, part-group, part-link, run-none, run-more}
 use borrow.Fn.Kinds.{In}
 use borrow.Fn.PlainCycle.{Measures, is, falls, and}
 use Rattle.counts.proofs.part.Reads as part
@@ -20,7 +21,7 @@ use Rattle.counts.proofs.join.Reads as join-reads
 use Rattle.counts.proofs.link.Reads as link-reads
 use Rattle.counts.proofs.none.Reads as none-reads
 use Rattle.counts.proofs.nothing.Reads as nothing-reads
-use Rattle.counts.proofs.wide.Reads as wide-reads
+use Rattle.words.proofs.wide.Reads as wide-reads
 use Rattle.counts.proofs.word.Reads as word-reads
 use Rattle.counts.proofs.wrap.Reads as wrap-reads
 use Rattle.counts.proofs.+part+run.{statement}

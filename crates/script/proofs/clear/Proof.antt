@@ -5,7 +5,7 @@ use mathlib.Core.Path.{_≡_, refl}
 use native.Mathlib.Omega.{arith}
 use lib.ListN.{length, getD, length-set}
 use borrow.Author.Needs.{needs}
-use Rattle.script.proofs.Cells.{cells-more}
+use Rattle.words.proofs.Cells.{cells-more}
 use Rattle.script.proofs.clear.Tie as tie
 use Rattle.script.proofs.clear.Statement.{statement}
 

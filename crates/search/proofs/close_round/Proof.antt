@@ -17,10 +17,10 @@ use prog.Wp.{Heap, Calls, Loops, WpFn, Tables}
 use ghost.Atoms.{Atoms}
 use contract.Monad.{Fun}
 use contract.Running.{givenOf, tables, tablesOf}
-use types.Kit.{Given, ‵, _⊛_, _$_, _∵_, !, qed, by, move, keep, drop, split, join, suffices, frame, done}
-use types.Kit.{fsplit, fsplit3, fjoin, fjoin3, feqI}
-use types.Run.{look, init, forget, stop, hop, fld, from, load, lit, unit-lit, of-opd, bin, assigns, returns}
-use types.Run.{enter, alloc1, alloc0, params1, pass1, pass0, free1, free0}
+use types.Kit.{Given, ‵, _⊛_, _$_, _∵_, !, qed, by, move, keep, drop, split, join, suffices, frame, done, fsplit}
+use types.Kit.{fsplit3, fjoin, fjoin3, feqI}
+use types.Run.{look, init, forget, stop, hop, fld, from, load, lit, unit-lit, of-opd, bin, assigns, returns, enter}
+use types.Run.{alloc1, alloc0, params1, pass1, pass0, free1, free0}
 use types.Part.{whole, sub, look-in, store-in}
 use types.SemTy.{Body}
 use sound.WpLaws.{WpFn-mono}
@@ -37,8 +37,8 @@ use denote.Struct.Laws as struct-laws
 use denote.Triple.Entry.{onEntry}
 use denote.Triple.Spec.{Meets, tripleOf}
 use denote.Triple.Table.{entered}
-use denote.Triple.Walked.{says, needs, Stays, stay-ref, stay-none, walkOf, AllGo, goes-none, goes-ref}
-use denote.Triple.Walked.{Walks, ends-at, walked, walk-meets}
+use denote.Triple.Walked.{says, needs, Stays, stay-ref, stay-none, walkOf, AllGo, goes-none, goes-ref, Walks, ends-at}
+use denote.Triple.Walked.{walked, walk-meets}
 use denote.Exit.{yes}
 use Rattle.search.specs.Tally.{closed}
 use Rattle.search.specs.declared.Tally.{Tally}

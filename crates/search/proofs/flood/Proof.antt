@@ -7,12 +7,13 @@ use lib.ListN.{length, getD}
 use denote.Ref.{now}
 use borrow.Author.Needs.{needs}
 use Rattle.board.specs.Work.{work, entry, Queued, Swept}
-use Rattle.board.proofs.Flooding.{Flooding, flood-start, queued-inside, flood-tail, flood-head}
-use Rattle.board.proofs.Flooding.{flood-room, flood-turn, flood-done}
-use Rattle.search.specs.Needs.{boardOf}
+use Rattle.board.proofs.Flooding.{Flooding, flood-start, queued-inside, flood-tail, flood-head, flood-room}
+use Rattle.board.proofs.Flooding.{flood-turn, flood-done}
+use Rattle.typing.specs.Needs.{boardOf}
 use Rattle.search.specs.Search.{CardGood}
-use Rattle.search.proofs.Places.{card-in, shape-in}
-use Rattle.search.proofs.Boards.{pairs-bound, board-inside, needs-in, followed}
+use Rattle.words.proofs.Places.{card-in, shape-in}
+use Rattle.typing.proofs.Boards.{pairs-bound, board-inside, needs-in}
+use Rattle.search.proofs.Followed.{followed}
 use Rattle.search.proofs.Needs.{card-exact}
 use Rattle.search.proofs.flood.Statement.{statement}
 use Rattle.search.proofs.flood.Tie as tie

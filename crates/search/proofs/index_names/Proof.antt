@@ -5,9 +5,9 @@ use native.Mathlib.Omega.{arith}
 use lib.ListN.{length-set, length, getD}
 use denote.Ref.{now}
 use borrow.Author.Needs.{needs}
-use Rattle.script.specs.Chain.{Chained}
+use Rattle.search.specs.Chain.{Chained}
 use Rattle.search.specs.Search.{entryKey}
-use Rattle.script.proofs.Chains.{chained-none, chained-more}
+use Rattle.search.proofs.Chains.{chained-none, chained-more}
 use Rattle.search.proofs.index_names.Statement.{statement}
 use Rattle.search.proofs.index_names.Tie as tie
 

@@ -5,11 +5,11 @@ use native.Mathlib.Omega.{arith}
 use lib.ListN.{length}
 use denote.Ref.{now}
 use borrow.Author.Needs.{needs}
-use Rattle.script.specs.Chain.{lastAt}
+use Rattle.search.specs.Chain.{lastAt}
 use Rattle.board.specs.Work.{Work, work, Swept}
 use Rattle.board.proofs.Worklist.{swept-grid, swept-queue, swept-room}
 use Rattle.search.specs.Search.{entryKey}
-use Rattle.search.proofs.Places.{card-in}
+use Rattle.words.proofs.Places.{card-in}
 use Rattle.search.proofs.Names.{RowGood, row-in, named-exact}
 use Rattle.search.proofs.Walks.{Walking, swept-strike, walk-start, walk-in, walk-less, walk-next, walk-done}
 use Rattle.search.proofs.strike_named.Statement.{statement}

@@ -10,10 +10,10 @@ use borrow.Author.Needs.{needs}
 use Rattle.script.specs.Link.{kindAt, toAt}
 use Rattle.board.specs.Work.{Work, work, strikeOne, Swept}
 use Rattle.board.proofs.Worklist.{swept-grid, swept-queue, swept-room}
-use Rattle.search.specs.Needs.{entryAt}
+use Rattle.typing.specs.Needs.{entryAt}
 use Rattle.search.specs.Search.{CardGood}
-use Rattle.search.proofs.Places.{place-in}
-use Rattle.search.proofs.Boards.{pairs-bound, entry-shape}
+use Rattle.words.proofs.Places.{place-in}
+use Rattle.typing.proofs.Boards.{pairs-bound, entry-shape}
 use Rattle.search.proofs.Needs.{kind-word, to-word, card-in-grid, card-none, card-hit, card-miss}
 use Rattle.search.proofs.strike_needs.Statement.{statement}
 use Rattle.search.proofs.strike_needs.Tie as tie

@@ -14,10 +14,10 @@ use Rattle.board.proofs.Worklist.{swept-marks}
 use Rattle.board.proofs.Search.{Searching, search-start, search-tail, search-round, search-head, search-room}
 use Rattle.board.proofs.Search.{search-level, search-turn, search-next, search-done}
 use Rattle.search.specs.declared.Tally.{Tally}
-use Rattle.search.specs.Needs.{boardOf}
+use Rattle.typing.specs.Needs.{boardOf}
 use Rattle.search.specs.Search.{TargetGood, Searched}
-use Rattle.search.proofs.Places.{card-in, shape-in}
-use Rattle.search.proofs.Boards.{pairs-bound, board-inside}
+use Rattle.words.proofs.Places.{card-in, shape-in}
+use Rattle.typing.proofs.Boards.{pairs-bound, board-inside}
 use Rattle.search.proofs.Needs.{needing-in, target-exact}
 use Rattle.search.proofs.strike_rounds.Statement.{statement}
 use Rattle.search.proofs.strike_rounds.Tie as tie

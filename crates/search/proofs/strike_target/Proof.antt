@@ -6,12 +6,12 @@ use lib.ListN.{length, getD}
 use denote.Ref.{now}
 use borrow.Author.Needs.{needs}
 use Rattle.script.specs.Link.{fromAt, kindAt, toAt}
-use Rattle.script.specs.Chain.{lastAt}
+use Rattle.search.specs.Chain.{lastAt}
 use Rattle.board.specs.Work.{work, Swept}
 use Rattle.board.proofs.Worklist.{swept-grid, swept-queue, swept-room}
 use Rattle.search.specs.Search.{NamedGood}
-use Rattle.search.proofs.Places.{card-room}
-use Rattle.search.proofs.Boards.{pairs-bound, entries-bound}
+use Rattle.words.proofs.Places.{card-room}
+use Rattle.typing.proofs.Boards.{pairs-bound, entries-bound}
 use Rattle.search.proofs.Needs.{from-word, kind-word, LinkGood, links-in-grid, links-swept}
 use Rattle.search.proofs.Walks.{Walking, walk-start, walk-in, walk-less, walk-next, walk-done}
 use Rattle.search.proofs.strike_target.Statement.{statement}

@@ -1,5 +1,5 @@
 -- `sheet_cases::main` ends: at most ten thousand inputs are printed. Assumes nothing.
-use Prim.Native.Nat.{zero-le, _≤_}
+use Prim.Native.Nat.{_≤_}
 use borrow.Author.Needs.{needs}
 use Rattle.sheet_cases.proofs.main.Statement.{statement}
 use Rattle.sheet_cases.proofs.main.Tie as tie

@@ -5,10 +5,9 @@ use Prim.Native.Nat.{ℕ, _<_, _+_, _-_, _*_}
 use borrow.Author.Needs.{needs}
 use native.Mathlib.Omega.{arith}
 use mathlib.Core.Path.{_∙_}
-use Rattle.template.proofs.Laws.{part-missing, part-deep, part-nothing, part-single}
-use Rattle.template.proofs.Laws.{part-low, part-middle, part-high, part-link}
-use Rattle.template.proofs.Laws.{group-short, group-few, group-many, group-run}
-use Rattle.template.proofs.Laws.{run-none, run-refused, run-next, reads-above}
+use Rattle.template.proofs.Laws.{part-missing, part-deep, part-nothing, part-single, part-low, part-middle}
+use Rattle.template.proofs.Laws.{part-high, part-link, group-short, group-few, group-many, group-run, run-none}
+use Rattle.template.proofs.Laws.{run-refused, run-next, reads-above}
 use borrow.Fn.Kinds.{In}
 use borrow.Fn.PlainCycle.{Measures, is, falls, and}
 use Rattle.template.proofs.part.Reads as part

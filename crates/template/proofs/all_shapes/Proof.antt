@@ -5,8 +5,8 @@ use native.Mathlib.Omega.{arith}
 use Prim.Native.Nat.{_-_}
 use mathlib.Core.Path.{sym, _∙_, ap}
 use lib.ListN.{length}
-use Rattle.template.proofs.Table.{Filling, filling-start, filling-row, filling-next}
-use Rattle.template.proofs.Table.{filling-refused, filling-more, filling-end}
+use Rattle.template.proofs.Table.{Filling, filling-start, filling-row, filling-next, filling-refused}
+use Rattle.template.proofs.Table.{filling-more, filling-end}
 use Rattle.template.proofs.all_shapes.Statement.{statement}
 use Rattle.template.proofs.all_shapes.Tie as tie
 

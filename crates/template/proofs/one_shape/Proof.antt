@@ -20,11 +20,11 @@ use ghost.Atoms.{Atoms, sem}
 use contract.Lifetimes.{Lfts, Shares}
 use contract.Monad.{Fun, fact}
 use contract.Running.{givenOf, tables, tablesOf}
-use types.Kit.{Given, Item, ‵, raw, _⊛_, ⋆, some, later, _$_, _∵_, !, qed, by, move, keep, drop, use1, use2}
-use types.Kit.{split, pick, fsplit, fjoin, feqL, suffices, frame, await, done}
+use types.Kit.{Given, Item, ‵, raw, _⊛_, ⋆, some, later, _$_, _∵_, !, qed, by, move, keep, drop, use1, use2, split}
+use types.Kit.{pick, fsplit, fjoin, feqL, suffices, frame, await, done}
 use types.Part.{agg, whole, sub, look-in}
-use types.Run.{look, init, forget, stop, hop, fld, from, load, addr, and-then, no-more, assigns, land, returns}
-use types.Run.{enter, alloc1, alloc0, params1, pass1, pass0, free1, free0}
+use types.Run.{look, init, forget, stop, hop, fld, from, load, addr, and-then, no-more, assigns, land, returns, enter}
+use types.Run.{alloc1, alloc0, params1, pass1, pass0, free1, free0}
 use sound.WpLaws.{FmC, fmOf, WpFn-mono}
 use denote.RattleType.{owns}
 use denote.Laws.{Is, shows}
@@ -32,8 +32,8 @@ use denote.Plain.{uint-makes, uint-vals, uint-tells}
 use denote.Builtin.{u8, u16, usize}
 use denote.Ref.{RefT, NamedLft}
 use denote.Signature.{plain, namedLft}
-use denote.Slice.{sliceVal, slice-vals, ShrSlice, shr-slice-tells, shr-slice-lawful, shr-slice-copy}
-use denote.Slice.{MutSlice, mut-slice-tells, Room, finally}
+use denote.Slice.{sliceVal, slice-vals, ShrSlice, shr-slice-tells, shr-slice-lawful, shr-slice-copy, MutSlice}
+use denote.Slice.{mut-slice-tells, Room, finally}
 use denote.Steps.{owned, peeks, heard, nothing}
 use denote.Enum.Laws as EL
 use denote.Struct.Laws as LL
@@ -43,8 +43,8 @@ use denote.Triple.Call.{calls-at}
 use denote.Triple.Entry.{Args, Vals, onEntry}
 use denote.Triple.Spec.{Meets, tripleOf}
 use denote.Triple.Table.{entered, cited}
-use denote.Triple.Walked.{says, needs, Stays, stay-none, stay-none-slice, gave-slice, walkOf}
-use denote.Triple.Walked.{goes-none, goes-none-slice, goes-gave-slice, Walks, onExit, ends-at, walked, walk-meets}
+use denote.Triple.Walked.{says, needs, Stays, stay-none, stay-none-slice, gave-slice, walkOf, goes-none}
+use denote.Triple.Walked.{goes-none-slice, goes-gave-slice, Walks, onExit, ends-at, walked, walk-meets}
 use denote.Exit.{yes}
 use denote.Triple.Clauses.{ensured, lasts, Lasts}
 use Rattle.template.specs.declared.Reader.{Reader}

@@ -7,7 +7,7 @@ use lib.ListN.{length}
 use borrow.Author.Needs.{needs}
 use borrow.Fn.Kinds.{In}
 use borrow.Fn.PlainCycle.{Measures, is, falls, and}
-use Rattle.text.proofs.Writing.{wrote-same, wrote-append}
+use Rattle.words.proofs.Writing.{wrote-same, wrote-append}
 use Rattle.text.proofs.Digits.{digits-small, digits-more, digits-more-length}
 use Rattle.text.proofs.put_number.Reads as put-number
 use Rattle.text.proofs.put_number.Kinds as put-number-kinds

@@ -1,7 +1,7 @@
 -- `text::put_byte` writes a byte. Assumes nothing.
 use denote.Ref.{now}
 use borrow.Author.Needs.{needs}
-use Rattle.text.proofs.Writing.{wrote-byte}
+use Rattle.words.proofs.Writing.{wrote-byte}
 use Rattle.text.proofs.put_byte.Statement.{statement}
 use Rattle.text.proofs.put_byte.Tie as tie
 

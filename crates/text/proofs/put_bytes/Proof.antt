@@ -6,8 +6,8 @@ use lib.Seq.{length-take-le, take-length}
 use lib.ListN.{length, take}
 use denote.Ref.{now}
 use borrow.Author.Needs.{needs}
-use Rattle.text.specs.Wrote.{Wrote}
-use Rattle.text.proofs.Writing.{wrote-nothing, wrote-same, wrote-next}
+use Rattle.words.specs.Wrote.{Wrote}
+use Rattle.words.proofs.Writing.{wrote-nothing, wrote-same, wrote-next}
 use Rattle.text.proofs.put_bytes.Statement.{statement}
 use Rattle.text.proofs.put_bytes.Tie as tie
 

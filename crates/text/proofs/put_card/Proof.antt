@@ -3,7 +3,7 @@ use native.Mathlib.Omega.{arith}
 use denote.Ref.{now}
 use borrow.Author.Needs.{needs}
 use Rattle.text.specs.Text.{cardLine}
-use Rattle.text.proofs.Writing.{wrote-append}
+use Rattle.words.proofs.Writing.{wrote-append}
 use Rattle.text.proofs.Lines.{card-length}
 use Rattle.text.proofs.put_card.Statement.{statement}
 use Rattle.text.proofs.put_card.Tie as tie

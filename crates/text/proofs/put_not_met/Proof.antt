@@ -2,7 +2,7 @@
 use native.Mathlib.Omega.{arith}
 use borrow.Author.Needs.{needs}
 use Rattle.text.specs.Text.{notMetLine}
-use Rattle.text.proofs.Writing.{wrote-append}
+use Rattle.words.proofs.Writing.{wrote-append}
 use Rattle.text.proofs.Lines.{not-met-length}
 use Rattle.text.proofs.put_not_met.Statement.{statement}
 use Rattle.text.proofs.put_not_met.Tie as tie

@@ -2,7 +2,7 @@
 use native.Mathlib.Omega.{arith}
 use borrow.Author.Needs.{needs}
 use Rattle.text.specs.Text.{refusedLine}
-use Rattle.text.proofs.Writing.{wrote-append}
+use Rattle.words.proofs.Writing.{wrote-append}
 use Rattle.text.proofs.Lines.{refused-length}
 use Rattle.text.proofs.put_refused.Statement.{statement}
 use Rattle.text.proofs.put_refused.Tie as tie

@@ -6,7 +6,7 @@ use lib.ListN.{length}
 use denote.Ref.{now}
 use borrow.Author.Needs.{needs}
 use Rattle.text.specs.Text.{digits, space}
-use Rattle.text.proofs.Writing.{wrote-nothing, wrote-same, wrote-append}
+use Rattle.words.proofs.Writing.{wrote-nothing, wrote-same, wrote-append}
 use Rattle.text.proofs.Lines.{shown, hidden}
 use Rattle.text.proofs.put_shape.Statement.{statement}
 use Rattle.text.proofs.put_shape.Tie as tie

@@ -1,0 +1,2 @@
+pub mod Bookings
+pub mod Steps

@@ -1,0 +1,93 @@
+-- `pairs::fit_counted` meets its contract: the counts are those of the card's labels, and the row fits them.
+-- Assumes nothing.
+use borrow.Author.Needs.{needs}
+use mathlib.Core.Path.{sym, _∙_}
+use native.Mathlib.Omega.{arith}
+use Rattle.sheet.proofs.Openings.{opened-shaped}
+use Rattle.fits.proofs.CardCounts.{kinds-few, starts-within, kinds-within, counts-counted, card-fitted}
+use Rattle.fits.proofs.fit_counted.Statement.{statement}
+use Rattle.fits.proofs.fit_counted.Tie as tie
+
+mul-wide : tie.Need-mul-wide
+mul-wide c = search needs
+
+shared-slice-read-wide : tie.Need-shared-slice-read-wide
+shared-slice-read-wide c = search needs
+
+wide-requires : tie.Need-wide-requires
+wide-requires c κs = search needs
+
+add-wide : tie.Need-add-wide
+add-wide c = search needs
+
+mul-wide-2 : tie.Need-mul-wide-2
+mul-wide-2 c = search needs
+
+shared-slice-read-wide-2 : tie.Need-shared-slice-read-wide-2
+shared-slice-read-wide-2 c = search needs
+
+wide-requires-2 : tie.Need-wide-requires-2
+wide-requires-2 c κs = search needs
+
+count-kinds-requires : tie.Need-count-kinds-requires
+count-kinds-requires c κs =
+    let s = c .before .before .before .before .before .before .before .before .before .before .before in
+    let low = c .before .before .before .wide .ensures .0 in
+    let high = c .before .wide2 .ensures .0 in
+    let w = starts-within _ _ _ _ _ _ _ (s .pre .0) (s .pre .3) (s .pre .4) low high in (
+      (w .order, w .few, w .end),
+      kinds-within _ _ _ _ _ _ _ (s .pre .0) (s .pre .3) (s .pre .4) low high _ (s .pre .6),
+    )
+
+wide-requires-3 : tie.Need-wide-requires-3
+wide-requires-3 c κs = search needs
+
+fit-card-requires : tie.Need-fit-card-requires
+fit-card-requires c κs =
+    let a = c .before .before .before .before .before in
+    let s = a .before .before .before .before .before .before .before .before .before .before .before .before in
+    let shapes = c .before .before .wide3 .ensures .0 in (
+      opened-shaped _ _ _ _ (s .pre .0) shapes,
+      s .pre .1,
+      s .pre .2,
+      omega (arith, a .count-kinds .ensures .1, s .pre .6, kinds-few _ _ _ (s .pre .0)),
+      s .pre .5 ∙ sym shapes,
+    )
+
+same-length : tie.Need-same-length
+same-length c = search needs
+
+same-length-2 : tie.Need-same-length-2
+same-length-2 c = search needs
+
+returns : tie.Need-returns
+returns c =
+    let a = c .before .before .before .before .before .before .before .before in
+    let s = a .before .before .before .before .before .before .before .before .before .before .before .before in
+    let counts = a .count-kinds .last .1 .1 .1 .0 in
+    let size = a .count-kinds .ensures .1 in
+    let low = a .before .before .before .before .wide .ensures .0 in
+    let high = a .before .before .wide2 .ensures .0 in
+    let counted =
+    counts-counted _ _ _ _ _ _ _ (s .pre .0) (s .pre .3) (s .pre .4) low high counts (size ∙ s .pre .6)
+    (λ k h. a .count-kinds .ensures .0 k (omega (arith, size))) in
+    let shapes = c .before .before .before .before .before .wide3 .ensures .0 in
+    card-fitted _ _ _ _ _ _ counts _ shapes counted (c .before .before .fit-card .ensures)
+
+pub fit-counted-spec : {M : Type 1} → statement M
+fit-counted-spec =
+    tie.close
+    (tie.spec
+    mul-wide
+    shared-slice-read-wide
+    wide-requires
+    add-wide
+    mul-wide-2
+    shared-slice-read-wide-2
+    wide-requires-2
+    count-kinds-requires
+    wide-requires-3
+    fit-card-requires
+    same-length
+    same-length-2
+    returns)

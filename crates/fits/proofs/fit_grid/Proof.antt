@@ -1,0 +1,102 @@
+-- `pairs::fit_grid` meets its contract. The invariant: the cards before the loop's have their rows. The measure is the
+-- count of cards left. Assumes nothing.
+use Prim.Native.Nat.{ℕ, _*_, _-_, _≤_}
+use mathlib.Core.Path.{ap₂, _∙_}
+use native.Mathlib.Omega.{arith}
+use borrow.Author.Needs.{needs}
+use Rattle.fits.proofs.Cells.{RowsFitted, rows-start, row-inside, row-length, rows-next, rows-end, pairs-bound}
+use Rattle.fits.proofs.fit_grid.Statement.{statement}
+use Rattle.fits.proofs.fit_grid.Tie as tie
+
+abbrev Inv-loop : tie.InvT-loop
+Inv-loop template script names starts e grid₀ cards shapes n₀ grid n =
+    RowsFitted template script (e .links) cards shapes grid n
+
+abbrev μ-loop : tie.MeasureT-loop
+μ-loop template script names starts e grid₀ cards shapes n₀ grid n = cards - n
+
+-- How many pairs lie before the card that the loop is at.
+bounds : (c : tie.In-loop Inv-loop μ-loop) →
+    let shapes = c .before .before .wide2 .result in
+    (c .before .loop .n * shapes ≤ 32768) × (shapes ≤ 32)
+bounds c =
+    let a = c .before .before in
+    let s = a .before .before .before .before .before .before .before in
+    pairs-bound _ _ _ _ _ _ (s .pre .0) (a .before .wide .ensures .0) (a .wide2 .ensures .0) (omega arith)
+
+wide-requires : tie.Need-wide-requires Inv-loop μ-loop
+wide-requires c κs = search needs
+
+wide-requires-2 : tie.Need-wide-requires-2 Inv-loop μ-loop
+wide-requires-2 c κs = search needs
+
+loop-holds : tie.Need-loop-holds Inv-loop μ-loop
+loop-holds c =
+    let s = c .before .before .before .before .before .before .before in
+    rows-start _ _ _ _ _ _ (rw (c .before .wide .ensures .0, c .wide2 .ensures .0) (s .pre .4))
+
+mul-base : tie.Need-mul-base Inv-loop μ-loop
+mul-base c = let b = bounds c in search needs
+
+add-end : tie.Need-add-end Inv-loop μ-loop
+add-end c = let b = bounds c in search needs
+
+sub-fit-row : tie.Need-sub-fit-row Inv-loop μ-loop
+sub-fit-row c = search needs
+
+part-fit-row-start : tie.Need-part-fit-row-start Inv-loop μ-loop
+part-fit-row-start c = search needs
+
+part-fit-row-end : tie.Need-part-fit-row-end Inv-loop μ-loop
+part-fit-row-end c = let b = row-inside _ _ _ _ _ _ _ (c .before .loop .inv) (omega arith) in search needs
+
+fit-row-requires : tie.Need-fit-row-requires Inv-loop μ-loop
+fit-row-requires c κs =
+    let s = c .before .before .before .before .before .before .before .before .before .before in
+    let size = row-length _ _ _ _ _ _ _ (c .before .before .loop .inv) (omega arith) in
+    (s .pre .0, s .pre .1, s .pre .2, s .pre .3, omega arith, size ∙ c .before .before .before .wide2 .ensures .0)
+
+add-n : tie.Need-add-n Inv-loop μ-loop
+add-n c = search needs
+
+loop-less : tie.Need-loop-less Inv-loop μ-loop
+loop-less c = search needs
+
+loop-again : tie.Need-loop-again Inv-loop μ-loop
+loop-again c =
+    let a = c .before .before .before .before .before in
+    let row = c .before .before .fit-row in
+    rows-next _ _ _ _ _ _ _ (a .loop .inv) (omega arith) (row .last .1 .1 .1 .1 .1 .1 .0) (c .before .grid .given .0) _
+    (a .before .wide2 .ensures .0) (row .ensures)
+
+same-length : tie.Need-same-length Inv-loop μ-loop
+same-length c =
+    let a = c .before .before in
+    let size = ap₂ (λ (x y : ℕ). x * y) (a .before .wide .ensures .0) (a .wide2 .ensures .0) in
+    search needs
+
+returns : tie.Need-returns Inv-loop μ-loop
+returns c =
+    let a = c .before .before in
+    rows-end _ _ _ _ _ _ _ _ _ (c .before .loop .inv) (omega arith) (a .before .wide .ensures .0) (a .wide2 .ensures .0)
+
+pub fit-grid-spec : {M : Type 1} → statement M
+fit-grid-spec =
+    tie.close
+    (tie.spec
+    Inv-loop
+    μ-loop
+    wide-requires
+    wide-requires-2
+    loop-holds
+    mul-base
+    add-end
+    sub-fit-row
+    part-fit-row-start
+    part-fit-row-end
+    fit-row-requires
+    add-n
+    loop-less
+    loop-again
+    same-length
+    returns)

@@ -1,0 +1,45 @@
+-- `pairs::fit_row` meets its contract: the counts have room for each kind of the template, and no more.
+-- Assumes nothing.
+use borrow.Author.Needs.{needs}
+use Rattle.fits.proofs.CardCounts.{kinds-few, counts-length}
+use Rattle.fits.proofs.fit_row.Statement.{statement}
+use Rattle.fits.proofs.fit_row.Tie as tie
+
+wide-requires : tie.Need-wide-requires
+wide-requires c κs = search needs
+
+sub-fit-counted : tie.Need-sub-fit-counted
+sub-fit-counted c = search needs
+
+part-counts-start : tie.Need-part-counts-start
+part-counts-start c = search needs
+
+part-counts-end : tie.Need-part-counts-end
+part-counts-end c =
+    let few = kinds-few _ _ _ (c .before .before .before .before .before .before .pre .0) in
+    search needs
+
+fit-counted-requires : tie.Need-fit-counted-requires
+fit-counted-requires c κs =
+    let s = c .before .before .before .before .before .before .before .before in
+    let kinds = c .before .before .wide .ensures .0 in
+    let size = counts-length _ _ _ (s .pre .0) _ kinds in
+    (s .pre .0, s .pre .1, s .pre .2, s .pre .3, s .pre .4, s .pre .5, size)
+
+same-length : tie.Need-same-length
+same-length c = search needs
+
+returns : tie.Need-returns
+returns c = search needs
+
+pub fit-row-spec : {M : Type 1} → statement M
+fit-row-spec =
+    tie.close
+    (tie.spec
+    wide-requires
+    sub-fit-counted
+    part-counts-start
+    part-counts-end
+    fit-counted-requires
+    same-length
+    returns)

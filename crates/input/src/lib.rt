@@ -1,0 +1,96 @@
+// Writing the text of a printed sheet into a lent buffer, a piece at a time, and finding the printer's input in bytes.
+ghost use mathlib.Core.Path.{_≡_};
+ghost use Prim.Native.Nat.{_+_, _*_, _≤_, _<_};
+ghost use lib.ListN.{length};
+ghost use Rattle.input.specs.Input.{wordAt, Decoded, readInput, sectionsRead, Inside};
+
+// Where a section's words start in the input, and how many they are.
+pub struct Section {
+    pub at: usize,
+    pub count: usize,
+}
+
+// Where the words of template, script and bookings are, or that the input is at fault.
+pub enum Sections {
+    Found(Section, Section, Section),
+    Faulty,
+}
+
+// A word out of its two bytes.
+fn word(low: u8, high: u8) -> u16
+    ensures { λ r. ⌜ r ≡ low + 256 * high ⌝ }
+{
+    (low as u16) + 256 * (high as u16)
+}
+
+// The word at a byte.
+fn word_at(bytes: &[u8], at: usize) -> u16
+    requires { ⌜ at + 2 ≤ length (now bytes) ⌝ }
+    ensures { λ r. ⌜ r ≡ wordAt (now (bytes .entry)) at ⌝ }
+{
+    word(bytes[at], bytes[at + 1])
+}
+
+// Puts `count` words from the byte `at` on into the front of `words`.
+pub fn decode(bytes: &[u8], at: usize, count: usize, words: &mut [u16])
+    requires { ⌜ (at + 2 * count ≤ length (now bytes)) × (count ≤ length (now words)) ⌝ }
+    ensures { λ _. ⌜ Decoded (now (bytes .entry)) at count (now (words .exit)) ⌝ }
+{
+    let mut i = 0;
+    while i < count {
+        words[i] = word_at(bytes, at + 2 * i);
+        i += 1;
+    }
+}
+
+// How many words a section has whose count stands at a byte.
+fn count_at(bytes: &[u8], at: usize) -> usize
+    requires { ⌜ at + 2 ≤ length (now bytes) ⌝ }
+    ensures { λ r. ⌜ (r ≡ wordAt (now (bytes .entry)) at) × (r ≤ 65535) ⌝ }
+{
+    word_at(bytes, at) as usize
+}
+
+// Finds the three sections of the input.
+pub fn find_sections(bytes: &[u8]) -> Sections
+    ensures reads { λ r. ⌜ readInput (now (bytes .entry)) ≡ sectionsRead (now (bytes .entry)) r ⌝ }
+    ensures inside { λ r. ⌜ Inside (now (bytes .entry)) r ⌝ }
+{
+    if 65536 < bytes.len() {
+        return Sections::Faulty;
+    }
+    if bytes.len() < 2 {
+        return Sections::Faulty;
+    }
+    let template = count_at(bytes, 0);
+    let script_at = 2 + 2 * template;
+    if bytes.len() < script_at + 2 {
+        return Sections::Faulty;
+    }
+    let script = count_at(bytes, script_at);
+    let bookings_at = script_at + 2 + 2 * script;
+    if bytes.len() < bookings_at + 2 {
+        return Sections::Faulty;
+    }
+    let bookings = count_at(bytes, bookings_at);
+    let end = bookings_at + 2 + 2 * bookings;
+    if bytes.len() < end {
+        return Sections::Faulty;
+    }
+    if end < bytes.len() {
+        return Sections::Faulty;
+    }
+    let first = Section {
+        at: 2,
+        count: template,
+    };
+    let second = Section {
+        at: script_at + 2,
+        count: script,
+    };
+    let third = Section {
+        at: bookings_at + 2,
+        count: bookings,
+    };
+    Sections::Found(first, second, third)
+}

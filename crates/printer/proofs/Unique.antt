@@ -1,0 +1,72 @@
+-- The printer has no choice: for one input there is one text, and of one buffer one is left.
+--   sheet-printed-unique   one text for a sheet and its bookings
+--   prints-unique          one text for an input
+--   written-unique         one buffer and one number of bytes
+-- Assumes nothing.
+use mathlib.Core.Path.{_≡_, refl, sym, ap, ap₂, _∙_}
+use mathlib.Core.List.{List, [], _∷_, _++_}
+use Prim.Native.Nat.{ℕ}
+use lib.ListN.{length, drop, take-append-drop}
+use Rattle.words.specs.Said.{values}
+use Rattle.input.specs.Input.{InputReading, sections, faulty, readInput}
+use Rattle.sheet.specs.Sheet.{Sheet, SheetReading, ask, turnedDown, readSheet}
+use Rattle.bookings.specs.Bookings.{Booked}
+use Rattle.typing.specs.Demand3.{Outcome, pairs, notMet}
+use Rattle.typing.specs.Calls.{withBookings, outcomeSaid}
+use Rattle.typing.proofs.Smallest.{BookedIn}
+use Rattle.typing.proofs.Booked.{bookings-asked}
+use Rattle.typing.proofs.Unique.{Represented, both-found-unique}
+use Rattle.typing.proofs.Existence.{represented}
+use Rattle.printer.specs.Printed.{largestText, smallestText, SheetPrinted, PrintsSheet, PrintsInput, Prints}
+use Rattle.printer.specs.Printed.{Written}
+
+outcome-said-unique : (o q : Outcome) → outcomeSaid o ≡ outcomeSaid q → o ≡ q
+outcome-said-unique (pairs m) (pairs k) e = cc
+outcome-said-unique (pairs m) (notMet n t) e = cc
+outcome-said-unique (notMet n t) (pairs m) e = cc
+outcome-said-unique (notMet n t) (notMet m u) e = cc
+
+-- Equal numbers and equal grids are printed alike.
+largest-same : {a b c x y z : ℕ} {g h : List ℕ} (shapes cards : ℕ) → values (a ∷ b ∷ c ∷ []) ≡ values (x ∷ y ∷ z ∷ [])
+    → g ≡ h → largestText a b c g shapes cards ≡ largestText x y z h shapes cards
+largest-same {a} {b} {c} {x} {y} {z} shapes cards e f =
+    let i : a ≡ x = cc in
+    let j : b ≡ y = cc in
+    let k : c ≡ z = cc in
+    rw (i, j, k, f) refl
+
+pub sheet-printed-unique : {s : Sheet} {bookings a b : List ℕ} → Represented (ask s) → BookedIn s (Booked bookings)
+    → SheetPrinted s bookings a → SheetPrinted s bookings b → a ≡ b
+sheet-printed-unique {s} sheets inside x y =
+    let (l, m, small, large) = both-found-unique (sheets s refl .1) inside (x .found) (y .found) in
+    let outcome = outcome-said-unique (x .found .smallest .outcome) (y .found .smallest .outcome)
+    (sym (x .found .smallest .says) ∙ m ∙ y .found .smallest .says) in
+    x .prints
+    ∙ ap₂ _++_
+    (largest-same (s .shapes) (s .cards) (sym (x .found .largest .says) ∙ l ∙ y .found .largest .says) large)
+    (ap₂ (smallestText s) small outcome)
+    ∙ sym (y .prints)
+
+module _ (template script bookings : List ℕ) {a b : List ℕ} where
+  sheet-unique : (r : SheetReading) → withBookings bookings (readSheet template script) ≡ r
+      → PrintsSheet r bookings a → PrintsSheet r bookings b → a ≡ b
+  sheet-unique (turnedDown number place) e x y = x ∙ sym y
+  sheet-unique (ask s) e x y =
+      let (asked, inside) = bookings-asked bookings (readSheet template script) s e in
+      sheet-printed-unique (λ q same. represented template script q (asked ∙ same)) inside x y
+
+input-unique : {a b : List ℕ} (r : InputReading) → PrintsInput r a → PrintsInput r b → a ≡ b
+input-unique faulty x y = x ∙ sym y
+input-unique (sections template script bookings) x y =
+    sheet-unique template script bookings (withBookings bookings (readSheet template script)) refl x y
+
+pub prints-unique : (input : List ℕ) {a b : List ℕ} → Prints input a → Prints input b → a ≡ b
+prints-unique input x y = input-unique (readInput input) x y
+
+pub written-unique : {input before after other : List ℕ} {next end : ℕ} → Written input before after next
+    → Written input before other end → (after ≡ other) × (next ≡ end)
+written-unique {input} {before} {after} {other} {next} {end} x y =
+    let text = prints-unique input (x .prints) (y .prints) in
+    let same : next ≡ end = x .size ∙ ap length text ∙ sym (y .size) in
+    let rest = x .rest ∙ ap (λ (n : ℕ). drop n before) same ∙ sym (y .rest) in
+    (sym (take-append-drop next after) ∙ ap₂ _++_ text rest ∙ take-append-drop end other, same)

@@ -1,0 +1,43 @@
+-- Everything that the printer writes has room, and what it wrote is the text for the input.
+--   refused-end, large-end   where a refusal and the lines of the largest typing end
+--   written-by               a text for the input at the front of the buffer
+-- Assumes nothing.
+use mathlib.Core.Path.{_≡_, sym, ap, _∙_, subst}
+use mathlib.Core.List.{List}
+use Prim.Native.Nat.{ℕ, _+_, _≤_}
+use native.Mathlib.Omega.{arith}
+use lib.ListN.{length, drop, length-append}
+use lib.Seq.{drop-at}
+use Rattle.text.specs.Text.{cardLines, largestLine, refusedLine}
+use Rattle.words.specs.Wrote.{Wrote}
+use Rattle.input.specs.Input.{InputReading, readInput}
+use Rattle.text.proofs.Lines.{cards-bound, largest-bound, refused-bound}
+use Rattle.words.proofs.Writing.{wrote-front, wrote-length}
+use Rattle.printer.specs.Printed.{largestText, PrintsInput, Written}
+
+-- Where a refusal ends.
+pub refused-end : (number place : ℕ) → 0 + length (refusedLine number place) ≤ 50
+refused-end number place = omega (arith, refused-bound number place)
+
+-- Where the lines of the largest typing end.
+pub large-end : (rounds struck bare : ℕ) (grid : List ℕ) (shapes cards : ℕ) {out after : List ℕ} {at : ℕ}
+    → Wrote out 0 (largestText rounds struck bare grid shapes cards) after at → shapes ≤ 32 → cards ≤ 1024
+    → at ≤ 109639
+large-end rounds struck bare grid shapes cards w hs hc =
+    omega (
+      arith,
+      w .moved,
+      length-append (largestLine rounds struck bare) (cardLines grid shapes cards),
+      largest-bound rounds struck bare,
+      cards-bound grid shapes cards hs hc,
+    )
+
+-- What is written at the front of the buffer is the text for the input, and the rest is as it was.
+pub written-by : {input before after text : List ℕ} {next : ℕ} (r : InputReading) → readInput input ≡ r
+    → PrintsInput r text → Wrote before 0 text after next → Written input before after next
+written-by {input} {before} {after} {text} {next} r e p w = record {
+  room = omega (arith, w .room, wrote-length w);
+  size = omega (arith, w .moved, ap length (wrote-front w));
+  prints = rw e (subst (PrintsInput r) (sym (wrote-front w)) p);
+  rest = ap (drop next) (w .holds) ∙ drop-at text (drop next before) next (omega (arith, w .moved));
+}

@@ -1,0 +1,64 @@
+-- What the sheet printer writes for its input, from bytes to bytes (document 01, "The sheet printer" and "One sheet printed").
+-- largestText, pairsText   the lines of the largest typing, and of the smallest
+-- smallestText    those of the smallest, or the one line of 50
+-- SheetPrinted    the text of a sheet whose template, script and bookings are read
+-- Prints          the text for any input
+-- Written         it was written to the front of a buffer
+-- Assumes nothing.
+use Prim.Native.Nat.{ℕ, _≤_}
+use mathlib.Core.Path.{_≡_}
+use mathlib.Core.List.{List, _++_}
+use lib.ListN.{length, take, drop}
+use Rattle.text.specs.Text.{cardLines, largestLine, smallestLine, notMetLine, refusedLine}
+use Rattle.input.specs.Input.{InputReading, sections, faulty, readInput}
+use Rattle.sheet.specs.Sheet.{Sheet, SheetReading, ask, turnedDown, readSheet}
+use Rattle.typing.specs.Answer.{BothSaid}
+use Rattle.typing.specs.Demand3.{Outcome, pairs, notMet}
+use Rattle.typing.specs.Calls.{withBookings, BothFound}
+
+-- "First line: rounds, struck, cards with no shape." Then the card lines of the largest typing.
+abbrev pub largestText : ℕ → ℕ → ℕ → List ℕ → ℕ → ℕ → List ℕ
+largestText rounds struck bare grid shapes cards = largestLine rounds struck bare ++ cardLines grid shapes cards
+
+-- "Then pairs", and the card lines of the smallest typing.
+abbrev pub pairsText : ℕ → List ℕ → ℕ → ℕ → List ℕ
+pairsText m grid shapes cards = smallestLine m ++ cardLines grid shapes cards
+
+-- "Then pairs, or the one line `smallest no 0 1`, the card and shape of 50, with no card lines after it."
+abbrev pub smallestText : Sheet → List ℕ → Outcome → List ℕ
+smallestText s grid (pairs m) = pairsText m grid (s .shapes) (s .cards)
+smallestText s grid (notMet n t) = notMetLine n t
+
+-- The two typings of the sheet, with the numbers that the calls say.
+pub record SheetPrinted (s : Sheet) (bookings text : List ℕ) : Type 0 where
+  pub small : List ℕ
+  pub large : List ℕ
+  pub said : BothSaid
+  pub found : BothFound s bookings small large said
+  pub prints : text ≡ largestText (found .largest .rounds) (found .largest .struck) (found .largest .bare) large
+      (s .shapes) (s .cards) ++ smallestText s small (found .smallest .outcome)
+
+-- "Any refusal but 50 prints only `refused NUMBER PLACE`."
+abbrev pub PrintsSheet : SheetReading → List ℕ → List ℕ → Type 0
+PrintsSheet (turnedDown number place) bookings text = text ≡ refusedLine number place
+PrintsSheet (ask s) bookings text = SheetPrinted s bookings text
+
+-- "60 place 0", then the refusals of template, script and bookings, each place counted in its own file.
+abbrev pub PrintsInput : InputReading → List ℕ → Type 0
+PrintsInput faulty text = text ≡ refusedLine 60 0
+PrintsInput (sections template script bookings) text =
+    PrintsSheet (withBookings bookings (readSheet template script)) bookings text
+
+-- The text for the input's bytes.
+abbrev pub Prints : List ℕ → List ℕ → Type 0
+Prints input text = PrintsInput (readInput input) text
+
+-- So many bytes at the front of a buffer are the text for the input, and the rest is as it was.
+pub record Written (input before after : List ℕ) (next : ℕ) : Type 0 where
+  -- the buffer has so many bytes at its front
+  pub room : next ≤ length after
+  pub size : next ≡ length (take next after)
+  -- they are the text
+  pub prints : Prints input (take next after)
+  -- and no other byte changed
+  pub rest : drop next after ≡ drop next before

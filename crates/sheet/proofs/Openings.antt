@@ -1,0 +1,51 @@
+-- What reading a template and a script says of the sheet that they make.
+-- sheet-opened                     both are read
+-- sheet-template, sheet-script     the sheet is turned down for its template, or for its script
+-- opened-shaped                    the template is read and has so many shapes
+-- Assumes nothing.
+use Prim.Native.Nat.{ℕ}
+use mathlib.Core.Path.{_≡_, refl, sym, subst}
+use mathlib.Core.List.{List, [], _∷_}
+use Rattle.words.specs.Said.{values, refusal}
+use Rattle.template.specs.Template.{templateSays}
+use Rattle.template.proofs.Answers.{template-read, template-turned}
+use Rattle.script.specs.Script.{readScript, scriptAnswer}
+use Rattle.script.proofs.Answers.{script-read, script-turned}
+use Rattle.sheet.specs.Sheet.{turnedDown, readSheet}
+use Rattle.sheet.specs.declared.Extent.{Extent}
+use Rattle.sheet.specs.Opened.{Opened, Shaped}
+
+module _ (template script : List ℕ) where
+  -- Both are read.
+  pub sheet-opened :
+      (e : Extent) → values (e .kinds ∷ e .shapes ∷ []) ≡ templateSays template →
+      values (e .cards ∷ e .links ∷ []) ≡ scriptAnswer (readScript (e .kinds) script) → Opened template script e
+  sheet-opened e p q =
+      let (parts, r) = template-read template (e .kinds) (e .shapes) p in
+      record {
+        parts = parts;
+        template-read = r;
+        script-read = script-read (readScript (e .kinds) script) (e .cards) (e .links) q;
+      }
+
+  -- The template is turned down.
+  pub sheet-template :
+      (number place : ℕ) → refusal number (place ∷ []) ≡ templateSays template →
+      readSheet template script ≡ turnedDown number place
+  unfolding readSheet
+  sheet-template number place e = rw (template-turned template number place e) refl
+
+  -- The template is read and the script is turned down.
+  pub sheet-script :
+      (kinds shapes number place : ℕ) → values (kinds ∷ shapes ∷ []) ≡ templateSays template →
+      refusal number (place ∷ []) ≡ scriptAnswer (readScript kinds script) →
+      readSheet template script ≡ turnedDown number place
+  unfolding readSheet
+  sheet-script kinds shapes number place p q =
+      let (parts, r) = template-read template kinds shapes p in
+      rw (r, script-turned (readScript kinds script) number place q) refl
+
+  -- The template of a sheet that is read has so many shapes.
+  pub opened-shaped : (e : Extent) (shapes : ℕ) → Opened template script e → shapes ≡ e .shapes → Shaped template shapes
+  opened-shaped e shapes o q =
+      subst (Shaped template) (sym q) (record { kinds = e .kinds; parts = o .parts; read = o .template-read })

@@ -1,4 +1,0 @@
-pub mod Bookings
-pub mod Rows
-pub mod Marks
-pub mod Closures

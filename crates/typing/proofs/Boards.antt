@@ -1,0 +1,165 @@
+-- The board of a script, a table of names and a grid of fits.
+--   pairs-bound    it has at most 32,768 places
+--   entries-bound  an entry of the table is at most 32
+--   needs-in       what a pair needs is on the board
+--   board-lawful   its test is Proposition 8.1: the counts fit and the set has all that is needed
+-- Assumes nothing.
+use mathlib.Core.Path.{_≡_, refl, sym, ap, subst}
+use mathlib.Core.Logic.{_⊎_, inl, inr, ⊎-elim}
+use mathlib.Core.List.{List}
+use mathlib.Core.Bool.{Bool, true, false, cond}
+use Prim.Native.Nat.{ℕ, zero, suc, _+_, _*_, _/_, _%_, _≤_, _<_}
+use native.Mathlib.Nat.{mul-le-mul}
+use native.Mathlib.Omega.{arith}
+use lib.Dec.{eqb}
+use lib.ListN.{getD}
+use borrow.Author.Tests.{eqb-true, eq-eqb}
+use Rattle.script.specs.Link.{fromAt, kindAt, toAt}
+use Rattle.board.specs.Grid.{on, all}
+use Rattle.board.specs.Board.{Inside, Lawful}
+use Rattle.board.specs.Work.{entry}
+use Rattle.words.proofs.Bools.{never-both, true-or-false, is-false, and-first, and-second, and-both}
+use Rattle.board.proofs.Tally.{all-at, all-of, all-not}
+use Rattle.typing.specs.Needs.{entryAt, Needs, hasNamed, linkTest, metTest, boardOf, Ready}
+use Rattle.words.proofs.Places.{place-in, card-in, shape-in, place-of}
+
+-- ---- an entry of the table
+named-of : (X : ℕ → Bool) (base entry : ℕ) → ((u : ℕ) → entry ≡ suc u → X (base + u) ≡ true)
+    → hasNamed X base entry ≡ true
+named-of X base zero f = refl
+named-of X base (suc u) f = f u refl
+
+named-at : (X : ℕ → Bool) (base entry u : ℕ) → hasNamed X base entry ≡ true → entry ≡ suc u → X (base + u) ≡ true
+named-at X base entry u h e = subst (λ (x : ℕ). hasNamed X base x ≡ true) e h
+
+named-not : (X : ℕ → Bool) (base entry : ℕ) → hasNamed X base entry ≡ false
+    → (u : ℕ) × (entry ≡ suc u) × (X (base + u) ≡ false)
+named-not X base zero h = never-both refl h
+named-not X base (suc u) h = (u, refl, h)
+
+-- ---- a test that counts only under another
+pick-at : (a b : Bool) → cond a b true ≡ true → a ≡ true → b ≡ true
+pick-at true b h e = h
+pick-at false b h e = never-both e refl
+
+pick-of : (a b : Bool) → (a ≡ true → b ≡ true) → cond a b true ≡ true
+pick-of true b f = f refl
+pick-of false b f = refl
+
+pick-not : (a b : Bool) → cond a b true ≡ false → (a ≡ true) × (b ≡ false)
+pick-not true b h = (refl, h)
+pick-not false b h = never-both refl h
+
+-- ---- one link
+module _ (script names : List ℕ) (shapes : ℕ) (X : ℕ → Bool) (p : ℕ) where
+  -- the test of the pair that link i leads to
+  abbrev far : ℕ → Bool
+  far i = hasNamed X (toAt script i * shapes) (entryAt names (p % shapes) (kindAt script i))
+
+  link-at : (q : ℕ) (d : Needs script names shapes p q) → linkTest script names shapes X p (d .link) ≡ true → X q ≡ true
+  unfolding linkTest
+  link-at q d h =
+      let i = d .link in
+      let here = eq-eqb (fromAt script i) (p / shapes) (d .starts) in
+      let there = pick-at (eqb (fromAt script i) (p / shapes)) (far i) h here in
+      subst (λ (x : ℕ). X x ≡ true) (sym (d .leads))
+      (named-at X (toAt script i * shapes) (entryAt names (p % shapes) (kindAt script i)) (d .shape) there
+      (d .names-it))
+
+  link-of : (i : ℕ) → i < getD script 1 0 → ((q : ℕ) → Needs script names shapes p q → X q ≡ true)
+      → linkTest script names shapes X p i ≡ true
+  unfolding linkTest
+  link-of i l h = pick-of (eqb (fromAt script i) (p / shapes)) (far i) (λ e.
+      named-of X (toAt script i * shapes) (entryAt names (p % shapes) (kindAt script i)) (λ u n.
+      h (toAt script i * shapes + u) (record {
+        link = i;
+        below = l;
+        starts = eqb-true (fromAt script i) (p / shapes) e;
+        shape = u;
+        names-it = n;
+        leads = refl;
+      })))
+
+  link-not : (i : ℕ) → i < getD script 1 0 → linkTest script names shapes X p i ≡ false
+      → (q : ℕ) × Needs script names shapes p q × (X q ≡ false)
+  unfolding linkTest
+  link-not i l h =
+      let both = pick-not (eqb (fromAt script i) (p / shapes)) (far i) h in
+      let u = named-not X (toAt script i * shapes) (entryAt names (p % shapes) (kindAt script i)) (both .1) in (
+        toAt script i * shapes + u .0,
+        record {
+          link = i;
+          below = l;
+          starts = eqb-true (fromAt script i) (p / shapes) (both .0);
+          shape = u .0;
+          names-it = u .1;
+          leads = refl;
+        },
+        u .2,
+      )
+
+-- ---- the board
+module _ {script names : List ℕ} {shapes : ℕ} (ready : Ready script names shapes) where
+  pub pairs-bound : getD script 0 0 * shapes ≤ 32768
+  pairs-bound = omega (arith, mul-le-mul (ready .few-cards) (ready .few-shapes))
+
+  pub entries-bound : (p : ℕ) → p < shapes * 64 → getD names p 0 ≤ 32
+  entries-bound p l =
+      let row = card-in 64 (omega arith) shapes p l in
+      let here = ready .entry-in (p / 64) (p % 64) row (shape-in 64 (omega arith) p) in
+      omega (arith, here, ap (λ (x : ℕ). getD names x 0) (place-of 64 (omega arith) p), ready .few-shapes)
+
+  -- the shape that an entry names is a shape
+  pub entry-shape : (t i u : ℕ) → t < shapes → i < getD script 1 0 → entryAt names t (kindAt script i) ≡ suc u
+      → u < shapes
+  entry-shape t i u lt li e = omega (arith, ready .entry-in t (kindAt script i) lt (ready .kind-in i li), e)
+
+  pub needs-in : (p q : ℕ) → Needs script names shapes p q → q < getD script 0 0 * shapes
+  needs-in p q d = subst (λ (x : ℕ). x < getD script 0 0 * shapes) (sym (d .leads))
+      (place-in (getD script 0 0) shapes (toAt script (d .link)) (d .shape) (ready .to-in (d .link) (d .below))
+      (entry-shape (p % shapes) (d .link) (d .shape) (shape-in shapes (ready .one-shape) p) (d .below) (d .names-it)))
+
+  module _ (fits : List ℕ) where
+    -- the tests of all links
+    abbrev links : (ℕ → Bool) → ℕ → Bool
+    links X p = all (linkTest script names shapes X p) (getD script 1 0)
+
+    met-ok : (X : ℕ → Bool) (p : ℕ) → metTest script names shapes fits X p ≡ true → on fits p ≡ true
+    unfolding metTest
+    met-ok X p m = and-first (on fits p) (links X p) m
+
+    met-dep : (X : ℕ → Bool) (p q : ℕ) → metTest script names shapes fits X p ≡ true
+        → Needs script names shapes p q → X q ≡ true
+    unfolding metTest
+    met-dep X p q m d = link-at script names shapes X p q d
+        (all-at (linkTest script names shapes X p) (getD script 1 0) (and-second (on fits p) (links X p) m)
+        (d .link) (d .below))
+
+    met-of : (X : ℕ → Bool) (p : ℕ) → on fits p ≡ true → ((q : ℕ) → Needs script names shapes p q → X q ≡ true)
+        → metTest script names shapes fits X p ≡ true
+    unfolding metTest
+    met-of X p o h = and-both (on fits p) (links X p) o
+        (all-of (linkTest script names shapes X p) (getD script 1 0) (λ i l. link-of script names shapes X p i l h))
+
+    unmet : (X : ℕ → Bool) (p : ℕ) → metTest script names shapes fits X p ≡ false
+        → (on fits p ≡ false) ⊎ ((q : ℕ) × Needs script names shapes p q × (X q ≡ false))
+    unfolding metTest
+    unmet X p m = ⊎-elim
+        (λ o.
+        let r = all-not (linkTest script names shapes X p) (getD script 1 0)
+        (is-false (λ a. never-both (and-both (on fits p) (links X p) o a) m)) in
+        inr (link-not script names shapes X p (r .0) (r .1) (r .2)))
+        (λ o. inl o)
+        (true-or-false (on fits p))
+
+    pub board-inside : Inside (boardOf script names shapes fits)
+    board-inside p q l d = needs-in p q d
+
+    pub board-lawful : Lawful (boardOf script names shapes fits)
+    board-lawful = record {
+      inside = board-inside;
+      met-ok = met-ok;
+      met-dep = met-dep;
+      met-of = met-of;
+      unmet = unmet;
+    }

@@ -1,0 +1,11 @@
+-- What is said tells itself apart.
+--   values-refusal   values are no refusal
+-- Assumes nothing.
+use mathlib.Core.Path.{_≡_}
+use mathlib.Core.List.{List}
+use Prim.Native.Nat.{ℕ}
+use native.Mathlib.Omega.{arith}
+use Rattle.words.specs.Said.{values, refusal}
+
+pub values-refusal : {A : Type 0} {xs places : List ℕ} {number : ℕ} → values xs ≡ refusal number places → A
+values-refusal e = let z : _≡_ {A = ℕ} 0 1 = cc in absurd (omega arith)

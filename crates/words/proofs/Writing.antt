@@ -1,0 +1,80 @@
+-- Laws of writing a text into a buffer.
+--   wrote-nothing, wrote-byte   an empty text, and a byte
+--   wrote-append                a text and then another
+--   wrote-same                  an equal text
+--   wrote-next                  a byte more of a text
+--   wrote-length                the buffer keeps its length
+--   wrote-front                 what is written from the start on is the buffer's front
+--   wrote-unique                no choice is left
+-- Assumes nothing.
+use mathlib.Core.Path.{_≡_, refl, sym, ap, _∙_, subst}
+use mathlib.Core.List.{List, [], _∷_, _++_, append-assoc}
+use Prim.Native.Nat.{ℕ, _+_, _≤_, _<_}
+use native.Mathlib.Numerals.{add-one}
+use native.Mathlib.Omega.{arith}
+use lib.ListN.{length, take, drop, set, getD, length-append, length-drop, take-append-drop}
+use lib.Seq.{length-take-le, take-at, drop-at, drop-drop, take-suc, set-split}
+use Rattle.words.specs.Wrote.{Room, Wrote}
+
+pub wrote-nothing : (b : List ℕ) (at : ℕ) → at ≤ length b → Wrote b at [] b at
+wrote-nothing b at h = record { room = h; moved = omega arith; holds = sym (take-append-drop at b) }
+
+pub wrote-byte : (b : List ℕ) (at x : ℕ) → Room b at (x ∷ []) → Wrote b at (x ∷ []) (set b at x) (at + 1)
+wrote-byte b at x h = record { room = h; moved = refl; holds = rw (add-one at) (set-split b at x (omega arith)) }
+
+module _ {b m : List ℕ} {at next : ℕ} {s : List ℕ} (w : Wrote b at s m next) where
+  front-length : length (take at b ++ s) ≡ next
+  front-length =
+      let inside : at ≤ length b = omega (arith, w .moved, w .room) in
+      omega (arith, w .moved, length-append (take at b) s, length-take-le at b inside)
+
+  split : m ≡ (take at b ++ s) ++ drop next b
+  split = w .holds ∙ sym (append-assoc (take at b) s (drop next b))
+
+  pub wrote-length : length m ≡ length b
+  wrote-length =
+      let e = ap length split ∙ length-append (take at b ++ s) (drop next b) in
+      omega (arith, e, front-length, length-drop next b, w .room)
+
+  pub wrote-append : {c t : List ℕ} {end : ℕ} → Wrote m next t c end → Wrote b at (s ++ t) c end
+  wrote-append {c} {t} {end} v = record {
+    room = omega (arith, v .room, wrote-length);
+    moved = omega (arith, v .moved, w .moved, length-append s t);
+    holds =
+        v .holds
+        ∙ ap (λ (l : List ℕ). l ++ (t ++ drop end m)) front
+        ∙ append-assoc (take at b) s (t ++ drop end m)
+        ∙ ap (λ (l : List ℕ). take at b ++ l) (sym (append-assoc s t (drop end m))
+        ∙ ap (λ (l : List ℕ). s ++ t ++ l) rest);
+  }
+    where
+      front : take next m ≡ take at b ++ s
+      front = ap (take next) split ∙ take-at (take at b ++ s) (drop next b) next front-length
+
+      rest : drop end m ≡ drop end b
+      rest =
+          ap (λ (n : ℕ). drop n m) (v .moved)
+          ∙ sym (drop-drop (length t) next m)
+          ∙ ap (drop (length t)) (ap (drop next) split ∙ drop-at (take at b ++ s) (drop next b) next front-length)
+          ∙ drop-drop (length t) next b
+          ∙ ap (λ (n : ℕ). drop n b) (sym (v .moved))
+
+pub wrote-same : {b c s t : List ℕ} {at next : ℕ} → s ≡ t → Wrote b at s c next → Wrote b at t c next
+wrote-same {b} {c} {s} {t} {at} {next} e w = subst (λ (x : List ℕ). Wrote b at x c next) e w
+
+pub wrote-next : {b m c : List ℕ} {at next end : ℕ} (text : List ℕ) (i : ℕ) → i < length text
+    → Wrote b at (take i text) m next → Wrote m next (getD text i 0 ∷ []) c end → Wrote b at (take (i + 1) text) c end
+wrote-next text i l w v =
+    wrote-same (sym (ap (λ (n : ℕ). take n text) (add-one i) ∙ take-suc text i 0 l)) (wrote-append w v)
+
+-- a text written from the start on is the buffer's front
+pub wrote-front : {b s c : List ℕ} {next : ℕ} → Wrote b 0 s c next → take next c ≡ s
+wrote-front {b} {s} {c} {next} w =
+    ap (take next) (w .holds) ∙ take-at s (drop next b) next (omega (arith, w .moved))
+
+-- no choice is left
+pub wrote-unique : {b s c d : List ℕ} {at next end : ℕ} → Wrote b at s c next → Wrote b at s d end
+    → (c ≡ d) × (next ≡ end)
+wrote-unique {b} {s} {c} {d} {at} {next} {end} w v =
+    let same : next ≡ end = w .moved ∙ sym (v .moved) in
+    (w .holds ∙ ap (λ (n : ℕ). take at b ++ (s ++ drop n b)) same ∙ sym (v .holds), same)

@@ -1,0 +1,46 @@
+// The format's limits, and words and bytes as sizes: what every reader starts with.
+ghost use mathlib.Core.Path.{_≡_};
+ghost use Prim.Native.Nat.{_<_};
+
+// The limits, as specs/Limits has them.
+pub const MAX_KINDS: usize = 64;
+
+pub const MAX_SHAPES: usize = 32;
+
+pub const MAX_TEMPLATE: usize = 4096;
+
+pub const MAX_DEPTH: usize = 12;
+
+pub const MIN_GROUP: u16 = 2;
+
+pub const MAX_GROUP: u16 = 16;
+
+pub const MAX_COUNT: u16 = 8192;
+
+pub const NO_LIMIT: u16 = 65535;
+
+pub const MAX_CARDS: usize = 1024;
+
+pub const MAX_LINKS: usize = 8192;
+
+pub const MAX_BOOKINGS: usize = 1024;
+
+pub const MAX_INPUT: usize = 65536;
+
+pub const TABLE_SIZE: usize = MAX_SHAPES * MAX_KINDS;
+
+pub const MAX_GRID: usize = MAX_CARDS * MAX_SHAPES;
+
+// A word as a size.
+pub fn wide(x: u16) -> usize
+    ensures { λ r. ⌜ (r ≡ x) × (r < 65536) ⌝ }
+{
+    x as usize
+}
+
+// A byte as a size.
+pub fn byte(x: u8) -> usize
+    ensures { λ r. ⌜ (r ≡ x) × (r < 256) ⌝ }
+{
+    x as usize
+}
