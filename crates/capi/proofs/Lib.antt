@@ -1,6 +1,5 @@
--- Refusals: a refusal's number is never 0, nor 50 with a single place. Told: the struct of a refusal says that refusal.
--- Unique: what a struct says tells the struct. Copies: copying words to the start of a buffer.
-pub mod Refusals
+-- Told: one law for all answers. Refusals: the numbers of refusals at one place. Copies: copying words to the start of
+-- a buffer.
 pub mod Told
-pub mod Unique
+pub mod Refusals
 pub mod Copies

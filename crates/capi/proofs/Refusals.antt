@@ -13,6 +13,7 @@ use mathlib.Core.List.{List, [], _∷_}
 use lib.ListN.{length, getD}
 use lib.Dec.{ltb, leb, eqb}
 use Rattle.bags.specs.Part.{Part, Parts}
+use Rattle.capi.proofs.Told.{Plain}
 use Rattle.template.specs.declared.Sizes.{Sizes}
 use Rattle.words.specs.Said.{Said, values, refusal}
 use Rattle.template.specs.Reading.{Code, Reading, found, refused, andThen, mapped, codeOf, limitsOk, readLink}
@@ -31,10 +32,6 @@ use Rattle.typing.specs.Answer.{BothSaid}
 use Rattle.typing.specs.Demand3.{Outcome, pairs, notMet}
 use Rattle.typing.specs.Calls.{withGrid, afterBookings, withBookings, LargestAnswered, LargestSays, SmallestAnswered}
 use Rattle.typing.specs.Calls.{SmallestSays, outcomeSaid, Grids, BothAnswered, BothSays}
-
--- A number that is neither 0 nor 50.
-abbrev pub Plain : ℕ → Type 0
-Plain number = (eqb number 0 ≡ false) × (eqb number 50 ≡ false)
 
 -- A refusal of a reading has a plain number.
 abbrev PlainReading : {A : Type 0} → Reading A → Type 0
@@ -362,3 +359,33 @@ module _ (template script : List ℕ) where
         bookings before after said
         (plain-grid (before .large) (withGrid (before .small) (withBookings bookings (readSheet template script)))
         (plain-grid (before .small) (withBookings bookings (readSheet template script)) plain-asked))
+
+-- The number of a refusal at one place is plain.
+pub template-plain : (words : List ℕ) (number place : ℕ) → refusal number (place ∷ []) ≡ templateSays words
+    → Plain number
+template-plain words number place e = subst PlainSaid (sym e) (template-said-plain words)
+
+pub script-plain : (template script : List ℕ) (number place : ℕ)
+    → refusal number (place ∷ []) ≡ scriptSays template script → Plain number
+script-plain template script number place e = subst PlainSaid (sym e) (script-said-plain template script)
+
+module _ (number place : ℕ) where
+  pub fit-plain : (template : List ℕ) (shape : ℕ) (counts : List ℕ)
+      → FitSays template shape counts (refusal number (place ∷ [])) → Plain number
+  fit-plain template shape counts e = fit-said-plain template shape counts (refusal number (place ∷ [])) e
+
+  pub largest-plain : (template script before after : List ℕ)
+      → LargestSays template script before after (refusal number (place ∷ [])) → Plain number
+  largest-plain template script before after e =
+      largest-said-plain template script before after (refusal number (place ∷ [])) e
+
+  pub smallest-plain : (template script bookings before after : List ℕ)
+      → SmallestSays template script bookings before after (refusal number (place ∷ [])) → Plain number
+  smallest-plain template script bookings before after e =
+      smallest-said-plain template script bookings before after (refusal number (place ∷ [])) e
+
+  pub both-plain : (template script bookings : List ℕ) (before after : Grids)
+      → BothSays template script bookings before after
+      (record { largest = refusal number (place ∷ []); smallest = refusal number (place ∷ []) })
+      → Plain number
+  both-plain template script bookings before after e = both-said-plain template script bookings before after _ e

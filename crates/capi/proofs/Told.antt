@@ -1,138 +1,144 @@
--- A struct with a refusal's number and place says that refusal, and its other numbers are 0.
--- template-told, fit-told, script-told, largest-told, smallest-told, both-told   of each operation
+-- One law for all answers: what the numbers of a struct say tells the numbers.
+--   Plain            a number that is neither 0 nor one of the refusals with a card and a shape
+--   plain-number     enough that it is neither 0 nor 50
+--   tells-found, tells-refused, tells-paired   the numbers of values, of a refusal at a place, and at a card and a shape
+--   equals-refused, both-refused   the numbers of a refusal where one thing is said, and of a refusal of both typings
+--   said-by          what holds of what an answer says holds by the case that it is
+--   numbers-unique   numbers that say the same, and are 0 where they say nothing, are the same
 -- Assumes nothing.
-use Prim.Native.Nat.{ℕ}
-use mathlib.Core.Path.{_≡_, refl, sym, ap, subst, _∙_}
+use Prim.Native.Nat.{ℕ, zero, suc}
+use mathlib.Core.Path.{_≡_, refl, sym, ap, ap₂, subst, _∙_}
+use mathlib.Core.Bool.{Bool, true, false, cond}
 use mathlib.Core.List.{List, [], _∷_}
-use mathlib.Core.Bool.{Bool, cond}
+use lib.ListN.{length, getD, replicate}
 use lib.Dec.{eqb}
+use borrow.Author.Tests.{eqb-true, ne-eqb}
 use Rattle.words.specs.Said.{Said, values, refusal}
-use Rattle.template.specs.Template.{templateSays}
-use Rattle.counts.specs.Fit.{FitSays}
-use Rattle.script.specs.Script.{scriptSays}
 use Rattle.typing.specs.Answer.{BothSaid}
-use Rattle.typing.specs.Calls.{Grids, LargestSays, SmallestSays, BothSays}
-use Rattle.capi.specs.declared.PrepTemplate.{PrepTemplate}
-use Rattle.capi.specs.declared.PrepFit.{PrepFit}
-use Rattle.capi.specs.declared.PrepScript.{PrepScript}
-use Rattle.capi.specs.declared.PrepLargest.{PrepLargest}
-use Rattle.capi.specs.declared.PrepSmallest.{PrepSmallest}
 use Rattle.capi.specs.declared.PrepBoth.{PrepBoth}
-use Rattle.capi.specs.Numbers.{Zeros, said, templateSaid, templateRest, fitSaid, fitRest, scriptSaid}
-use Rattle.capi.specs.Numbers.{scriptRest, largestSaid, largestRest, smallestSaid, smallestRest, bothSaid}
-use Rattle.capi.specs.Numbers.{bothRest}
-use Rattle.capi.proofs.Refusals.{Plain, PlainSaid, template-said-plain, fit-said-plain, script-said-plain}
-use Rattle.capi.proofs.Refusals.{largest-said-plain, smallest-said-plain, both-said-plain}
+use Rattle.capi.specs.Numbers.{Numbers, isPaired, said, unsaid, Zeros, Tells, TellsBoth}
 
--- The structs of a refusal with one place.
-abbrev templateRefused : ℕ → ℕ → PrepTemplate
-templateRefused number place = record { number = number; kinds = 0; shapes = 0; place = place }
+-- What holds of what an answer says, by the case that the answer is.
+pub said-by : {A S : Type 0} (Allowed : S → Type 0) (saying : A → S) {a b : A} → a ≡ b → Allowed (saying a)
+    → Allowed (saying b)
+said-by Allowed saying e h = subst (λ x. Allowed (saying x)) e h
 
-abbrev fitRefused : ℕ → ℕ → PrepFit
-fitRefused number place = record { number = number; fits = 0; place = place }
+-- A number that is neither 0 nor one with a card and a shape.
+abbrev pub Plain : ℕ → Type 0
+Plain number = (eqb number 0 ≡ false) × (isPaired number ≡ false)
 
-abbrev scriptRefused : ℕ → ℕ → PrepScript
-scriptRefused number place = record { number = number; cards = 0; links = 0; place = place }
+pub plain-number : (number : ℕ) → (number ≡ 0 → ⊥) → (number ≡ 50 → ⊥) → Plain number
+plain-number number some other = (ne-eqb number 0 some, rw (ne-eqb number 50 other) refl)
 
-abbrev largestRefused : ℕ → ℕ → PrepLargest
-largestRefused number place = record { number = number; place = place; rounds = 0; struck = 0; bare = 0 }
+-- The numbers of values, and of a refusal at one place.
+abbrev valued : List ℕ → Numbers
+valued found = record { number = 0; place = 0; card = 0; shape = 0; found = found }
 
-abbrev smallestRefused : ℕ → ℕ → PrepSmallest
-smallestRefused number place = record { number = number; card = 0; shape = 0; place = place; pairs = 0 }
+abbrev placed : ℕ → ℕ → List ℕ → Numbers
+placed number place found = record { number = number; place = place; card = 0; shape = 0; found = found }
 
-abbrev bothRefused : ℕ → ℕ → PrepBoth
-bothRefused number place =
-    record { number = number; card = 0; shape = 0; place = place; rounds = 0; struck = 0; bare = 0; pairs = 0 }
+-- What the numbers of a plain refusal say, and that the others are 0.
+module _ (number place : ℕ) (found : List ℕ) (plain : Plain number) where
+  plain-said : said (placed number place found) ≡ refusal number (place ∷ [])
+  plain-said = rw (plain .0, plain .1) refl
 
-module _ (number place : ℕ) (plain : Plain number) where
-  -- What a plain number says, and which numbers then say nothing.
-  plain-said : (found : List ℕ) → said number (place ∷ []) found ≡ refusal number (place ∷ [])
-  plain-said found = ap (λ (b : Bool). cond b (values found) (refusal number (place ∷ []))) (plain .0)
+  plain-unsaid : Zeros found → Zeros (unsaid (placed number place found))
+  plain-unsaid zeros = rw (plain .0, plain .1) (refl, (refl, zeros))
 
-  plain-rest : (unplaced found : List ℕ) → Zeros found → Zeros (cond (eqb number 0) unplaced found)
-  plain-rest unplaced found z = subst (λ (b : Bool). Zeros (cond b unplaced found)) (sym (plain .0)) z
+-- So many zeros.
+no-values : (size : ℕ) → Zeros (replicate size 0)
+no-values zero = tt
+no-values (suc size) = (refl, no-values size)
 
-  not-50 : {A : Type 0} (x y : A) → cond (eqb number 50) x y ≡ y
-  not-50 x y = ap (λ (b : Bool). cond b x y) (plain .1)
+module _ (Allowed : Said → Type 0) where
+  pub tells-found : (found : List ℕ) → Allowed (values found) → Tells Allowed (valued found)
+  tells-found found h = (h, (refl, (refl, (refl, tt))))
 
-  smallest-said : smallestSaid (smallestRefused number place) ≡ refusal number (place ∷ [])
-  smallest-said =
-      ap (λ (w : List ℕ). said number w (0 ∷ [])) (not-50 (0 ∷ 0 ∷ []) (place ∷ [])) ∙ plain-said (0 ∷ [])
+  pub tells-refused : (size number place : ℕ) → Plain number → Allowed (refusal number (place ∷ []))
+      → Tells Allowed (placed number place (replicate size 0))
+  tells-refused size number place plain h = (
+    subst Allowed (sym (plain-said number place (replicate size 0) plain)) h,
+    plain-unsaid number place (replicate size 0) plain (no-values size),
+  )
 
-  both-said :
-      bothSaid (bothRefused number place)
-      ≡ record { largest = refusal number (place ∷ []); smallest = refusal number (place ∷ []) }
-  both-said =
-      ap (λ (x : Said). record { largest = x; smallest = smallestSaid (smallestRefused number place) })
-      (ap (λ (n : ℕ). said n (place ∷ []) (0 ∷ 0 ∷ 0 ∷ [])) (not-50 0 number) ∙ plain-said (0 ∷ 0 ∷ 0 ∷ []))
-      ∙ ap (λ (x : Said). record { largest = refusal number (place ∷ []); smallest = x }) smallest-said
+  pub tells-paired : (size number card shape : ℕ) → eqb number 0 ≡ false → isPaired number ≡ true
+      → Allowed (refusal number (card ∷ shape ∷ []))
+      → Tells Allowed (record { number = number; place = 0; card = card; shape = shape; found = replicate size 0 })
+  tells-paired size number card shape some two h = rw (some, two) (h, (refl, no-values size))
 
--- Read a template.
-pub template-told :
-    (template : List ℕ) (number place : ℕ) → refusal number (place ∷ []) ≡ templateSays template →
-    (templateSaid (templateRefused number place) ≡ templateSays template)
-    × Zeros (templateRest (templateRefused number place))
-template-told template number place e =
-    let h : Plain number = subst PlainSaid (sym e) (template-said-plain template) in
-    (plain-said number place h (0 ∷ 0 ∷ []) ∙ e, plain-rest number place h (place ∷ []) (0 ∷ 0 ∷ []) (refl, (refl, tt)))
+-- The same of an operation that says one thing.
+pub equals-refused : (says : Said) (size number place : ℕ) → Plain number → refusal number (place ∷ []) ≡ says
+    → Tells (λ x. x ≡ says) (placed number place (replicate size 0))
+equals-refused says = tells-refused (λ x. x ≡ says)
 
--- Fit counts.
-pub fit-told :
-    (template : List ℕ) (shape : ℕ) (counts : List ℕ) (number place : ℕ) →
-    FitSays template shape counts (refusal number (place ∷ [])) →
-    FitSays template shape counts (fitSaid (fitRefused number place)) × Zeros (fitRest (fitRefused number place))
-fit-told template shape counts number place e =
-    let h : Plain number = fit-said-plain template shape counts (refusal number (place ∷ [])) e in (
-      subst (λ (x : Said). FitSays template shape counts x) (sym (plain-said number place h (0 ∷ []))) e,
-      plain-rest number place h (place ∷ []) (0 ∷ []) (refl, tt),
-    )
+-- Zeros are the list of as many zeros.
+zeros-list : (xs : List ℕ) → Zeros xs → replicate (length xs) 0 ≡ xs
+zeros-list [] z = refl
+zeros-list (x ∷ xs) (z, zs) =
+    ap (λ (y : ℕ). y ∷ replicate (length xs) 0) (sym z) ∙ ap (λ (ys : List ℕ). x ∷ ys) (zeros-list xs zs)
 
--- Read a script.
-pub script-told :
-    (template script : List ℕ) (number place : ℕ) → refusal number (place ∷ []) ≡ scriptSays template script →
-    (scriptSaid (scriptRefused number place) ≡ scriptSays template script)
-    × Zeros (scriptRest (scriptRefused number place))
-script-told template script number place e =
-    let h : Plain number = subst PlainSaid (sym e) (script-said-plain template script) in
-    (plain-said number place h (0 ∷ 0 ∷ []) ∙ e, plain-rest number place h (place ∷ []) (0 ∷ 0 ∷ []) (refl, (refl, tt)))
+-- The numbers, so many of them values, that say something.
+abbrev numbersOf : ℕ → Said → Numbers
+numbersOf size (values found) = valued found
+numbersOf size (refusal number place) =
+    record {
+      number = number;
+      place = cond (isPaired number) 0 (getD place 0 0);
+      card = cond (isPaired number) (getD place 0 0) 0;
+      shape = cond (isPaired number) (getD place 1 0) 0;
+      found = replicate size 0;
+    }
 
--- Largest.
-pub largest-told :
-    (template script before after : List ℕ) (number place : ℕ) →
-    LargestSays template script before after (refusal number (place ∷ [])) →
-    LargestSays template script before after (largestSaid (largestRefused number place))
-    × Zeros (largestRest (largestRefused number place))
-largest-told template script before after number place e =
-    let h : Plain number = largest-said-plain template script before after (refusal number (place ∷ [])) e in (
-      subst (λ (x : Said). LargestSays template script before after x)
-          (sym (plain-said number place h (0 ∷ 0 ∷ 0 ∷ []))) e,
-      plain-rest number place h (place ∷ []) (0 ∷ 0 ∷ 0 ∷ []) (refl, (refl, (refl, tt))),
-    )
+again-by :
+    (number place card shape : ℕ) (found : List ℕ) (b c : Bool) → eqb number 0 ≡ b → isPaired number ≡ c →
+    Zeros
+    (cond b (place ∷ card ∷ shape ∷ []) (cond c (place ∷ found) (card ∷ shape ∷ found))) →
+    numbersOf (length found)
+    (cond b (values found) (refusal number (cond c (card ∷ shape ∷ []) (place ∷ []))))
+    ≡ record { number = number; place = place; card = card; shape = shape; found = found }
+again-by number place card shape found true c t u z = rw (eqb-true number 0 t, z .0, z .1 .0, z .1 .1 .0)
+again-by number place card shape found false true t u z = rw (u, z .0, zeros-list found (z .1))
+again-by number place card shape found false false t u z =
+    rw (u, z .0, z .1 .0, zeros-list found (z .1 .1))
 
--- Smallest, of a refusal other than 50.
-pub smallest-told :
-    (template script bookings before after : List ℕ) (number place : ℕ) →
-    SmallestSays template script bookings before after (refusal number (place ∷ [])) →
-    SmallestSays template script bookings before after (smallestSaid (smallestRefused number place))
-    × Zeros (smallestRest (smallestRefused number place))
-smallest-told template script bookings before after number place e =
-    let h : Plain number = smallest-said-plain template script bookings before after (refusal number (place ∷ [])) e in (
-      subst (λ (x : Said). SmallestSays template script bookings before after x) (sym (smallest-said number place h)) e,
-      plain-rest number place h (place ∷ 0 ∷ 0 ∷ []) _
-          (subst Zeros (sym (not-50 number place h (place ∷ 0 ∷ []) (0 ∷ 0 ∷ 0 ∷ []))) (refl, (refl, (refl, tt)))),
-    )
+numbers-again : (a : Numbers) → Zeros (unsaid a) → numbersOf (length (a .found)) (said a) ≡ a
+numbers-again a z =
+    again-by (a .number) (a .place) (a .card) (a .shape) (a .found) (eqb (a .number) 0) (isPaired (a .number))
+    refl refl z
 
--- Both typings, of a refusal other than 50.
-pub both-told :
-    (template script bookings : List ℕ) (before after : Grids) (number place : ℕ) →
-    BothSays template script bookings before after
-    (record { largest = refusal number (place ∷ []); smallest = refusal number (place ∷ []) }) →
-    BothSays template script bookings before after (bothSaid (bothRefused number place))
-    × Zeros (bothRest (bothRefused number place))
-both-told template script bookings before after number place e =
-    let h : Plain number = both-said-plain template script bookings before after _ e in (
-      subst (λ (x : BothSaid). BothSays template script bookings before after x) (sym (both-said number place h)) e,
-      plain-rest number place h (place ∷ 0 ∷ 0 ∷ []) _
-          (subst Zeros (sym (not-50 number place h (place ∷ 0 ∷ []) (0 ∷ 0 ∷ 0 ∷ 0 ∷ 0 ∷ 0 ∷ [])))
-          (refl, (refl, (refl, (refl, (refl, (refl, tt))))))),
-    )
+pub numbers-unique : (a b : Numbers) → length (a .found) ≡ length (b .found) → said a ≡ said b → Zeros (unsaid a)
+    → Zeros (unsaid b) → a ≡ b
+numbers-unique a b size e h k =
+    sym (numbers-again a h) ∙ ap (λ (n : ℕ). numbersOf n (said a)) size
+    ∙ ap (λ (s : Said). numbersOf (length (b .found)) s) e ∙ numbers-again b k
+
+-- The struct of both typings, of a refusal of both.
+module _ (Allowed : BothSaid → Type 0) where
+  pub both-refused : (number place : ℕ) → Plain number
+      → Allowed (record { largest = refusal number (place ∷ []); smallest = refusal number (place ∷ []) })
+      → TellsBoth Allowed (record {
+        number = number;
+        card = 0;
+        shape = 0;
+        place = place;
+        rounds = 0;
+        struck = 0;
+        bare = 0;
+        pairs = 0;
+      })
+  both-refused number place plain h = (
+    subst Allowed (sym (ap₂ (λ (x y : Said). record { largest = x; smallest = y }) large small)) h,
+    subst (λ (n : ℕ). Zeros (unsaid (placed n place (0 ∷ 0 ∷ 0 ∷ [])))) (sym same)
+        (plain-unsaid number place (0 ∷ 0 ∷ 0 ∷ []) plain (refl, (refl, (refl, tt)))),
+    plain-unsaid number place (0 ∷ []) plain (refl, tt),
+  )
+    where
+      same : cond (isPaired number) 0 number ≡ number
+      same = ap (λ (b : Bool). cond b 0 number) (plain .1)
+
+      large : said (placed (cond (isPaired number) 0 number) place (0 ∷ 0 ∷ 0 ∷ [])) ≡ refusal number (place ∷ [])
+      large = ap (λ (n : ℕ). said (placed n place (0 ∷ 0 ∷ 0 ∷ []))) same
+          ∙ plain-said number place (0 ∷ 0 ∷ 0 ∷ []) plain
+
+      small : said (placed number place (0 ∷ [])) ≡ refusal number (place ∷ [])
+      small = plain-said number place (0 ∷ []) plain

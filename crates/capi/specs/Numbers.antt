@@ -1,13 +1,15 @@
--- What the numbers of an answer say (document 01, "Operations"): number 0 is no refusal, and each other number is a
+-- What the numbers of an answer say (docs/FORMAT.md, "Operations"): number 0 is no refusal, and each other number is a
 -- refusal's. What an answer does not say is 0, so that no number is left to choice.
--- said, rest                      values or a refusal, by the number; and the numbers that then say nothing
--- Zeros                           a list of zeros
--- templateSaid, templateRest ..   what each struct says, and its numbers that say nothing
--- copied                          a buffer after words are copied to its start
+-- Numbers           a refusal's number, its place, its card and shape, and the values
+-- paired, isPaired  the refusals whose place is a card and a shape
+-- said, unsaid      what the numbers say, and those that then say nothing
+-- Zeros, Tells      a list of zeros; the numbers say something that holds, and the others are 0
+-- templateNumbers ..   the numbers of each struct
+-- copied            a buffer after words are copied to its start
 -- Assumes nothing.
-use mathlib.Core.Bool.{cond}
 use Prim.Native.Nat.{ℕ}
 use mathlib.Core.Path.{_≡_}
+use mathlib.Core.Bool.{Bool, false, _||_, cond}
 use mathlib.Core.List.{List, [], _∷_, _++_}
 use lib.ListN.{length, take, drop}
 use lib.Dec.{eqb}
@@ -20,80 +22,92 @@ use Rattle.capi.specs.declared.PrepLargest.{PrepLargest}
 use Rattle.capi.specs.declared.PrepSmallest.{PrepSmallest}
 use Rattle.capi.specs.declared.PrepBoth.{PrepBoth}
 
--- Of a number, the words of its place and the values: the values where the number is 0, else the refusal.
-abbrev pub said : ℕ → List ℕ → List ℕ → Said
-said number place found = cond (eqb number 0) (values found) (refusal number place)
+-- The numbers of an answer; a struct without a card and a shape has 0 for them.
+pub record Numbers : Type 0 where
+  pub number : ℕ
+  pub place : ℕ
+  pub card : ℕ
+  pub shape : ℕ
+  pub found : List ℕ
 
--- The numbers that say nothing: those of the place where the number is 0, else the values.
-abbrev pub rest : ℕ → List ℕ → List ℕ → List ℕ
-rest number place found = cond (eqb number 0) place found
+-- The refusals whose place is a card and a shape.
+abbrev pub paired : List ℕ
+paired = 50 ∷ []
+
+-- Whether a number is one of a list's.
+abbrev pub isIn : ℕ → List ℕ → Bool
+isIn n [] = false
+isIn n (x ∷ xs) = eqb n x || isIn n xs
+
+abbrev pub isPaired : ℕ → Bool
+isPaired n = isIn n paired
+
+-- The values where the number is 0; else the refusal, at its card and shape or at its place.
+abbrev pub said : Numbers → Said
+said r =
+    cond (eqb (r .number) 0) (values (r .found))
+    (refusal (r .number) (cond (isPaired (r .number)) (r .card ∷ r .shape ∷ []) (r .place ∷ [])))
+
+-- The numbers that then say nothing.
+abbrev pub unsaid : Numbers → List ℕ
+unsaid r =
+    cond (eqb (r .number) 0) (r .place ∷ r .card ∷ r .shape ∷ [])
+    (cond (isPaired (r .number)) (r .place ∷ r .found) (r .card ∷ r .shape ∷ r .found))
 
 -- Each number of the list is 0.
 abbrev pub Zeros : List ℕ → Type 0
 Zeros [] = Unit {0}
 Zeros (x ∷ xs) = (x ≡ 0) × Zeros xs
 
--- "Else L and S."
-abbrev pub templateSaid : PrepTemplate → Said
-templateSaid r = said (r .number) (r .place ∷ []) (r .kinds ∷ r .shapes ∷ [])
+-- What the numbers say is allowed, and the others are 0.
+abbrev pub Tells : (Said → Type 0) → Numbers → Type 0
+Tells Allowed r = Allowed (said r) × Zeros (unsaid r)
 
-abbrev pub templateRest : PrepTemplate → List ℕ
-templateRest r = rest (r .number) (r .place ∷ []) (r .kinds ∷ r .shapes ∷ [])
+-- The counts of kinds and of shapes.
+abbrev pub templateNumbers : PrepTemplate → Numbers
+templateNumbers r =
+    record { number = r .number; place = r .place; card = 0; shape = 0; found = r .kinds ∷ r .shapes ∷ [] }
 
--- "Else yes or no": 1 or 0.
-abbrev pub fitSaid : PrepFit → Said
-fitSaid r = said (r .number) (r .place ∷ []) (r .fits ∷ [])
+-- Whether the counts fit: 1 or 0.
+abbrev pub fitNumbers : PrepFit → Numbers
+fitNumbers r = record { number = r .number; place = r .place; card = 0; shape = 0; found = r .fits ∷ [] }
 
-abbrev pub fitRest : PrepFit → List ℕ
-fitRest r = rest (r .number) (r .place ∷ []) (r .fits ∷ [])
+-- The counts of cards and of links.
+abbrev pub scriptNumbers : PrepScript → Numbers
+scriptNumbers r =
+    record { number = r .number; place = r .place; card = 0; shape = 0; found = r .cards ∷ r .links ∷ [] }
 
--- "Else N and M."
-abbrev pub scriptSaid : PrepScript → Said
-scriptSaid r = said (r .number) (r .place ∷ []) (r .cards ∷ r .links ∷ [])
+-- Rounds, pairs struck, cards with no shape.
+abbrev pub largestNumbers : PrepLargest → Numbers
+largestNumbers r =
+    record { number = r .number; place = r .place; card = 0; shape = 0; found = r .rounds ∷ r .struck ∷ r .bare ∷ [] }
 
-abbrev pub scriptRest : PrepScript → List ℕ
-scriptRest r = rest (r .number) (r .place ∷ []) (r .cards ∷ r .links ∷ [])
+-- The number of pairs, or the card and shape of the pair that is not met.
+abbrev pub smallestNumbers : PrepSmallest → Numbers
+smallestNumbers r =
+    record { number = r .number; place = r .place; card = r .card; shape = r .shape; found = r .pairs ∷ [] }
+
+-- Of both typings, the smallest's numbers;
+abbrev pub smallPart : PrepBoth → Numbers
+smallPart r = record { number = r .number; place = r .place; card = r .card; shape = r .shape; found = r .pairs ∷ [] }
+
+-- and the largest's: bookings that are not met refuse the smallest only.
+abbrev pub largePart : PrepBoth → Numbers
+largePart r =
+    record {
+      number = cond (isPaired (r .number)) 0 (r .number);
+      place = r .place;
+      card = 0;
+      shape = 0;
+      found = r .rounds ∷ r .struck ∷ r .bare ∷ [];
+    }
+
+abbrev pub TellsBoth : (BothSaid → Type 0) → PrepBoth → Type 0
+TellsBoth Allowed r =
+    Allowed (record { largest = said (largePart r); smallest = said (smallPart r) })
+    × Zeros (unsaid (largePart r))
+    × Zeros (unsaid (smallPart r))
 
 -- The buffer's own words stay where there are no words for them.
 abbrev pub copied : List ℕ → List ℕ → List ℕ
 copied words buffer = take (length buffer) words ++ drop (length words) buffer
-
--- "Answer: rounds, pairs struck, cards with no shape."
-abbrev pub largestSaid : PrepLargest → Said
-largestSaid r = said (r .number) (r .place ∷ []) (r .rounds ∷ r .struck ∷ r .bare ∷ [])
-
-abbrev pub largestRest : PrepLargest → List ℕ
-largestRest r = rest (r .number) (r .place ∷ []) (r .rounds ∷ r .struck ∷ r .bare ∷ [])
-
--- "The answer its number of pairs; else 50", which "has a card and a shape for its place".
-abbrev pub smallestSaid : PrepSmallest → Said
-smallestSaid r =
-    said (r .number)
-    (cond (eqb (r .number) 50) (r .card ∷ r .shape ∷ []) (r .place ∷ []))
-    (r .pairs ∷ [])
-
-abbrev pub smallestRest : PrepSmallest → List ℕ
-smallestRest r =
-    rest (r .number)
-    (r .place ∷ r .card ∷ r .shape ∷ [])
-    (cond (eqb (r .number) 50) (r .place ∷ r .pairs ∷ []) (r .card ∷ r .shape ∷ r .pairs ∷ []))
-
--- With 50 the largest typing has its numbers; another refusal is said of both.
-abbrev pub bothSaid : PrepBoth → BothSaid
-bothSaid r =
-    record {
-      largest =
-          said (cond (eqb (r .number) 50) 0 (r .number)) (r .place ∷ []) (r .rounds ∷ r .struck ∷ r .bare ∷ []);
-      smallest =
-          said (r .number)
-          (cond (eqb (r .number) 50) (r .card ∷ r .shape ∷ []) (r .place ∷ []))
-          (r .pairs ∷ []);
-    }
-
-abbrev pub bothRest : PrepBoth → List ℕ
-bothRest r =
-    rest (r .number)
-    (r .place ∷ r .card ∷ r .shape ∷ [])
-    (cond (eqb (r .number) 50)
-    (r .place ∷ r .pairs ∷ [])
-    (r .card ∷ r .shape ∷ r .rounds ∷ r .struck ∷ r .bare ∷ r .pairs ∷ []))

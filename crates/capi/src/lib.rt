@@ -6,9 +6,8 @@ ghost use Rattle.template.specs.Template.{templateSays};
 ghost use Rattle.counts.specs.Fit.{FitSays};
 ghost use Rattle.script.specs.Script.{scriptSays, cardLinks};
 ghost use Rattle.typing.specs.Calls.{LargestSays, SmallestSays, BothSays};
-ghost use Rattle.capi.specs.Numbers.{Zeros, copied, templateSaid, templateRest, fitSaid, fitRest, scriptSaid};
-ghost use Rattle.capi.specs.Numbers.{scriptRest, largestSaid, largestRest, smallestSaid, smallestRest};
-ghost use Rattle.capi.specs.Numbers.{bothSaid, bothRest};
+ghost use Rattle.capi.specs.Numbers.{Tells, TellsBoth, templateNumbers, fitNumbers, scriptNumbers};
+ghost use Rattle.capi.specs.Numbers.{largestNumbers, smallestNumbers, copied};
 use calls::both_typings;
 use calls::largest;
 use calls::smallest;
@@ -87,8 +86,7 @@ pub struct PrepBoth {
 // Read a template.
 #[no_mangle]
 pub extern "C" fn prep_read_template(template: &[u16]) -> PrepTemplate
-    ensures says { λ r. ⌜ templateSaid r ≡ templateSays (now (template .entry)) ⌝ }
-    ensures rest { λ r. ⌜ Zeros (templateRest r) ⌝ }
+    ensures { λ r. ⌜ Tells (λ said. said ≡ templateSays (now (template .entry))) (templateNumbers r) ⌝ }
 {
     let answer = read_template(template);
     match answer {
@@ -110,8 +108,7 @@ pub extern "C" fn prep_read_template(template: &[u16]) -> PrepTemplate
 // Fit counts.
 #[no_mangle]
 pub extern "C" fn prep_fit_counts(template: &[u16], shape: u16, counts: &[u16]) -> PrepFit
-    ensures says { λ r. ⌜ FitSays (now (template .entry)) shape (now (counts .entry)) (fitSaid r) ⌝ }
-    ensures rest { λ r. ⌜ Zeros (fitRest r) ⌝ }
+    ensures { λ r. ⌜ Tells (FitSays (now (template .entry)) shape (now (counts .entry))) (fitNumbers r) ⌝ }
 {
     let answer = fit_counts(template, Shape(shape), counts);
     match answer {
@@ -136,8 +133,8 @@ pub extern "C" fn prep_fit_counts(template: &[u16], shape: u16, counts: &[u16]) 
 // Read a script.
 #[no_mangle]
 pub extern "C" fn prep_read_script(template: &[u16], script: &[u16]) -> PrepScript
-    ensures says { λ r. ⌜ scriptSaid r ≡ scriptSays (now (template .entry)) (now (script .entry)) ⌝ }
-    ensures rest { λ r. ⌜ Zeros (scriptRest r) ⌝ }
+    ensures { λ r. ⌜ Tells (λ said. said ≡ scriptSays (now (template .entry)) (now (script .entry)))
+        (scriptNumbers r) ⌝ }
 {
     let answer = read_script(template, script);
     match answer {
@@ -190,9 +187,8 @@ pub extern "C" fn prep_links_of_card(
 // Largest.
 #[no_mangle]
 pub extern "C" fn prep_largest(template: &[u16], script: &[u16], grid: &mut [u8]) -> PrepLargest
-    ensures says { λ r. ⌜ LargestSays (now (template .entry)) (now (script .entry))
-        (now (grid .entry)) (now (grid .exit)) (largestSaid r) ⌝ }
-    ensures rest { λ r. ⌜ Zeros (largestRest r) ⌝ }
+    ensures { λ r. ⌜ Tells (LargestSays (now (template .entry)) (now (script .entry)) (now (grid .entry))
+        (now (grid .exit))) (largestNumbers r) ⌝ }
 {
     let answer = largest(template, script, grid);
     match answer {
@@ -221,9 +217,8 @@ pub extern "C" fn prep_smallest(
     bookings: &[u16],
     grid: &mut [u8],
 ) -> PrepSmallest
-    ensures says { λ r. ⌜ SmallestSays (now (template .entry)) (now (script .entry)) (now (bookings .entry))
-        (now (grid .entry)) (now (grid .exit)) (smallestSaid r) ⌝ }
-    ensures rest { λ r. ⌜ Zeros (smallestRest r) ⌝ }
+    ensures { λ r. ⌜ Tells (SmallestSays (now (template .entry)) (now (script .entry)) (now (bookings .entry))
+        (now (grid .entry)) (now (grid .exit))) (smallestNumbers r) ⌝ }
 {
     let answer = smallest(template, script, bookings, grid);
     match answer {
@@ -260,10 +255,9 @@ pub extern "C" fn prep_both_typings(
     small: &mut [u8],
     large: &mut [u8],
 ) -> PrepBoth
-    ensures says { λ r. ⌜ BothSays (now (template .entry)) (now (script .entry)) (now (bookings .entry))
+    ensures { λ r. ⌜ TellsBoth (BothSays (now (template .entry)) (now (script .entry)) (now (bookings .entry))
         (record { small = now (small .entry); large = now (large .entry) })
-        (record { small = now (small .exit); large = now (large .exit) }) (bothSaid r) ⌝ }
-    ensures rest { λ r. ⌜ Zeros (bothRest r) ⌝ }
+        (record { small = now (small .exit); large = now (large .exit) })) r ⌝ }
 {
     let answer = both_typings(template, script, bookings, small, large);
     match answer {

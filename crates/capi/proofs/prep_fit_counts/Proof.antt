@@ -1,10 +1,8 @@
--- `capi::prep_fit_counts` tells what fitting counts says. Assumes nothing.
-use mathlib.Core.Path.{refl, subst}
-use denote.Ref.{now}
-use Rattle.counts.specs.declared.FitAnswer.{FitAnswer}
+-- `capi::prep_fit_counts` tells what "Fit counts" says. Assumes nothing.
 use Rattle.counts.specs.Answer.{fitSaid}
 use Rattle.counts.specs.Fit.{FitSays}
-use Rattle.capi.proofs.Told.{fit-told}
+use Rattle.capi.proofs.Told.{said-by, tells-found, tells-refused}
+use Rattle.capi.proofs.Refusals.{fit-plain}
 use borrow.Author.Needs.{needs}
 use Rattle.capi.proofs.prep_fit_counts.Statement.{statement}
 use Rattle.capi.proofs.prep_fit_counts.Tie as tie
@@ -23,26 +21,16 @@ enum-known-answer c = search needs
 
 returns : tie.Need-returns
 returns c =
-    let s = c .before .before .before .before .before in (
-      subst (λ (a : FitAnswer). FitSays (now (s .args .template)) (s .args .shape) (now (s .args .counts)) (fitSaid a))
-          (c .enum-told .given .1) (c .before .before .fit-counts .ensures),
-      (refl, tt),
-    )
+    tells-found (FitSays _ _ _) _ (said-by (FitSays _ _ _) fitSaid (c .enum-told .given .1) (c .before .before .fit-counts .ensures))
 
 returns-2 : tie.Need-returns-2
 returns-2 c =
-    let s = c .before .before .before .before .before in (
-      subst (λ (a : FitAnswer). FitSays (now (s .args .template)) (s .args .shape) (now (s .args .counts)) (fitSaid a))
-          (c .enum-told2 .given .1) (c .before .before .fit-counts .ensures),
-      (refl, tt),
-    )
+    tells-found (FitSays _ _ _) _ (said-by (FitSays _ _ _) fitSaid (c .enum-told2 .given .1) (c .before .before .fit-counts .ensures))
 
 returns-3 : tie.Need-returns-3
 returns-3 c =
-    let s = c .before .before .before .before .before .before in
-    fit-told (now (s .args .template)) (s .args .shape) (now (s .args .counts)) _ _
-    (subst (λ (a : FitAnswer). FitSays (now (s .args .template)) (s .args .shape) (now (s .args .counts)) (fitSaid a))
-    (c .before .answer .given .1) (c .before .before .before .fit-counts .ensures))
+    let says = said-by (FitSays _ _ _) fitSaid (c .before .answer .given .1) (c .before .before .before .fit-counts .ensures) in
+    tells-refused (FitSays _ _ _) 1 _ _ (fit-plain _ _ _ _ _ says) says
 
 pub prep-fit-counts-spec : {M : Type 1} → statement M
 prep-fit-counts-spec =
