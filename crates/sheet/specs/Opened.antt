@@ -1,11 +1,14 @@
 -- What reading a template and a script leaves behind; no part of a promise.
 -- Opened    both files are read; TableOf: the table of names is the template's
 -- ReadAs    what reading the two finds: opened, or the first refusal
+-- Known     what a step on a sheet that is read asks: both files, the table of names, and its room
 -- Shaped    a template that is read, and how many shapes it has
 -- Assumes nothing.
 use Prim.Native.Nat.{ℕ}
 use mathlib.Core.Path.{_≡_}
 use mathlib.Core.List.{List}
+use lib.ListN.{length}
+use Rattle.words.specs.Limits.{tableSize}
 use Rattle.bags.specs.Part.{Part}
 use Rattle.bags.specs.Interval as interval
 use Rattle.template.specs.Template.{TemplateReading, readTemplate, Tabled}
@@ -26,6 +29,12 @@ abbrev pub TableOf : List ℕ → List ℕ → Type 0
 TableOf template names =
     (kinds shapes : ℕ) (parts : List Part) → readTemplate template ≡ TemplateReading.accepted kinds shapes parts
     → Tabled parts names
+
+-- What a step on a sheet that is read asks: both files are read, and the table of names is the template's, in full.
+pub record Known (template script names : List ℕ) (e : Extent) : Type 0 where
+  pub opened : Opened template script e
+  pub table : TableOf template names
+  pub room : length names ≡ tableSize
 
 -- What reading the two files finds.
 abbrev pub ReadAs : List ℕ → List ℕ → SheetRead → Type 0
