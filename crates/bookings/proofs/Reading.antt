@@ -6,6 +6,7 @@
 -- Assumes nothing.
 use Prim.Native.Nat.{ℕ, zero, suc, _+_, _-_, _*_, _≤_, _<_}
 use mathlib.Core.Path.{_≡_, refl}
+use mathlib.Core.Bool.{not}
 use mathlib.Core.List.{List}
 use native.Mathlib.Omega.{arith}
 use native.Mathlib.Numerals.{add-one}
@@ -14,8 +15,7 @@ use lib.Dec.{ltb, leb, eqb}
 use borrow.Author.Tests.{le-leb, lt-leb, lt-ltb, le-ltb, eq-eqb, ne-eqb}
 use Rattle.words.specs.Limits.{maxBookings}
 use Rattle.words.specs.Reading.{Reading, accepted, turnedDown}
-use Rattle.words.proofs.Bools.{bool-case}
-use Rattle.words.proofs.Readings.{Numbered}
+use Rattle.words.proofs.Readings.{Numbered, refuse-numbered}
 use Rattle.bookings.specs.Bookings.{cardIndex, shapeIndex, cardAt, shapeAt, readPairs, readBookings}
 use Rattle.bookings.specs.Steps.{Sized}
 
@@ -86,15 +86,15 @@ module _ (cards shapes : ℕ) (bookings : List ℕ) where
   unfolding readPairs
   pairs-numbers zero i done h = h
   pairs-numbers (suc n) i done h =
-      bool-case (leb cards (cardAt bookings i)) (λ t. rw t (omega arith, omega arith)) (λ f. rw f
-      (bool-case (leb shapes (shapeAt bookings i)) (λ t. rw t (omega arith, omega arith)) (λ f. rw f
-      (pairs-numbers n (suc i) done h))))
+      refuse-numbered BookingNumber 32 (cardIndex i) (leb cards (cardAt bookings i)) _ (omega arith, omega arith)
+      (refuse-numbered BookingNumber 33 (shapeIndex i) (leb shapes (shapeAt bookings i)) _ (omega arith, omega arith)
+      (pairs-numbers n (suc i) done h))
 
   pub bookings-numbers : Numbered BookingNumber (readBookings cards shapes bookings)
   unfolding readBookings
   bookings-numbers =
-      bool-case (eqb (length bookings) 0) (λ t. rw t (omega arith, omega arith)) (λ f. rw f
-      (bool-case (ltb maxBookings (getD bookings 0 0)) (λ t. rw t (omega arith, omega arith)) (λ f. rw f
-      (bool-case (eqb (length bookings) (1 + 2 * getD bookings 0 0))
-      (λ t. rw t (pairs-numbers (getD bookings 0 0) 0 (accepted (getD bookings 0 0)) tt))
-      (λ f. rw f (omega arith, omega arith))))))
+      let size = eqb (length bookings) (1 + 2 * getD bookings 0 0) in
+      refuse-numbered BookingNumber 30 0 (eqb (length bookings) 0) _ (omega arith, omega arith)
+      (refuse-numbered BookingNumber 31 0 (ltb maxBookings (getD bookings 0 0)) _ (omega arith, omega arith)
+      (refuse-numbered BookingNumber 30 0 (not size) _ (omega arith, omega arith)
+      (pairs-numbers (getD bookings 0 0) 0 (accepted (getD bookings 0 0)) tt)))

@@ -14,8 +14,7 @@ use lib.Dec.{ltb}
 use borrow.Author.Tests.{lt-ltb, le-ltb}
 use Rattle.words.specs.Limits.{maxInput}
 use Rattle.words.specs.Reading.{Reading, accepted, turnedDown, refuse}
-use Rattle.words.proofs.Bools.{bool-case}
-use Rattle.words.proofs.Readings.{refused, Numbered}
+use Rattle.words.proofs.Readings.{refused, Numbered, refuse-numbered}
 use Rattle.input.specs.Input.{wordAt, wordsFrom, sectionEnd, sectionWords, scriptStart, bookingsStart, inputEnd}
 use Rattle.input.specs.Input.{Input, inputOf, readInput}
 
@@ -128,9 +127,9 @@ InputNumber number = number ≡ 60
 pub input-numbers : (bytes : List ℕ) → Numbered InputNumber (readInput bytes)
 unfolding readInput
 input-numbers bytes =
-    bool-case (ltb maxInput (length bytes)) (λ t. rw t refl) (λ f. rw f
-    (bool-case (ltb (length bytes) 2) (λ t. rw t refl) (λ f. rw f
-    (bool-case (ltb (length bytes) (scriptStart bytes + 2)) (λ t. rw t refl) (λ f. rw f
-    (bool-case (ltb (length bytes) (bookingsStart bytes + 2)) (λ t. rw t refl) (λ f. rw f
-    (bool-case (ltb (length bytes) (inputEnd bytes)) (λ t. rw t refl) (λ f. rw f
-    (bool-case (ltb (inputEnd bytes) (length bytes)) (λ t. rw t refl) (λ f. rw f tt)))))))))))
+    refuse-numbered InputNumber 60 0 (ltb maxInput (length bytes)) _ refl
+    (refuse-numbered InputNumber 60 0 (ltb (length bytes) 2) _ refl
+    (refuse-numbered InputNumber 60 0 (ltb (length bytes) (scriptStart bytes + 2)) _ refl
+    (refuse-numbered InputNumber 60 0 (ltb (length bytes) (bookingsStart bytes + 2)) _ refl
+    (refuse-numbered InputNumber 60 0 (ltb (length bytes) (inputEnd bytes)) _ refl
+    (refuse-numbered InputNumber 60 0 (ltb (inputEnd bytes) (length bytes)) _ refl tt)))))

@@ -18,8 +18,8 @@ use lib.Dec.{ltb, leb, eqb}
 use borrow.Author.Tests.{le-leb, lt-leb, lt-ltb, le-ltb, eq-eqb, ne-eqb, leb-false, ltb-false, eqb-true}
 use Rattle.words.specs.Limits.{maxCards, maxLinks}
 use Rattle.words.specs.Reading.{Reading, accepted, turnedDown}
-use Rattle.words.proofs.Bools.{never-both, is-true, not-of-false, bool-case}
-use Rattle.words.proofs.Readings.{accepted-same, passed, Numbered}
+use Rattle.words.proofs.Bools.{never-both, is-true, not-of-false}
+use Rattle.words.proofs.Readings.{accepted-same, passed, Numbered, refuse-numbered}
 use Rattle.script.specs.Link.{fromIndex, kindIndex, toIndex, fromAt, kindAt, toAt, above, Ascending}
 use Rattle.script.specs.declared.LinkTest.{LinkTest}
 use Rattle.script.specs.Script.{ScriptCounts, countsOf, readLinks, readScript}
@@ -123,22 +123,22 @@ links-numbers : (kinds cards : ℕ) (script : List ℕ) (n i : ℕ) (done : Read
 unfolding readLinks
 links-numbers kinds cards script zero i done h = h
 links-numbers kinds cards script (suc n) i done h =
-    bool-case (leb cards (fromAt script i)) (λ t. rw t (omega arith, omega arith)) (λ f. rw f
-    (bool-case (leb kinds (kindAt script i)) (λ t. rw t (omega arith, omega arith)) (λ f. rw f
-    (bool-case (leb cards (toAt script i)) (λ t. rw t (omega arith, omega arith)) (λ f. rw f
-    (bool-case (above script i) (λ t. rw t (links-numbers kinds cards script n (suc i) done h))
-    (λ f. rw f (omega arith, omega arith))))))))
+    refuse-numbered ScriptNumber 23 (fromIndex i) (leb cards (fromAt script i)) _ (omega arith, omega arith)
+    (refuse-numbered ScriptNumber 24 (kindIndex i) (leb kinds (kindAt script i)) _ (omega arith, omega arith)
+    (refuse-numbered ScriptNumber 23 (toIndex i) (leb cards (toAt script i)) _ (omega arith, omega arith)
+    (refuse-numbered ScriptNumber 25 (fromIndex i) (not (above script i)) _ (omega arith, omega arith)
+    (links-numbers kinds cards script n (suc i) done h))))
 
 pub script-numbers : (kinds : ℕ) (script : List ℕ) → Numbered ScriptNumber (readScript kinds script)
 unfolding readScript
 script-numbers kinds script =
     let counts = countsOf (getD script 0 0) (getD script 1 0) in
-    bool-case (ltb (length script) 2) (λ t. rw t (omega arith, omega arith)) (λ f. rw f
-    (bool-case (ltb maxCards (getD script 0 0)) (λ t. rw t (omega arith, omega arith)) (λ f. rw f
-    (bool-case (ltb maxLinks (getD script 1 0)) (λ t. rw t (omega arith, omega arith)) (λ f. rw f
-    (bool-case (eqb (length script) (2 + 3 * getD script 1 0))
-    (λ t. rw t (links-numbers kinds (counts .cards) script (counts .links) 0 (accepted counts) tt))
-    (λ f. rw f (omega arith, omega arith))))))))
+    let size = eqb (length script) (2 + 3 * getD script 1 0) in
+    refuse-numbered ScriptNumber 20 0 (ltb (length script) 2) _ (omega arith, omega arith)
+    (refuse-numbered ScriptNumber 21 0 (ltb maxCards (getD script 0 0)) _ (omega arith, omega arith)
+    (refuse-numbered ScriptNumber 22 1 (ltb maxLinks (getD script 1 0)) _ (omega arith, omega arith)
+    (refuse-numbered ScriptNumber 20 0 (not size) _ (omega arith, omega arith)
+    (links-numbers kinds (counts .cards) script (counts .links) 0 (accepted counts) tt))))
 
 -- What a link that passes its test has.
 record Passed (kinds cards : ℕ) (script : List ℕ) (i : ℕ) : Type 0 where

@@ -12,8 +12,8 @@ use lib.ListN.{length, getD}
 use lib.Dec.{ltb, leb, eqb}
 use Rattle.words.specs.Said.{Said}
 use Rattle.words.specs.Limits.{maxCards, maxLinks}
-use Rattle.words.specs.Reading.{Reading, accepted, turnedDown, refuse, saidOf}
-use Rattle.template.specs.Template.{TemplateReading, readTemplate}
+use Rattle.words.specs.Reading.{Reading, accepted, turnedDown, refuse, then, saidOf}
+use Rattle.template.specs.Template.{readTemplate}
 use Rattle.script.specs.Link.{fromIndex, kindIndex, toIndex, fromAt, kindAt, toAt, above, cardWords}
 
 -- How many cards and links a script has.
@@ -48,12 +48,8 @@ readScript kinds script =
     (accepted (countsOf (getD script 0 0) (getD script 1 0)))))))
 
 -- A script is read with a template: the template's refusals come first.
-abbrev pub withTemplate : TemplateReading → List ℕ → Reading ScriptCounts
-withTemplate (TemplateReading.accepted kinds shapes trees) script = readScript kinds script
-withTemplate (TemplateReading.turnedDown number place) script = turnedDown number place
-
 abbrev pub readWith : List ℕ → List ℕ → Reading ScriptCounts
-readWith template script = withTemplate (readTemplate template) script
+readWith template script = then (readTemplate template) (λ t. readScript (t .kinds) script)
 
 -- What is said of a script that is read: its counts.
 abbrev pub scriptValues : ScriptCounts → List ℕ
