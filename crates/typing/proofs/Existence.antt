@@ -29,10 +29,12 @@ use Rattle.typing.specs.declared.LargestAnswer.{LargestAnswer}
 use Rattle.typing.specs.declared.SmallestAnswer.{SmallestAnswer}
 use Rattle.typing.specs.declared.BothAnswer.{BothAnswer}
 use Rattle.sheet.specs.Sheet.{Sheet, partOf, place, size, readSheet}
-use Rattle.typing.specs.Answer.{largestSaid, smallestSaid, bothSaid}
+use Rattle.words.specs.Said.{Said}
+use Rattle.typing.specs.Answer.{BothSaid, largestSaid, smallestSaid, bothSaid}
 use Rattle.typing.specs.Calls.{Grids, LargestSays, SmallestSays, BothSays}
 use Rattle.typing.proofs.Represents.{Represents}
 use Rattle.typing.proofs.Unique.{Represented, largest-says-unique, smallest-says-unique, both-says-unique}
+use Rattle.typing.proofs.Unique.{largest-said-unique, smallest-said-unique, both-said-unique}
 use Rattle.sheet.proofs.Accepted.{SheetAccepted, sheet-read}
 use Rattle.typing.proofs.Instance.{FitsGrid, CountsOf, counts-all, fits-grid, represents}
 
@@ -117,19 +119,43 @@ represented template script s e = let (kinds, read, same) = sheet-read template 
 
 -- ---- the contracts leave no choice
 module _ (template script : List ℕ) where
+  -- of what is said
+  pub largest-one-answer : (before g h : List ℕ) (a b : Said)
+      → LargestSays template script before g a → LargestSays template script before h b → (a ≡ b) × (g ≡ h)
+  largest-one-answer = largest-says-unique template script (represented template script)
+
+  pub smallest-one-answer : (bookings before g h : List ℕ) (a b : Said)
+      → SmallestSays template script bookings before g a → SmallestSays template script bookings before h b
+      → (a ≡ b) × (g ≡ h)
+  smallest-one-answer = smallest-says-unique template script (represented template script)
+
+  pub both-one-answer : (bookings : List ℕ) (before g h : Grids) (a b : BothSaid)
+      → BothSays template script bookings before g a → BothSays template script bookings before h b
+      → (a ≡ b) × (g ≡ h)
+  both-one-answer = both-says-unique template script (represented template script)
+
+  -- and of the answers
   pub largest-no-choice : (before g h : List ℕ) (a b : LargestAnswer)
       → LargestSays template script before g (largestSaid a) → LargestSays template script before h (largestSaid b)
       → (a ≡ b) × (g ≡ h)
-  largest-no-choice = largest-says-unique template script (represented template script)
+  largest-no-choice before g h a b x y =
+      let (e, f) = largest-one-answer before g h (largestSaid a) (largestSaid b) x y in
+      (largest-said-unique a b e, f)
 
   pub smallest-no-choice : (bookings before g h : List ℕ) (a b : SmallestAnswer)
       → SmallestSays template script bookings before g (smallestSaid a)
       → SmallestSays template script bookings before h (smallestSaid b)
       → (a ≡ b) × (g ≡ h)
-  smallest-no-choice = smallest-says-unique template script (represented template script)
+  smallest-no-choice bookings before g h a b x y =
+      let (e, f) = smallest-one-answer bookings before g h (smallestSaid a) (smallestSaid b) x y in
+      (smallest-said-unique a b e, f)
 
   pub both-no-choice : (bookings : List ℕ) (before g h : Grids) (a b : BothAnswer)
       → BothSays template script bookings before g (bothSaid a)
       → BothSays template script bookings before h (bothSaid b)
       → (a ≡ b) × (g ≡ h)
-  both-no-choice = both-says-unique template script (represented template script)
+  both-no-choice bookings before g h a b x y =
+      let (e, f) = both-one-answer bookings before g h (bothSaid a) (bothSaid b) x y in
+      let large = ap (λ (x : BothSaid). x .largest) e in
+      let small = ap (λ (x : BothSaid). x .smallest) e in
+      (both-said-unique a b large small, f)

@@ -14,3 +14,4 @@ pub mod Unique
 pub mod Neighbours
 pub mod Instance
 pub mod Existence
+pub mod Numbers

@@ -32,10 +32,9 @@ use Rattle.bookings.specs.Bookings.{Booked}
 use Rattle.typing.specs.Smallest.{Accepted, TurnedDown}
 use Rattle.typing.specs.Demand3.{Outcome, pairs, notMet}
 use Rattle.typing.specs.Answer.{largestSaid, smallestSaid, BothSaid, bothSaid}
-use Rattle.typing.specs.Calls.{withBookings, withGrid, largestReading, smallestReading, bothReading}
-use Rattle.typing.specs.Calls.{Leaves, outcomeSaid, Grids, LargestFound}
-use Rattle.typing.specs.Calls.{LargestAnswered, LargestSays, SmallestFound, SmallestAnswered, SmallestSays}
-use Rattle.typing.specs.Calls.{BothFound, BothAnswered, BothSays}
+use Rattle.typing.specs.Calls.{withBookings, withGrid, largestReading, smallestReading, bothReading, Leaves}
+use Rattle.typing.specs.Calls.{outcomeSaid, Grids, LargestFound, LargestAnswered, LargestSays, SmallestFound}
+use Rattle.typing.specs.Calls.{SmallestAnswered, SmallestSays, BothFound, BothAnswered, BothSays}
 use Rattle.words.proofs.Places.{place-unique}
 use Rattle.typing.proofs.Represents.{Represents, Alike}
 use Rattle.typing.proofs.Largest.{largest-unique, bare-alike}
@@ -188,15 +187,17 @@ module _ (Wanted : ℕ → ℕ → Type 0) where
       let (l, m, e, f) = both-found-unique (sheets s refl .1) (inside s refl) x y in
       (l, m, grids-unique e f)
 
+saids-unique : {a b : BothSaid} → a .largest ≡ b .largest → a .smallest ≡ b .smallest → a ≡ b
+saids-unique {a} {b} e f =
+    ap (λ (x : Said). record { largest = x; smallest = a .smallest }) e
+    ∙ ap (λ (x : Said). record { largest = b .largest; smallest = x }) f
+
 module _ (template script : List ℕ) (sheets : Represented (readSheet template script)) where
-  pub largest-says-unique : (before g h : List ℕ) (a b : LargestAnswer)
-      → LargestSays template script before g (largestSaid a) → LargestSays template script before h (largestSaid b)
-      → (a ≡ b) × (g ≡ h)
+  pub largest-says-unique : (before g h : List ℕ) (a b : Said)
+      → LargestSays template script before g a → LargestSays template script before h b → (a ≡ b) × (g ≡ h)
   largest-says-unique before g h a b x y =
-      let (e, f) = largest-answered-unique (largestReading template script before)
-      (λ s r. sheets s (grid-asked before (readSheet template script) s r .0))
-      before g h (largestSaid a) (largestSaid b) x y in
-      (largest-said-unique a b e, f)
+      largest-answered-unique (largestReading template script before)
+      (λ s r. sheets s (grid-asked before (readSheet template script) s r .0)) before g h a b x y
 
   module _ (bookings : List ℕ) where
     -- template, script and bookings are read
@@ -209,25 +210,21 @@ module _ (template script : List ℕ) (sheets : Represented (readSheet template 
     listed-in : ListedIn listed (Booked bookings)
     listed-in s r = bookings-asked bookings (readSheet template script) s r .1
 
-    pub smallest-says-unique : (before g h : List ℕ) (a b : SmallestAnswer)
-        → SmallestSays template script bookings before g (smallestSaid a)
-        → SmallestSays template script bookings before h (smallestSaid b)
+    pub smallest-says-unique : (before g h : List ℕ) (a b : Said)
+        → SmallestSays template script bookings before g a → SmallestSays template script bookings before h b
         → (a ≡ b) × (g ≡ h)
     smallest-says-unique before g h a b x y =
-        let (e, f) = smallest-answered-unique (Booked bookings) (smallestReading template script bookings before)
+        smallest-answered-unique (Booked bookings) (smallestReading template script bookings before)
         (λ s r. listed-sheets s (grid-asked before listed s r .0))
-        (λ s r. listed-in s (grid-asked before listed s r .0)) before g h (smallestSaid a) (smallestSaid b) x y in
-        (smallest-said-unique a b e, f)
+        (λ s r. listed-in s (grid-asked before listed s r .0)) before g h a b x y
 
-    pub both-says-unique : (before g h : Grids) (a b : BothAnswer)
-        → BothSays template script bookings before g (bothSaid a)
-        → BothSays template script bookings before h (bothSaid b)
+    pub both-says-unique : (before g h : Grids) (a b : BothSaid)
+        → BothSays template script bookings before g a → BothSays template script bookings before h b
         → (a ≡ b) × (g ≡ h)
     both-says-unique before g h a b x y =
         let (l, m, f) = both-answered-unique (Booked bookings) (bothReading template script bookings before)
-        (λ s r. listed-sheets s (asked s r)) (λ s r. listed-in s (asked s r))
-        before g h (bothSaid a) (bothSaid b) x y in
-        (both-said-unique a b l m, f)
+        (λ s r. listed-sheets s (asked s r)) (λ s r. listed-in s (asked s r)) before g h a b x y in
+        (saids-unique l m, f)
       where
         asked : (s : Sheet) → bothReading template script bookings before ≡ accepted s → listed ≡ accepted s
         asked s r =

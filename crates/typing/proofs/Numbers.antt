@@ -1,0 +1,57 @@
+-- Which numbers the calls refuse with at one place: the template's, the script's, the bookings' and 40.
+--   LargestNumber, largest-numbers      of the call for the largest
+--   SmallestNumber, smallest-numbers, both-numbers   of the calls for the smallest and for both
+-- Assumes nothing.
+use Prim.Native.Nat.{ℕ}
+use mathlib.Core.Path.{_≡_, refl}
+use mathlib.Core.Logic.{_⊎_, inl, inr}
+use mathlib.Core.Bool.{not}
+use mathlib.Core.List.{List}
+use lib.ListN.{length}
+use lib.Dec.{eqb}
+use Rattle.words.specs.Reading.{Reading, accepted, then}
+use Rattle.words.proofs.Readings.{Numbered, refuse-numbered, then-numbered, mapped-numbered, numbered-map}
+use Rattle.sheet.specs.Sheet.{Sheet, size, readSheet}
+use Rattle.sheet.proofs.Accepted.{SheetNumber, sheet-numbers}
+use Rattle.bookings.specs.Bookings.{readBookings}
+use Rattle.bookings.proofs.Reading.{BookingNumber, bookings-numbers}
+use Rattle.typing.specs.Calls.{withBookings, withGrid, largestReading, smallestReading, Grids, bothReading}
+
+abbrev pub LargestNumber : ℕ → Type 0
+LargestNumber n = SheetNumber n ⊎ (n ≡ 40)
+
+abbrev pub SmallestNumber : ℕ → Type 0
+SmallestNumber n = LargestNumber n ⊎ BookingNumber n
+
+-- The refusal of a grid.
+module _ (Number : ℕ → Type 0) (forty : Number 40) where
+  grid-numbers : (grid : List ℕ) (r : Reading Sheet) → Numbered Number r → Numbered Number (then r (withGrid grid))
+  grid-numbers grid r h =
+      then-numbered Number r (withGrid grid) h
+      (λ s. refuse-numbered Number 40 0 (not (eqb (length grid) (size s))) (accepted s) forty tt)
+
+module _ (template script : List ℕ) where
+  pub largest-numbers : (grid : List ℕ) → Numbered LargestNumber (largestReading template script grid)
+  largest-numbers grid =
+      grid-numbers LargestNumber (inr refl) grid (readSheet template script)
+      (numbered-map SheetNumber LargestNumber (readSheet template script) (λ n h. inl h) (sheet-numbers template script))
+
+  module _ (bookings : List ℕ) where
+    list-numbers : Numbered SmallestNumber (then (readSheet template script) (withBookings bookings))
+    list-numbers =
+        then-numbered SmallestNumber (readSheet template script) (withBookings bookings)
+        (numbered-map SheetNumber SmallestNumber (readSheet template script) (λ n h. inl (inl h))
+        (sheet-numbers template script))
+        (λ s. mapped-numbered SmallestNumber (λ count. s) (readBookings (s .cards) (s .shapes) bookings)
+        (numbered-map BookingNumber SmallestNumber (readBookings (s .cards) (s .shapes) bookings) (λ n h. inr h)
+        (bookings-numbers (s .cards) (s .shapes) bookings)))
+
+    pub smallest-numbers : (grid : List ℕ) → Numbered SmallestNumber (smallestReading template script bookings grid)
+    smallest-numbers grid =
+        grid-numbers SmallestNumber (inl (inr refl)) grid (then (readSheet template script) (withBookings bookings))
+        list-numbers
+
+    pub both-numbers : (grids : Grids) → Numbered SmallestNumber (bothReading template script bookings grids)
+    both-numbers grids =
+        grid-numbers SmallestNumber (inl (inr refl)) (grids .large)
+        (smallestReading template script bookings (grids .small)) (smallest-numbers (grids .small))
