@@ -15,7 +15,6 @@ use lib.Dec.{eqb}
 use borrow.Author.Tests.{eqb-true, ne-eqb}
 use Rattle.words.specs.Said.{Said, values, refusal}
 use Rattle.typing.specs.Answer.{BothSaid}
-use Rattle.capi.specs.declared.PrepBoth.{PrepBoth}
 use Rattle.capi.specs.Numbers.{Numbers, isPaired, said, unsaid, Zeros, Tells, TellsBoth}
 
 -- What holds of what an answer says, by the case that the answer is.

@@ -3,7 +3,7 @@
 -- fits-asks                           what `fits` asks, for a shape of an accepted template and its row of names
 -- fit-…                               the answer at each return, with what leads there as premises
 -- fit-said-unique                     what an answer says tells the answer
--- fit-answer-unique                   two answers that the contract allows are equal
+-- fit-one-answer, fit-answer-unique   two answers that the contract allows are equal
 -- Assumes nothing.
 use mathlib.Core.Path.{_≡_, refl, sym, _∙_, ap}
 use mathlib.Core.Bool.{Bool, true, false, true≢false}
@@ -160,9 +160,14 @@ answers-unique (accepted question) x y (inl p) (inr q) = absurd (q .0 (p .0))
 answers-unique (accepted question) x y (inr p) (inl q) = absurd (p .0 (q .0))
 answers-unique (accepted question) x y (inr p) (inr q) = p .1 ∙ sym (q .1)
 
--- The contract leaves no choice.
+-- The contract leaves no choice, of what is said and of the answers.
+pub fit-one-answer :
+    (words : List ℕ) (shape : ℕ) (counts : List ℕ) (x y : Said) → FitSays words shape counts x →
+    FitSays words shape counts y → x ≡ y
+fit-one-answer words shape counts x y p q = answers-unique (fitQuestion words shape counts) x y p q
+
 pub fit-answer-unique :
     (words : List ℕ) (shape : ℕ) (counts : List ℕ) (a b : FitAnswer) → FitSays words shape counts (fitSaid a) →
     FitSays words shape counts (fitSaid b) → a ≡ b
 fit-answer-unique words shape counts a b p q =
-    fit-said-unique a b (answers-unique (fitQuestion words shape counts) (fitSaid a) (fitSaid b) p q)
+    fit-said-unique a b (fit-one-answer words shape counts (fitSaid a) (fitSaid b) p q)
