@@ -20,8 +20,8 @@ use native.Mathlib.Nat.{not-suc-le-zero}
 use native.Mathlib.Decide.{ℕ-discrete}
 use Rattle.bags.specs.Part.{Limit, at-most, Part, nothing, star, plus, optional, choice, all, link}
 use Rattle.bags.specs.Part.{Parts, none, more, ShapesBelow, RunShapesBelow}
-use Rattle.bags.specs.Bag.{Bag, ∅, _⊕_, copies, Language, NoBag, EmptyBag, Union, Sums, Power, Star, Under, Copies}
-use Rattle.bags.specs.Bag.{Bags, BagsOfOne, BagsOfEach, total, Fits}
+use Rattle.bags.specs.Bag.{Bag, ∅, _⊕_, copies, Language, NoBag, EmptyBag, Union, Sums, Power, Star, Under}
+use Rattle.bags.specs.Bag.{Copies, Bags, BagsOfOne, BagsOfEach, total, Fits}
 use Rattle.bags.specs.Choice.{Neighbour, to, Chosen, Met}
 use Rattle.bags.proofs.Powers.{at-point, bag-ext, power-map}
 use Rattle.bags.proofs.Copies.{power-copies, copies-power}
