@@ -56,8 +56,8 @@ module _ (kinds cards : ℕ) (script : List ℕ) (n i : ℕ) (done : Reading Scr
         rw (lt-leb cards (fromAt script i) f, lt-leb kinds (kindAt script i) k, lt-leb cards (toAt script i) t, e) refl
 
 -- The links from link i on, where some are left: what the code's test of link i makes of them.
-module _ (kinds cards : ℕ) (script : List ℕ) (count i : ℕ) (done : Reading ScriptCounts) (test : LinkTest) (l : i < count)
-    (tested : (n : ℕ) (rest : Reading ScriptCounts) →
+module _ (kinds cards : ℕ) (script : List ℕ) (count i : ℕ) (done : Reading ScriptCounts) (test : LinkTest)
+    (l : i < count) (tested : (n : ℕ) (rest : Reading ScriptCounts) →
     readLinks kinds cards script (suc n) i rest ≡ afterLink test (readLinks kinds cards script n (suc i) rest))
   where
     links-tested : readLinks kinds cards script (count - i) i done
@@ -95,24 +95,28 @@ module _ (kinds : ℕ) (script : List ℕ) where
       pub script-links : maxLinks < getD script 1 0 → readScript kinds script ≡ turnedDown 22 1
       unfolding readScript
       script-links h =
-          rw (le-ltb (length script) 2 two, le-ltb maxCards (getD script 0 0) n, lt-ltb maxLinks (getD script 1 0) h) refl
+          let few = le-ltb maxCards (getD script 0 0) n in
+          rw (le-ltb (length script) 2 two, few, lt-ltb maxLinks (getD script 1 0) h) refl
 
       module _ (m : getD script 1 0 ≤ maxLinks) where
         pub script-size : (length script ≡ 2 + 3 * getD script 1 0 → ⊥) → readScript kinds script ≡ turnedDown 20 0
         unfolding readScript
         script-size h =
+            let cards = le-ltb maxCards (getD script 0 0) n in
+            let links = le-ltb maxLinks (getD script 1 0) m in
             let size = ne-eqb (length script) (2 + 3 * getD script 1 0) h in
-            rw (le-ltb (length script) 2 two, le-ltb maxCards (getD script 0 0) n, le-ltb maxLinks (getD script 1 0) m, size)
-            refl
+            rw (le-ltb (length script) 2 two, cards, links, size) refl
 
         pub script-links-read : length script ≡ 2 + 3 * getD script 1 0
             → readScript kinds script
-            ≡ readLinks kinds (getD script 0 0) script (getD script 1 0) 0 (accepted (countsOf (getD script 0 0) (getD script 1 0)))
+            ≡ readLinks kinds (getD script 0 0) script (getD script 1 0) 0
+            (accepted (countsOf (getD script 0 0) (getD script 1 0)))
         unfolding readScript
         script-links-read h =
+            let cards = le-ltb maxCards (getD script 0 0) n in
+            let links = le-ltb maxLinks (getD script 1 0) m in
             let size = eq-eqb (length script) (2 + 3 * getD script 1 0) h in
-            rw (le-ltb (length script) 2 two, le-ltb maxCards (getD script 0 0) n, le-ltb maxLinks (getD script 1 0) m, size)
-            refl
+            rw (le-ltb (length script) 2 two, cards, links, size) refl
 
 -- The numbers that a script is refused with.
 abbrev pub ScriptNumber : ℕ → Type 0

@@ -1,6 +1,7 @@
 -- What a sheet that is read has.
 --   SheetNumber, sheet-numbers   a sheet is refused with the template's numbers and the script's
 --   SheetAccepted                a sheet whose template and script are read
+--   mapped-accepted              what was made from what is read
 --   sheet-asked, sheet-made      the sheet of a template and a script that are read
 --   sheet-read                   a sheet that is read is of such
 -- Assumes nothing.
@@ -49,7 +50,7 @@ module _ (words list : List ℕ) (t : Template) (c : ScriptCounts)
     links = script.script-accepted (t .kinds) list c second;
   }
 
-mapped-accepted : {A B : Type 0} (f : A → B) (r : Reading A) (b : B) → mapped f r ≡ accepted b
+pub mapped-accepted : {A B : Type 0} (f : A → B) (r : Reading A) (b : B) → mapped f r ≡ accepted b
     → (a : A) × (r ≡ accepted a) × (f a ≡ b)
 mapped-accepted f (accepted a) b e = (a, refl, accepted-same e)
 mapped-accepted f (turnedDown number place) b e = accepted-turned (sym e)
