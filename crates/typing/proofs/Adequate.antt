@@ -12,9 +12,10 @@ use native.Mathlib.Omega.{arith}
 use Rattle.board.specs.Board.{Board}
 use Rattle.board.specs.Grid.{tally}
 use Rattle.board.proofs.Tally.{tally-none, tally-pos}
+use Rattle.words.specs.Reading.{accepted}
 use Rattle.words.proofs.Bools.{never-both, true-or-false, and-first, and-second, and-both, false-of-not}
 use Rattle.words.proofs.Bools.{not-of-false, is-false}
-use Rattle.sheet.specs.Sheet.{Sheet, ask, place, size, readSheet}
+use Rattle.sheet.specs.Sheet.{Sheet, place, size, readSheet}
 use Rattle.typing.specs.Typing.{Pairs, Met, Sound}
 use Rattle.typing.specs.Largest.{Round, gone}
 use Rattle.typing.proofs.Represents.{Represents, Alike, pair-in, each-place}
@@ -63,7 +64,7 @@ module _ {s : Sheet} {B : Board} (rep : Represents s B) where
         (false-of-not (and-second (X p) (not (Y p)) e))))
 
 -- ---- for every sheet that is read
-module _ (template script : List ℕ) (s : Sheet) (read : readSheet template script ≡ ask s) where
+module _ (template script : List ℕ) (s : Sheet) (read : readSheet template script ≡ accepted s) where
   pub met-decided : (X : Pairs) (n t : ℕ) → n < s .cards → t < s .shapes → Met s X n t ⊎ (Met s X n t → ⊥)
   met-decided = decided (represented template script s read .1)
 

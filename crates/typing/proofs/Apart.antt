@@ -8,10 +8,11 @@ use mathlib.Core.Path.{_≡_, sym, _∙_}
 use mathlib.Core.List.{List, [], _∷_}
 use Rattle.words.specs.Said.{Said, values}
 use Rattle.bookings.specs.Bookings.{Booked}
-use Rattle.sheet.specs.Sheet.{Sheet, ask, readSheet}
+use Rattle.words.specs.Reading.{accepted, then}
+use Rattle.sheet.specs.Sheet.{Sheet, readSheet}
 use Rattle.typing.specs.Demand3.{Outcome, pairs, notMet, Demand3}
-use Rattle.typing.specs.Calls.{withGrid, withBookings, LargestFound, SmallestFound, BothFound, LargestSays}
-use Rattle.typing.specs.Calls.{SmallestSays, outcomeSaid}
+use Rattle.typing.specs.Calls.{withBookings, largestReading, smallestReading, LargestFound, SmallestFound}
+use Rattle.typing.specs.Calls.{BothFound, LargestSays, SmallestSays, outcomeSaid}
 use Rattle.typing.proofs.Booked.{grid-asked, bookings-asked}
 use Rattle.typing.proofs.Demand.{both-found}
 use Rattle.typing.proofs.Existence.{represented}
@@ -24,18 +25,19 @@ outcome-said-unique (notMet n t) (pairs m) e = cc
 outcome-said-unique (notMet n t) (notMet m u) e = cc
 
 module _ (template script bookings before other : List ℕ) (s : Sheet)
-    (largest-asks : withGrid before (readSheet template script) ≡ ask s)
-    (smallest-asks : withGrid other (withBookings bookings (readSheet template script)) ≡ ask s)
+    (largest-asks : largestReading template script before ≡ accepted s)
+    (smallest-asks : smallestReading template script bookings other ≡ accepted s)
     (large small : List ℕ) (a b : Said)
     (x : LargestSays template script before large a)
     (y : SmallestSays template script bookings other small b) where
   -- The two answers together are an answer of the call for both.
-  pub apart : BothFound s bookings small large (record { largest = a; smallest = b })
+  pub apart : BothFound s (Booked bookings) small large (record { largest = a; smallest = b })
   apart =
-      let (listed, fits) = grid-asked other (withBookings bookings (readSheet template script)) s smallest-asks in
-      let (read, inside) = bookings-asked bookings (readSheet template script) s listed in
+      let sheet = readSheet template script in
+      let (listed, full) = grid-asked other (then sheet (withBookings bookings)) s smallest-asks in
+      let (read, inside) = bookings-asked bookings sheet s listed in
       let l : LargestFound s large a = rw largest-asks at x in
-      let m : SmallestFound s bookings small b = rw smallest-asks at y in
+      let m : SmallestFound s (Booked bookings) small b = rw smallest-asks at y in
       both-found (represented template script s read .1) inside l m
 
   -- Demand 3 of the numbers that the two calls say and the grids that they leave.
