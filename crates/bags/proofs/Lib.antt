@@ -2,7 +2,7 @@
 -- Powers, Copies, Totals: sums of i bags, of a link's bags, and their counts.
 -- Repetitions, Exact: a part's interval, and Fits by it. Decide: the test for Fits. Samples: P1 to P12.
 -- Choosing: Met by counts.
--- Spans: the same operations on two numbers.
+-- Spans: the same operations on two numbers. Adequate: the definitions are those of sections 2.1 and 3.2 of the paper.
 pub mod Powers
 pub mod Copies
 pub mod Totals
@@ -14,3 +14,4 @@ pub mod Decide
 pub mod Samples
 pub mod Choosing
 pub mod Spans
+pub mod Adequate

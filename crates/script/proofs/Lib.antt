@@ -4,3 +4,4 @@ pub mod Cards
 pub mod Neighbours
 pub mod WithTemplate
 pub mod Answers
+pub mod RoundTrip

@@ -2,3 +2,4 @@ pub mod Link
 pub mod Answer
 pub mod Script
 pub mod Steps
+pub mod Writer
