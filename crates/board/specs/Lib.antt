@@ -1,5 +1,5 @@
--- Grid: sets of places, and counts. Board: what the searches find. Work, Listing, Machine: what the functions ask for and
--- leave behind.
+-- Grid: sets of places, and counts. Board: what the searches find. Work, Listing, Machine: what the functions ask for
+-- and leave behind.
 pub mod Grid
 pub mod Board
 pub mod Work

@@ -10,7 +10,7 @@ use Rattle.script.specs.Link.{fromAt, below, Ascending}
 use Rattle.script.proofs.Order.{starts-rise}
 use Rattle.script.proofs.Cards.{below-le, below-rises, starts-exact}
 use Rattle.typing.specs.Needs.{Ready}
-use Rattle.search.specs.Search.{Starts}
+use Rattle.search.specs.Indexes.{Starts}
 
 module _ {script names : List ℕ} {shapes : ℕ} (ready : Ready script names shapes) where
   pub starts-of : {starts : List ℕ} → Ascending script (getD script 1 0) → getD script 0 0 < length starts

@@ -18,7 +18,9 @@ use Rattle.script.specs.Link.{fromAt, kindAt, toAt}
 use Rattle.board.specs.Work.{Work, strikeOne, Swept}
 use Rattle.board.proofs.Worklist.{swept-none, swept-same, swept-one}
 use Rattle.typing.specs.Needs.{entryAt, Needs, Ready}
-use Rattle.search.specs.Search.{Starts, NamedGood, TargetGood, CardGood}
+use Rattle.search.specs.Indexes.{Starts}
+use Rattle.search.specs.Strikes.{NamedGood, TargetGood}
+use Rattle.search.specs.Follows.{CardGood}
 use Rattle.words.proofs.Places.{place-in, place-from, card-in, shape-in, place-of, card-of, shape-of}
 use Rattle.search.proofs.Walks.{Later}
 use Rattle.typing.proofs.Boards.{entry-shape}
@@ -86,7 +88,7 @@ module _ {script names : List ℕ} {shapes : ℕ} (ready : Ready script names sh
   -- ---- forwards
   module _ {starts : List ℕ} (st : Starts script starts) (p q : ℕ) (lp : p < getD script 0 0 * shapes) where
     -- q is good for the links of p's card and p's shape
-    abbrev pub CardNeeds : Type 0
+    abbrev CardNeeds : Type 0
     CardNeeds =
         CardGood script names shapes (getD starts (p / shapes) 0) (getD starts (p / shapes + 1) 0) (p % shapes) q
 
@@ -132,7 +134,7 @@ abbrev pub LinkGood : List ℕ → List ℕ → ℕ → ℕ → ℕ → ℕ → 
 LinkGood script names shapes u i p = NamedGood names shapes (kindAt script i) (fromAt script i * shapes) u p
 
 -- p is good by a link to m from link lo on.
-abbrev pub ToCard : List ℕ → List ℕ → ℕ → ℕ → ℕ → ℕ → ℕ → Type 0
+abbrev ToCard : List ℕ → List ℕ → ℕ → ℕ → ℕ → ℕ → ℕ → Type 0
 ToCard script names shapes m u lo p = Later (toAt script) m (getD script 1 0) (LinkGood script names shapes u) lo p
 
 pub links-in-grid : {script names : List ℕ} {shapes : ℕ} → Ready script names shapes

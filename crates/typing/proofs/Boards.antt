@@ -1,6 +1,7 @@
 -- The board of a script, a table of names and a grid of fits.
---   pairs-bound    it has at most 32,768 places
---   entries-bound  an entry of the table is at most 32
+--   pairs-bound    it has no more places than the greatest grid
+--   entries-bound  an entry of the table is at most the greatest number of shapes
+--   entry-shape    the shape that an entry names is a shape
 --   needs-in       what a pair needs is on the board
 --   board-lawful   its test is Proposition 8.1: the counts fit and the set has all that is needed
 -- Assumes nothing.
@@ -15,9 +16,10 @@ use lib.Dec.{eqb}
 use lib.ListN.{getD}
 use borrow.Author.Tests.{eqb-true, eq-eqb}
 use Rattle.script.specs.Link.{fromAt, kindAt, toAt}
-use Rattle.board.specs.Grid.{on, all}
+use Rattle.words.specs.Limits.{maxKinds, maxShapes, maxGrid}
+use Rattle.board.specs.Grid.{on}
+use Rattle.board.specs.Machine.{all}
 use Rattle.board.specs.Board.{Inside, Lawful}
-use Rattle.board.specs.Work.{entry}
 use Rattle.words.proofs.Bools.{never-both, true-or-false, is-false, and-first, and-second, and-both}
 use Rattle.board.proofs.Tally.{all-at, all-of, all-not}
 use Rattle.typing.specs.Needs.{entryAt, Needs, hasNamed, linkTest, metTest, boardOf, Ready}
@@ -100,16 +102,16 @@ module _ (script names : List ℕ) (shapes : ℕ) (X : ℕ → Bool) (p : ℕ) w
 
 -- ---- the board
 module _ {script names : List ℕ} {shapes : ℕ} (ready : Ready script names shapes) where
-  pub pairs-bound : getD script 0 0 * shapes ≤ 32768
+  pub pairs-bound : getD script 0 0 * shapes ≤ maxGrid
   pairs-bound = omega (arith, mul-le-mul (ready .few-cards) (ready .few-shapes))
 
-  pub entries-bound : (p : ℕ) → p < shapes * 64 → getD names p 0 ≤ 32
+  pub entries-bound : (p : ℕ) → p < shapes * maxKinds → getD names p 0 ≤ maxShapes
   entries-bound p l =
-      let row = card-in 64 (omega arith) shapes p l in
-      let here = ready .entry-in (p / 64) (p % 64) row (shape-in 64 (omega arith) p) in
-      omega (arith, here, ap (λ (x : ℕ). getD names x 0) (place-of 64 (omega arith) p), ready .few-shapes)
+      let some : 0 < maxKinds = omega arith in
+      let row = card-in maxKinds some shapes p l in
+      let here = ready .entry-in (p / maxKinds) (p % maxKinds) row (shape-in maxKinds some p) in
+      omega (arith, here, ap (λ (x : ℕ). getD names x 0) (place-of maxKinds some p), ready .few-shapes)
 
-  -- the shape that an entry names is a shape
   pub entry-shape : (t i u : ℕ) → t < shapes → i < getD script 1 0 → entryAt names t (kindAt script i) ≡ suc u
       → u < shapes
   entry-shape t i u lt li e = omega (arith, ready .entry-in t (kindAt script i) lt (ready .kind-in i li), e)

@@ -12,6 +12,7 @@ use mathlib.Core.List.{List, [], _∷_}
 use native.Mathlib.Omega.{arith}
 use native.Mathlib.Nat.{le-of-suc-le-suc, not-suc-le-zero}
 use lib.ListN.{length, getD}
+use Rattle.words.specs.Limits.{maxKinds}
 use Rattle.bags.specs.Part.{named}
 use Rattle.bags.specs.Interval.{fits}
 use Rattle.bags.specs.Choice.{labelCount}
@@ -59,7 +60,7 @@ on-bit grid p b e = ⊎-elim
 
 -- A sheet's table of names.
 namesOf : Sheet → List ℕ
-namesOf s = listOf (λ p. named (partOf s (p / 64)) (p % 64)) (s .shapes * 64)
+namesOf s = listOf (λ p. named (partOf s (p / maxKinds)) (p % maxKinds)) (s .shapes * maxKinds)
 
 -- The counts of the labels of card n.
 countsOf : Sheet → ℕ → ℕ → List ℕ
@@ -73,16 +74,16 @@ module _ {words : List ℕ} {kinds : ℕ} {s : Sheet} (read : SheetAccepted word
   names-tabled : Tabled (s .parts) (namesOf s)
   unfolding namesOf
   names-tabled t k lt lk =
-      let some : 0 < 64 = omega arith in
+      let some : 0 < maxKinds = omega arith in
       let here : t < s .shapes = omega (arith, read .shapes .trees-length) in
-      list-at (λ p. named (partOf s (p / 64)) (p % 64)) (s .shapes * 64) (t * 64 + k)
-      (place-in (s .shapes) 64 t k here lk)
-      ∙ ap (λ (x : ℕ). named (partOf s x) ((t * 64 + k) % 64)) (card-of 64 some t k lk)
-      ∙ ap (λ (x : ℕ). named (partOf s t) x) (shape-of 64 some t k lk)
+      list-at (λ p. named (partOf s (p / maxKinds)) (p % maxKinds)) (s .shapes * maxKinds) (t * maxKinds + k)
+      (place-in (s .shapes) maxKinds t k here lk)
+      ∙ ap (λ (x : ℕ). named (partOf s x) ((t * maxKinds + k) % maxKinds)) (card-of maxKinds some t k lk)
+      ∙ ap (λ (x : ℕ). named (partOf s t) x) (shape-of maxKinds some t k lk)
 
-  names-room : s .shapes * 64 ≤ length (namesOf s)
+  names-room : s .shapes * maxKinds ≤ length (namesOf s)
   unfolding namesOf
-  names-room = omega (arith, list-length (λ p. named (partOf s (p / 64)) (p % 64)) (s .shapes * 64))
+  names-room = omega (arith, list-length (λ p. named (partOf s (p / maxKinds)) (p % maxKinds)) (s .shapes * maxKinds))
 
   counts-right : (n : ℕ) → CountsOf s n (countsOf s kinds n)
   unfolding countsOf

@@ -1,4 +1,4 @@
--- A board stands for a sheet: its places are the sheet's pairs, and its test decides what document 01 calls met.
+-- A board stands for a sheet: its places are the sheet's pairs, and its test decides which pairs are met ("Typings").
 --   Follows     what the closure goes on to from a pair
 --   Represents  the board stands for the sheet
 --   Alike       two sets of pairs agree on the sheet
