@@ -1,4 +1,4 @@
--- `pairs::read_sheet` meets its contract: a law of proofs/Openings for each answer. Assumes nothing.
+-- `sheet::read_sheet` meets its contract: a law of proofs/Openings for each answer. Assumes nothing.
 use borrow.Author.Needs.{needs}
 use mathlib.Core.Path.{sym, ap, _∙_}
 use Rattle.template.specs.Answer.{templateSaid}
