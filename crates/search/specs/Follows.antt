@@ -9,7 +9,7 @@ use mathlib.Core.Path.{_≡_}
 use mathlib.Core.List.{List}
 use mathlib.Core.Bool.{false, not}
 use lib.ListN.{length, getD}
-use Rattle.script.specs.Link.{kindAt, toAt}
+use Rattle.script.specs.Link.{label, far}
 use Rattle.board.specs.Grid.{on}
 use Rattle.board.specs.Board.{Flooded}
 use Rattle.board.specs.Work.{Work, Room}
@@ -23,8 +23,8 @@ pub record CardGood (script names : List ℕ) (shapes lo hi t p : ℕ) : Type 0 
   pub low : lo ≤ link
   pub high : link < hi
   pub shape : ℕ
-  pub names-it : entryAt names t (kindAt script link) ≡ suc shape
-  pub at : p ≡ toAt script link * shapes + shape
+  pub names-it : entryAt names t (label script link) ≡ suc shape
+  pub at : p ≡ far script link * shapes + shape
 
 -- What following the links lo up to hi from the shape t asks.
 pub record CardAsked (script names : List ℕ) (shapes lo hi t : ℕ) (w : Work) : Type 0 where

@@ -15,7 +15,7 @@ use mathlib.Core.Bool.{cond}
 use lib.ListN.{length, getD}
 use lib.Dec.{eqb}
 use Rattle.words.specs.Limits.{maxKinds, maxShapes, maxLinks, tableSize}
-use Rattle.script.specs.Link.{fromAt, toAt}
+use Rattle.script.specs.Link.{near, far}
 use Rattle.typing.specs.Needs.{Ready}
 use Rattle.search.specs.Chain.{Chained}
 
@@ -48,7 +48,7 @@ pub record NamesAsked (names : List ℕ) (shapes : ℕ) (first next : List ℕ) 
 pub record LinksAsked (script : List ℕ) (links : ℕ) (first next : List ℕ) : Type 0 where
   pub few-links : links ≤ maxLinks
   pub words : 2 + 3 * links ≤ length script
-  pub cards : (i : ℕ) → i < links → toAt script i < length first
+  pub cards : (i : ℕ) → i < links → far script i < length first
   pub blank : Blank first next links
 
 -- The table's places are chained by their keys.
@@ -61,7 +61,7 @@ pub record NameIndex (names : List ℕ) (shapes : ℕ) (first next : List ℕ) :
 pub record LinkIndex (script first next : List ℕ) : Type 0 where
   pub cards : getD script 0 0 ≤ length first
   pub links : getD script 1 0 ≤ length next
-  pub chained : Chained (toAt script) first next (getD script 1 0)
+  pub chained : Chained (far script) first next (getD script 1 0)
 
 -- A script and a table of names that fit together, the links by target and the table's places by label and shape.
 pub record Indexed (script first next names : List ℕ) (shapes : ℕ) (named alike : List ℕ) : Type 0 where
@@ -74,6 +74,6 @@ pub record Starts (script starts : List ℕ) : Type 0 where
   pub cards : getD script 0 0 < length starts
   pub within : (n : ℕ) → n ≤ getD script 0 0 → getD starts n 0 ≤ getD script 1 0
   pub rising : (n : ℕ) → n < getD script 0 0 → getD starts n 0 ≤ getD starts (n + 1) 0
-  pub right : (n i : ℕ) → n < getD script 0 0 → getD starts n 0 ≤ i → i < getD starts (n + 1) 0 → fromAt script i ≡ n
+  pub right : (n i : ℕ) → n < getD script 0 0 → getD starts n 0 ≤ i → i < getD starts (n + 1) 0 → near script i ≡ n
   pub each : (i : ℕ) → i < getD script 1 0
-      → (getD starts (fromAt script i) 0 ≤ i) × (i < getD starts (fromAt script i + 1) 0)
+      → (getD starts (near script i) 0 ≤ i) × (i < getD starts (near script i + 1) 0)

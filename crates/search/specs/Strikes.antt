@@ -11,31 +11,31 @@ use mathlib.Core.List.{List}
 use mathlib.Core.Bool.{Bool}
 use lib.ListN.{length, getD}
 use Rattle.words.specs.Limits.{maxKinds, maxShapes, maxGrid}
-use Rattle.script.specs.Link.{fromAt, kindAt, toAt}
+use Rattle.script.specs.Link.{near, label, far}
 use Rattle.board.specs.Board.{Board, Finished}
 use Rattle.board.specs.Work.{Work, Room}
 use Rattle.typing.specs.Needs.{entryAt, Ready}
 use Rattle.search.specs.Indexes.{Table, NameIndex, Indexed}
 
--- The pairs of the card at `base` whose shape names u for the label.
-pub record NamedGood (names : List ℕ) (shapes label base u p : ℕ) : Type 0 where
+-- The pairs of the card at `base` whose shape names u for the label k.
+pub record NamedGood (names : List ℕ) (shapes k base u p : ℕ) : Type 0 where
   pub by : ℕ
   pub below : by < shapes
-  pub names-it : entryAt names by label ≡ suc u
+  pub names-it : entryAt names by k ≡ suc u
   pub at : p ≡ base + by
 
 -- Those of all links to card m.
 pub record TargetGood (script names : List ℕ) (shapes m u p : ℕ) : Type 0 where
   pub link : ℕ
   pub below : link < getD script 1 0
-  pub goes : toAt script link ≡ m
-  pub good : NamedGood names shapes (kindAt script link) (fromAt script link * shapes) u p
+  pub goes : far script link ≡ m
+  pub good : NamedGood names shapes (label script link) (near script link * shapes) u p
 
 -- What striking the pairs of the card at `base` asks.
-pub record NamedAsked (names : List ℕ) (shapes : ℕ) (named alike : List ℕ) (label base u : ℕ) (w : Work) : Type 0 where
+pub record NamedAsked (names : List ℕ) (shapes : ℕ) (named alike : List ℕ) (k base u : ℕ) (w : Work) : Type 0 where
   pub table : Table names shapes
   pub places : NameIndex names shapes named alike
-  pub label-in : label < maxKinds
+  pub label-in : k < maxKinds
   pub shape-in : u < maxShapes
   pub few-places : length (w .grid) ≤ maxGrid
   -- the card's pairs are on the board

@@ -4,7 +4,7 @@ ghost use mathlib.Core.Path.{_≡_};
 ghost use Prim.Native.Nat.{ℕ, _<_, _≤_};
 ghost use lib.ListN.{length, getD};
 ghost use Rattle.words.specs.Limits.{maxShapes};
-ghost use Rattle.script.specs.Link.{toAt, Ascending, below};
+ghost use Rattle.script.specs.Link.{far, Ascending, below};
 ghost use Rattle.search.specs.Chain.{Chained};
 ghost use Rattle.search.specs.Indexes.{entryKey, nameKeys, NameIndex, NamesAsked, LinksAsked};
 use script::count_below;
@@ -44,7 +44,7 @@ pub fn index_names(names: &[u8], shapes: usize, first: &mut [u16], next: &mut [u
 // than the last link before link i to the same card, or 0.
 pub fn chain(script: &[u16], links: usize, first: &mut [u16], next: &mut [u16])
     requires { ⌜ LinksAsked (now script) links (now first) (now next) ⌝ }
-    ensures chained { λ _. ⌜ Chained (toAt (now (script .entry))) (now (first .exit)) (now (next .exit)) links ⌝ }
+    ensures chained { λ _. ⌜ Chained (far (now (script .entry))) (now (first .exit)) (now (next .exit)) links ⌝ }
     ensures sizes { λ _. ⌜ (length (now (first .exit)) ≡ length (now (first .entry)))
         × (length (now (next .exit)) ≡ length (now (next .entry))) ⌝ }
 {

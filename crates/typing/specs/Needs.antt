@@ -17,7 +17,7 @@ use Rattle.words.specs.Limits.{maxKinds, maxShapes, maxCards, maxLinks}
 use Rattle.board.specs.Grid.{on}
 use Rattle.board.specs.Machine.{all}
 use Rattle.board.specs.Board.{Board}
-use Rattle.script.specs.Link.{fromAt, kindAt, toAt}
+use Rattle.script.specs.Link.{near, label, far}
 
 -- The entry of the shape t for the label k.
 abbrev pub entryAt : List ℕ → ℕ → ℕ → ℕ
@@ -27,10 +27,10 @@ entryAt names t k = getD names (t * maxKinds + k) 0
 pub record Needs (script names : List ℕ) (shapes p q : ℕ) : Type 0 where
   pub link : ℕ
   pub below : link < getD script 1 0
-  pub starts : fromAt script link ≡ p / shapes
+  pub starts : near script link ≡ p / shapes
   pub shape : ℕ
-  pub names-it : entryAt names (p % shapes) (kindAt script link) ≡ suc shape
-  pub leads : q ≡ toAt script link * shapes + shape
+  pub names-it : entryAt names (p % shapes) (label script link) ≡ suc shape
+  pub leads : q ≡ far script link * shapes + shape
 
 -- The set has the far pair that an entry asks for; no entry asks for none.
 abbrev pub hasNamed : (ℕ → Bool) → ℕ → ℕ → Bool
@@ -40,8 +40,8 @@ hasNamed X base (suc u) = X (base + u)
 -- Link i does not start at p's card, or the set has the pair that it leads to.
 unfoldable pub linkTest : List ℕ → List ℕ → ℕ → (ℕ → Bool) → ℕ → ℕ → Bool
 linkTest script names shapes X p i =
-    cond (eqb (fromAt script i) (p / shapes))
-    (hasNamed X (toAt script i * shapes) (entryAt names (p % shapes) (kindAt script i)))
+    cond (eqb (near script i) (p / shapes))
+    (hasNamed X (far script i * shapes) (entryAt names (p % shapes) (label script i)))
     true
 
 -- The counts of the pair at p fit, and the set has the pair that each link of its card leads to.
@@ -64,8 +64,8 @@ pub record Ready (script names : List ℕ) (shapes : ℕ) : Type 0 where
   pub few-cards : getD script 0 0 ≤ maxCards
   pub few-links : getD script 1 0 ≤ maxLinks
   pub words : 2 + 3 * getD script 1 0 ≤ length script
-  pub from-in : (i : ℕ) → i < getD script 1 0 → fromAt script i < getD script 0 0
-  pub kind-in : (i : ℕ) → i < getD script 1 0 → kindAt script i < maxKinds
-  pub to-in : (i : ℕ) → i < getD script 1 0 → toAt script i < getD script 0 0
+  pub from-in : (i : ℕ) → i < getD script 1 0 → near script i < getD script 0 0
+  pub kind-in : (i : ℕ) → i < getD script 1 0 → label script i < maxKinds
+  pub to-in : (i : ℕ) → i < getD script 1 0 → far script i < getD script 0 0
   pub table : shapes * maxKinds ≤ length names
   pub entry-in : (t k : ℕ) → t < shapes → k < maxKinds → entryAt names t k ≤ shapes

@@ -8,14 +8,14 @@ use lib.ListN.{length, getD}
 use denote.Ref.{now}
 use borrow.Author.Needs.{needs}
 use Rattle.words.specs.Limits.{maxKinds}
-use Rattle.script.specs.Link.{kindAt, toAt}
+use Rattle.script.specs.Link.{label, far}
 use Rattle.board.specs.Work.{Work, work, strikeOne, Swept}
 use Rattle.board.proofs.Worklist.{swept-grid, swept-queue, swept-room}
 use Rattle.typing.specs.Needs.{entryAt}
 use Rattle.search.specs.Follows.{CardGood}
 use Rattle.words.proofs.Places.{place-in}
 use Rattle.typing.proofs.Boards.{pairs-bound, entry-shape}
-use Rattle.search.proofs.Needs.{kind-word, to-word, card-in-grid, card-none, card-hit, card-miss}
+use Rattle.search.proofs.Needs.{label-word, far-word, card-in-grid, card-none, card-hit, card-miss}
 use Rattle.search.proofs.follow.strike_needs.Statement.{statement}
 use Rattle.search.proofs.follow.strike_needs.Tie as tie
 
@@ -61,10 +61,10 @@ good-in l i p h g =
 
 -- the kind read
 kind-is : (a : tie.After-wide Inv-loop μ-loop) → let l = Loop a in
-    a .wide .result ≡ kindAt (now (Start l .args .script)) (l .loop .i)
+    a .wide .result ≡ label (now (Start l .args .script)) (l .loop .i)
 kind-is a =
     let l = Loop a in
-    a .wide .ensures .0 ∙ kind-word (now (Start l .args .script)) (l .loop .i)
+    a .wide .ensures .0 ∙ label-word (now (Start l .args .script)) (l .loop .i)
 
 kind-in : (a : tie.After-wide Inv-loop μ-loop) → a .wide .result < maxKinds
 kind-in a =
@@ -73,15 +73,15 @@ kind-in a =
 
 -- the card read
 target-is : (a : tie.After-wide2 Inv-loop μ-loop) → let l = Loop (Kind a) in
-    a .wide2 .result ≡ toAt (now (Start l .args .script)) (l .loop .i)
+    a .wide2 .result ≡ far (now (Start l .args .script)) (l .loop .i)
 target-is a =
     let l = Loop (Kind a) in
-    a .wide2 .ensures .0 ∙ to-word (now (Start l .args .script)) (l .loop .i)
+    a .wide2 .ensures .0 ∙ far-word (now (Start l .args .script)) (l .loop .i)
 
 -- the entry read
 entry-is : (a : tie.After-byte Inv-loop μ-loop) → let l = Turn a .before in
     let s = Start l in
-    a .byte .result ≡ entryAt (now (s .args .names)) (s .args .t) (kindAt (now (s .args .script)) (l .loop .i))
+    a .byte .result ≡ entryAt (now (s .args .names)) (s .args .t) (label (now (s .args .script)) (l .loop .i))
 entry-is a =
     let s = Start (Turn a .before) in
     a .byte .ensures .0
@@ -89,21 +89,21 @@ entry-is a =
 
 entry-suc : (a : tie.After-byte Inv-loop μ-loop) → 0 < a .byte .result → let l = Turn a .before in
     let s = Start l in
-    entryAt (now (s .args .names)) (s .args .t) (kindAt (now (s .args .script)) (l .loop .i))
+    entryAt (now (s .args .names)) (s .args .t) (label (now (s .args .script)) (l .loop .i))
     ≡ suc (a .byte .result - 1)
 entry-suc a h = omega (arith, entry-is a)
 
 -- the pair that the link leads to is on the board
 pair-in : (a : tie.After-byte Inv-loop μ-loop) → 0 < a .byte .result → let l = Turn a .before in
     let s = Start l in
-    toAt (now (s .args .script)) (l .loop .i) * s .args .shapes + (a .byte .result - 1) < length (now (s .args .grid))
+    far (now (s .args .script)) (l .loop .i) * s .args .shapes + (a .byte .result - 1) < length (now (s .args .grid))
 pair-in a h =
     let i = Turn a in
     let l = i .before in
     let s = Start l in
     let ready = s .pre .ready in
     let u = a .byte .result - 1 in
-    let to = toAt (now (s .args .script)) (l .loop .i) in
+    let to = far (now (s .args .script)) (l .loop .i) in
     let is-shape = entry-shape ready (s .args .t) (l .loop .i) u (s .pre .shape-in) (link-in i) (entry-suc a h) in
     omega (
       arith,
@@ -116,7 +116,7 @@ pair-in a h =
 place-is : (a : tie.After-byte Inv-loop μ-loop) → let l = Turn a .before in
     let s = Start l in
     Target a .wide2 .result * s .args .shapes + (a .byte .result - 1)
-    ≡ toAt (now (s .args .script)) (l .loop .i) * s .args .shapes + (a .byte .result - 1)
+    ≡ far (now (s .args .script)) (l .loop .i) * s .args .shapes + (a .byte .result - 1)
 place-is a =
     let s = Start (Turn a .before) in
     ap (λ (x : ℕ). x * s .args .shapes + (a .byte .result - 1)) (target-is (Target a))

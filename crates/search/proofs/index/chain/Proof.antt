@@ -6,7 +6,7 @@ use native.Mathlib.Omega.{arith}
 use lib.ListN.{length, length-set}
 use borrow.Author.Needs.{needs}
 use Rattle.search.specs.Chain.{Chained}
-use Rattle.script.specs.Link.{toAt}
+use Rattle.script.specs.Link.{toAt, far}
 use Rattle.search.proofs.Chains.{chained-none, chained-more}
 use Rattle.search.proofs.index.chain.Tie as tie
 use Rattle.search.proofs.index.chain.Statement.{statement}
@@ -16,7 +16,7 @@ Inv-loop script links first₀ next₀ i₀ first next i =
     (i ≤ links)
     × (length first ≡ length first₀)
     × (length next ≡ length next₀)
-    × Chained (toAt script) first next i
+    × Chained (far script) first next i
 
 abbrev μ-loop : tie.MeasureT-loop
 μ-loop script links first₀ next₀ i₀ first next i = links - i

@@ -7,7 +7,7 @@ use lib.ListN.{getD, getD-replicate, length, replicate}
 use denote.Ref.{now}
 use borrow.Author.Needs.{needs}
 use Rattle.search.specs.Chain.{Chained}
-use Rattle.script.specs.Link.{toAt}
+use Rattle.script.specs.Link.{far}
 use Rattle.words.specs.Limits.{maxCards, maxLinks}
 use Rattle.search.specs.Indexes.{nameKeys}
 use Rattle.search.proofs.Names.{ready-table}
@@ -89,7 +89,7 @@ strike-rounds-requires c κs =
         links = record {
           cards = omega (arith, firsts, ready .few-cards);
           links = omega (arith, nexts, ready .few-links);
-          chained = subst (Chained (toAt (now (s .args .script))) first next) (s .pre .all-links) (chained .ensures .0);
+          chained = subst (Chained (far (now (s .args .script))) first next) (s .pre .all-links) (chained .ensures .0);
         };
         places = indexed .index-names .ensures;
       };

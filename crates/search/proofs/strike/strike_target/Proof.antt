@@ -5,7 +5,7 @@ use native.Mathlib.Omega.{arith}
 use lib.ListN.{length, getD}
 use denote.Ref.{now}
 use borrow.Author.Needs.{needs}
-use Rattle.script.specs.Link.{fromAt, kindAt, toAt}
+use Rattle.script.specs.Link.{near, label, far}
 use Rattle.search.specs.Chain.{lastAt}
 use Rattle.board.specs.Work.{work, Swept}
 use Rattle.board.proofs.Worklist.{swept-grid, swept-queue, swept-room}
@@ -13,14 +13,14 @@ use Rattle.search.specs.Strikes.{NamedGood}
 use Rattle.words.proofs.Places.{card-room}
 use Rattle.typing.proofs.Boards.{pairs-bound}
 use Rattle.search.proofs.Names.{ready-table}
-use Rattle.search.proofs.Needs.{from-word, kind-word, LinkGood, links-in-grid, links-swept}
+use Rattle.search.proofs.Needs.{near-word, label-word, LinkGood, links-in-grid, links-swept}
 use Rattle.search.proofs.Walks.{Walking, walk-start, walk-in, walk-less, walk-next, walk-done}
 use Rattle.search.proofs.strike.strike_target.Statement.{statement}
 use Rattle.search.proofs.strike.strike_target.Tie as tie
 
 abbrev Inv-loop : tie.InvT-loop
 Inv-loop script first next names shapes named alike m u grid₀ queue₀ tail end₀ at₀ grid queue end at =
-    Walking (toAt script) m (getD script 1 0) (LinkGood script names shapes u)
+    Walking (far script) m (getD script 1 0) (LinkGood script names shapes u)
     (work grid₀ queue₀ tail) (work grid queue end) at
 
 abbrev μ-loop : tie.MeasureT-loop
@@ -61,16 +61,16 @@ words-in c = omega (arith, link-in c, Start (c .before) .pre .indexed .ready .wo
 
 -- the card and the kind read
 from-is : (a : tie.After-wide2 Inv-loop μ-loop) → let l = Loop a in
-    a .wide2 .result ≡ fromAt (now (Start l .args .script)) (l .loop .at - 1)
+    a .wide2 .result ≡ near (now (Start l .args .script)) (l .loop .at - 1)
 from-is a =
     let l = Loop a in
-    a .wide2 .ensures .0 ∙ from-word (now (Start l .args .script)) (l .loop .at - 1)
+    a .wide2 .ensures .0 ∙ near-word (now (Start l .args .script)) (l .loop .at - 1)
 
 kind-is : (a : tie.After-wide3 Inv-loop μ-loop) → let l = Loop (From a) in
-    a .wide3 .result ≡ kindAt (now (Start l .args .script)) (l .loop .at - 1)
+    a .wide3 .result ≡ label (now (Start l .args .script)) (l .loop .at - 1)
 kind-is a =
     let l = Loop (From a) in
-    a .wide3 .ensures .0 ∙ kind-word (now (Start l .args .script)) (l .loop .at - 1)
+    a .wide3 .ensures .0 ∙ label-word (now (Start l .args .script)) (l .loop .at - 1)
 
 -- all pairs of the card are on the board
 card-pairs : (a : tie.After-wide2 Inv-loop μ-loop) → let s = Start (Loop a) in
@@ -88,7 +88,7 @@ card-pairs a =
 
 -- the next link of the chain
 next-is : (c : tie.After-wide4 Inv-loop μ-loop) → let l = Turn (c .before .before) .before in
-    let to = toAt (now (Start l .args .script)) in
+    let to = far (now (Start l .args .script)) in
     c .wide4 .result ≡ lastAt to (to (l .loop .at - 1)) (l .loop .at - 1)
 next-is c =
     let i = Turn (c .before .before) in
@@ -198,7 +198,7 @@ loop-again c =
     let w = work (l .loop .grid) (l .loop .queue) (l .loop .end) in
     let v = work (struck .last .1 .1 .1 .1 .1 .1 .1 .0) (struck .last .1 .1 .1 .1 .1 .1 .1 .1 .0) (struck .result) in
     walk-next (l .loop .inv) (i .loop-test .taken) (next-is c)
-    (subst₂ (λ (label base : ℕ). Swept (NamedGood (now (s .args .names)) (s .args .shapes) label base (s .args .u)) w v)
+    (subst₂ (λ (k base : ℕ). Swept (NamedGood (now (s .args .names)) (s .args .shapes) k base (s .args .u)) w v)
     (kind-is a) (ap (λ (x : ℕ). x * s .args .shapes) (from-is (From a))) (struck .ensures))
 
 same-length : tie.Need-same-length Inv-loop μ-loop
