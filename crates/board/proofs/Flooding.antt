@@ -14,7 +14,8 @@ use native.Mathlib.Numerals.{add-one}
 use native.Mathlib.Omega.{arith}
 use lib.ListN.{length, set}
 use lib.Seq.{getD-set-same, getD-set-other}
-use Rattle.board.specs.Grid.{on, tally, Flipped}
+use Rattle.board.specs.Grid.{on, tally}
+use Rattle.board.specs.Machine.{Flipped}
 use Rattle.board.specs.Board.{Board, Inside, Closed, follow, Flooded}
 use Rattle.board.specs.Work.{Work, work, entry, Queued, strikeOne, Room, Run, stay, then, Swept}
 use Rattle.board.specs.Listing.{Listed}
@@ -30,7 +31,7 @@ abbrev pub found : Work → ℕ → Bool
 found w p = not (on (w .grid) p)
 
 -- the flood of a work's zeros and queue
-abbrev pub FloodOf : (B : Board) (Book : ℕ → Type 0) → Work → ℕ → Type 0
+abbrev FloodOf : (B : Board) (Book : ℕ → Type 0) → Work → ℕ → Type 0
 FloodOf B Book w head = Flood B Book (found w) (entry (w .queue)) head (w .tail)
 
 pub record Flooding (B : Board) (Book : ℕ → Type 0) (room : ℕ) (w : Work) (head : ℕ) : Type 0 where
@@ -64,7 +65,7 @@ module _ {B : Board} {Book : ℕ → Type 0} {head : ℕ} where
       ))
       (λ e. (s, refl, h))
 
-  pub run-flood : {Good : ℕ → Type 0} {w v : Work} → length (w .grid) ≡ B .size → Room w → head < w .tail
+  run-flood : {Good : ℕ → Type 0} {w v : Work} → length (w .grid) ≡ B .size → Room w → head < w .tail
       → ((p : ℕ) → Good p → (p < B .size) × Closed B Book p) → FloodOf B Book w head → Run Good w v
       → FloodKept B Book head w v
   run-flood full room h good s stay = (s, refl, h)

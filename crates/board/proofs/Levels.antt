@@ -20,7 +20,7 @@ use Rattle.board.proofs.Tally.{tally-more}
 use Rattle.board.proofs.Queues.{each-entry, queued-more, queued-last, kept-value}
 
 -- what falls in the first k rounds falls in the first k + 1
-pub struck-more : (B : Board) (k p : ℕ) → Struck B k p → Struck B (suc k) p
+struck-more : (B : Board) (k p : ℕ) → Struck B k p → Struck B (suc k) p
 struck-more B zero p s = absurd s
 struck-more B (suc k) p (inl o) = inl o
 struck-more B (suc k) p (inr w) = inr (w .0, w .1, struck-more B k (w .0) (w .2))

@@ -24,7 +24,7 @@ use Rattle.board.proofs.Levels.{Levels, start, strike, advance, next-le
 use Rattle.board.proofs.Worklist.{strike-case, room-hit, run-grid, run-queue, run-room}
 
 -- the levels of a work's grid and queue
-abbrev pub LevelsOf : Board → Work → ℕ → ℕ → ℕ → Type 0
+abbrev LevelsOf : Board → Work → ℕ → ℕ → ℕ → Type 0
 LevelsOf B w head end round = Levels B (on (w .grid)) (entry (w .queue)) head end (w .tail) round
 
 pub record Searching (B : Board) (room : ℕ) (w : Work) (head end round : ℕ) : Type 0 where
@@ -52,7 +52,7 @@ module _ {B : Board} {head end round : ℕ} (h : head < end) where
       ))
       (λ e. (s, refl))
 
-  pub run-levels : {Good : ℕ → Type 0} {w v : Work} → length (w .grid) ≡ B .size → Room w
+  run-levels : {Good : ℕ → Type 0} {w v : Work} → length (w .grid) ≡ B .size → Room w
       → ((p : ℕ) → Good p → (p < B .size) × B .Dep p (entry (w .queue) head))
       → LevelsOf B w head end round → Run Good w v
       → LevelsOf B v head end round × (entry (v .queue) head ≡ entry (w .queue) head)

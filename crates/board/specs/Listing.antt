@@ -1,4 +1,4 @@
--- The start of a search.
+-- The start of a search; no part of a promise.
 --   Listed  a queue lists the places that a grid has not
 -- Assumes nothing.
 use mathlib.Core.Path.{_≡_}

@@ -12,7 +12,7 @@ use Rattle.board.specs.Listing.{Listed}
 use Rattle.board.proofs.Closure.{closed-map}
 use Rattle.board.proofs.Flooding.{queued-inside}
 use Rattle.typing.specs.Needs.{boardOf}
-use Rattle.search.specs.Search.{Followed}
+use Rattle.search.specs.Follows.{Followed}
 
 -- The bookings that a queue lists are the places that are off.
 pub followed : {script names : List ℕ} {shapes : ℕ} {before after queue : List ℕ} {tail found : ℕ}
