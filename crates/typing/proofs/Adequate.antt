@@ -13,8 +13,8 @@ use Rattle.board.specs.Board.{Board}
 use Rattle.board.specs.Grid.{tally}
 use Rattle.board.proofs.Tally.{tally-none, tally-pos}
 use Rattle.words.specs.Reading.{accepted}
-use Rattle.words.proofs.Bools.{never-both, true-or-false, and-first, and-second, and-both, false-of-not}
-use Rattle.words.proofs.Bools.{not-of-false, is-false}
+use Rattle.words.proofs.Bools.{never-both, true-or-false, and-first, and-second, and-both, false-of-not, not-of-false}
+use Rattle.words.proofs.Bools.{is-false}
 use Rattle.sheet.specs.Sheet.{Sheet, place, size, readSheet}
 use Rattle.typing.specs.Typing.{Pairs, Met, Sound}
 use Rattle.typing.specs.Largest.{Round, gone}
