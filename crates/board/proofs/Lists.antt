@@ -26,7 +26,7 @@ listed-none g q = record {
   listed = λ p l. absurd (not-suc-le-zero l);
 }
 
-module _ {g q : List ℕ} {t n : ℕ} (s : Listed g q t n) where
+module _ (g q : List ℕ) {t n : ℕ} (s : Listed g q t n) where
   pub listed-skip : on g n ≡ true → Listed g q t (n + 1)
   listed-skip e = record {
     count = s .count ∙ sym (tally-miss (λ p. not (on g p)) n (not-of-true e));

@@ -23,9 +23,7 @@ use Rattle.bags.proofs.Exact.{fits-exact}
 use Rattle.bags.proofs.Decide.{list-decided}
 use Rattle.bags.proofs.Choosing.{met-exact}
 use Rattle.template.specs.Template.{Tabled}
-use Rattle.template.proofs.Accepted as template
 use Rattle.script.specs.Link.{label, far, neighbours}
-use Rattle.script.proofs.Reading as script
 use Rattle.script.proofs.Neighbours.{neighbours-exact}
 use Rattle.board.specs.Grid.{on}
 use Rattle.board.specs.Board.{Lawful}
@@ -62,7 +60,7 @@ module _ {words : List ℕ} {kinds : ℕ} {s : Sheet} (read : SheetAccepted word
       (λ l. each k l)
       (le-or-lt (length counts) k)
 
-  pub fits-counted : (n t : ℕ) (counts : List ℕ) → t < s .shapes → CountsOf s n counts
+  fits-counted : (n t : ℕ) (counts : List ℕ) → t < s .shapes → CountsOf s n counts
       → (fits (length counts) (partOf s t) (count counts) ≡ true)
       ↔ Fits (s .shapes) (partOf s t) (labelCount (neighboursOf s n t))
   fits-counted n t counts lt c =
@@ -104,7 +102,7 @@ module _ {words : List ℕ} {kinds : ℕ} {s : Sheet} (read : SheetAccepted word
   links-below {i} l = subst (λ (x : ℕ). i < x) (sym (read .links .links)) l
 
   module _ (names : List ℕ) (table : Tabled (s .parts) names) where
-    pub entry-exact : (t k u : ℕ) → t < s .shapes → k < maxKinds
+    entry-exact : (t k u : ℕ) → t < s .shapes → k < maxKinds
         → (entryAt names t k ≡ suc u) ↔ Declares (partOf s t) k u
     entry-exact t k u lt lk =
         let here = table t k (omega (arith, read .shapes .trees-length)) lk in
@@ -126,9 +124,9 @@ module _ {words : List ℕ} {kinds : ℕ} {s : Sheet} (read : SheetAccepted word
       few-cards = omega (arith, read .links .cards, read .links .cards-bound);
       few-links = omega (arith, read .links .links, read .links .links-bound);
       words = omega (arith, read .links .links, read .links .size);
-      from-in = λ i l. omega (arith, read .links .from-below i (links-below l), read .links .cards);
-      kind-in = λ i l. kind-in i (links-below l);
-      to-in = λ i l. omega (arith, read .links .to-below i (links-below l), read .links .cards);
+      near-in = λ i l. omega (arith, read .links .from-below i (links-below l), read .links .cards);
+      label-in = λ i l. kind-in i (links-below l);
+      far-in = λ i l. omega (arith, read .links .to-below i (links-below l), read .links .cards);
       table = room;
       entry-in = entry-in;
     }
