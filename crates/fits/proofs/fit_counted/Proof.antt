@@ -1,4 +1,4 @@
--- `pairs::fit_counted` meets its contract: the counts are those of the card's labels, and the row fits them.
+-- `fits::fit_counted` meets its contract: the counts are those of the card's labels, and the row fits them.
 -- Assumes nothing.
 use borrow.Author.Needs.{needs}
 use mathlib.Core.Path.{sym, _∙_}
@@ -34,9 +34,10 @@ count-kinds-requires c κs =
     let s = c .before .before .before .before .before .before .before .before .before .before .before in
     let low = c .before .before .before .wide .ensures .0 in
     let high = c .before .wide2 .ensures .0 in
-    let w = starts-within _ _ _ _ _ _ _ (s .pre .0) (s .pre .3) (s .pre .4) low high in (
-      (w .order, w .few, w .end),
-      kinds-within _ _ _ _ _ _ _ (s .pre .0) (s .pre .3) (s .pre .4) low high _ (s .pre .6),
+    let ready = s .pre .0 in
+    let card = s .pre .1 .card in (
+      starts-within _ _ _ _ _ _ _ (ready .known .opened) (ready .links) (card .below) low high,
+      kinds-within _ _ _ _ _ _ _ (ready .known .opened) (ready .links) (card .below) low high _ (s .pre .1 .kinds),
     )
 
 wide-requires-3 : tie.Need-wide-requires-3
@@ -46,13 +47,15 @@ fit-card-requires : tie.Need-fit-card-requires
 fit-card-requires c κs =
     let a = c .before .before .before .before .before in
     let s = a .before .before .before .before .before .before .before .before .before .before .before .before in
-    let shapes = c .before .before .wide3 .ensures .0 in (
-      opened-shaped _ _ _ _ (s .pre .0) shapes,
-      s .pre .1,
-      s .pre .2,
-      omega (arith, a .count-kinds .ensures .1, s .pre .6, kinds-few _ _ _ (s .pre .0)),
-      s .pre .5 ∙ sym shapes,
-    )
+    let shapes = c .before .before .wide3 .ensures .0 in
+    let known = s .pre .0 .known in
+    record {
+      shaped = opened-shaped _ _ _ _ (known .opened) shapes;
+      table = known .table;
+      room = known .room;
+      few = omega (arith, a .count-kinds .ensures .1, s .pre .1 .kinds, kinds-few _ _ _ (known .opened));
+      size = s .pre .1 .card .size ∙ sym shapes;
+    }
 
 same-length : tie.Need-same-length
 same-length c = search needs
@@ -68,9 +71,10 @@ returns c =
     let size = a .count-kinds .ensures .1 in
     let low = a .before .before .before .before .wide .ensures .0 in
     let high = a .before .before .wide2 .ensures .0 in
+    let ready = s .pre .0 in
     let counted =
-    counts-counted _ _ _ _ _ _ _ (s .pre .0) (s .pre .3) (s .pre .4) low high counts (size ∙ s .pre .6)
-    (λ k h. a .count-kinds .ensures .0 k (omega (arith, size))) in
+    counts-counted _ _ _ _ _ _ _ (ready .known .opened) (ready .links) (s .pre .1 .card .below) low high counts
+    (size ∙ s .pre .1 .kinds) (λ k h. a .count-kinds .ensures .0 k (omega (arith, size))) in
     let shapes = c .before .before .before .before .before .wide3 .ensures .0 in
     card-fitted _ _ _ _ _ _ counts _ shapes counted (c .before .before .fit-card .ensures)
 

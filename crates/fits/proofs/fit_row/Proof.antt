@@ -1,4 +1,4 @@
--- `pairs::fit_row` meets its contract: the counts have room for each kind of the template, and no more.
+-- `fits::fit_row` meets its contract: the counts have room for each kind of the template, and no more.
 -- Assumes nothing.
 use borrow.Author.Needs.{needs}
 use Rattle.fits.proofs.CardCounts.{kinds-few, counts-length}
@@ -16,15 +16,15 @@ part-counts-start c = search needs
 
 part-counts-end : tie.Need-part-counts-end
 part-counts-end c =
-    let few = kinds-few _ _ _ (c .before .before .before .before .before .before .pre .0) in
+    let few = kinds-few _ _ _ (c .before .before .before .before .before .before .pre .0 .known .opened) in
     search needs
 
 fit-counted-requires : tie.Need-fit-counted-requires
 fit-counted-requires c κs =
     let s = c .before .before .before .before .before .before .before .before in
     let kinds = c .before .before .wide .ensures .0 in
-    let size = counts-length _ _ _ (s .pre .0) _ kinds in
-    (s .pre .0, s .pre .1, s .pre .2, s .pre .3, s .pre .4, s .pre .5, size)
+    let size = counts-length _ _ _ (s .pre .0 .known .opened) _ kinds in
+    (s .pre .0, record { card = s .pre .1; kinds = size })
 
 same-length : tie.Need-same-length
 same-length c = search needs
