@@ -16,12 +16,16 @@ Inv-loop template names shapes counts row₀ at₀ t₀ row at t = FittedBelow t
 abbrev μ-loop : tie.MeasureT-loop
 μ-loop template names shapes counts row₀ at₀ t₀ row at t = shapes - t
 
+-- The function's start, from the loop.
+abbrev start : tie.At-loop Inv-loop μ-loop → tie.Start Inv-loop μ-loop
+start l = l .before .before .before .before .before
+
 -- Where the words of the shape lie that the loop is at.
 shape-in : (c : tie.In-loop Inv-loop μ-loop) →
-    let s = c .before .before .before .before .before .before in
+    let s = start (c .before) in
     ShapeWithin (now (s .args .template)) (s .args .shapes) (c .before .loop .at)
 shape-in c =
-    let s = c .before .before .before .before .before .before in
+    let s = start (c .before) in
     shape-within _ _ _ _ _ _ (c .before .loop .inv) (omega arith) (s .pre .shaped)
 
 loop-holds : tie.Need-loop-holds Inv-loop μ-loop
@@ -45,8 +49,9 @@ part-fits-end c = let w = shape-in c in search needs
 fits-requires : tie.Need-fits-requires Inv-loop μ-loop
 fits-requires c κs =
     let w = shape-in (c .before) in
-    let s = c .before .before .before .before .before .before .before in
-    let inv = c .before .before .loop .inv in
+    let l = c .before .before in
+    let s = start l in
+    let inv = l .loop .inv in
     let names = now (s .args .names) in
     let row = shape-row _ _ _ _ _ _ inv (omega arith) names (s .pre .shaped) (s .pre .room) in
     record {

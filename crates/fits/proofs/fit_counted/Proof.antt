@@ -8,6 +8,10 @@ use Rattle.fits.proofs.CardCounts.{kinds-few, starts-within, kinds-with
 use Rattle.fits.proofs.fit_counted.Statement.{statement}
 use Rattle.fits.proofs.fit_counted.Tie as tie
 
+-- The function's start, from the point where both starts are read.
+abbrev start : tie.After-wide2 → tie.Start
+start w = w .before .before .before .before .before .before .before .before .before .before
+
 mul-wide : tie.Need-mul-wide
 mul-wide c = search needs
 
@@ -31,9 +35,10 @@ wide-requires-2 c κs = search needs
 
 count-kinds-requires : tie.Need-count-kinds-requires
 count-kinds-requires c κs =
-    let s = c .before .before .before .before .before .before .before .before .before .before .before in
-    let low = c .before .before .before .wide .ensures .0 in
-    let high = c .before .wide2 .ensures .0 in
+    let w = c .before in
+    let s = start w in
+    let low = w .before .before .wide .ensures .0 in
+    let high = w .wide2 .ensures .0 in
     let ready = s .pre .0 in
     let card = s .pre .1 .card in (
       starts-within _ _ _ _ _ _ _ (ready .known .opened) (ready .links) (card .below) low high,
@@ -46,7 +51,7 @@ wide-requires-3 c κs = search needs
 fit-card-requires : tie.Need-fit-card-requires
 fit-card-requires c κs =
     let a = c .before .before .before .before .before in
-    let s = a .before .before .before .before .before .before .before .before .before .before .before .before in
+    let s = start (a .before .before) in
     let shapes = c .before .before .wide3 .ensures .0 in
     let known = s .pre .0 .known in
     record {
@@ -66,11 +71,12 @@ same-length-2 c = search needs
 returns : tie.Need-returns
 returns c =
     let a = c .before .before .before .before .before .before .before .before in
-    let s = a .before .before .before .before .before .before .before .before .before .before .before .before in
+    let w = a .before .before in
+    let s = start w in
     let counts = a .count-kinds .last .1 .1 .1 .0 in
     let size = a .count-kinds .ensures .1 in
-    let low = a .before .before .before .before .wide .ensures .0 in
-    let high = a .before .before .wide2 .ensures .0 in
+    let low = w .before .before .wide .ensures .0 in
+    let high = w .wide2 .ensures .0 in
     let ready = s .pre .0 in
     let counted =
     counts-counted _ _ _ _ _ _ _ (ready .known .opened) (ready .links) (s .pre .1 .card .below) low high counts

@@ -5,6 +5,10 @@ use Rattle.fits.proofs.CardCounts.{kinds-few, counts-length}
 use Rattle.fits.proofs.fit_row.Statement.{statement}
 use Rattle.fits.proofs.fit_row.Tie as tie
 
+-- The function's start, from the point where the count of kinds is read.
+abbrev start : tie.After-wide → tie.Start
+start a = a .before .before .before .before .before .before
+
 wide-requires : tie.Need-wide-requires
 wide-requires c κs = search needs
 
@@ -16,13 +20,14 @@ part-counts-start c = search needs
 
 part-counts-end : tie.Need-part-counts-end
 part-counts-end c =
-    let few = kinds-few _ _ _ (c .before .before .before .before .before .before .pre .0 .known .opened) in
+    let few = kinds-few _ _ _ (start c .pre .0 .known .opened) in
     search needs
 
 fit-counted-requires : tie.Need-fit-counted-requires
 fit-counted-requires c κs =
-    let s = c .before .before .before .before .before .before .before .before in
-    let kinds = c .before .before .wide .ensures .0 in
+    let a = c .before .before in
+    let s = start a in
+    let kinds = a .wide .ensures .0 in
     let size = counts-length _ _ _ (s .pre .0 .known .opened) _ kinds in
     (s .pre .0, record { card = s .pre .1; kinds = size })
 
