@@ -15,10 +15,9 @@ use native.Mathlib.Nat.{eq-or-lt-of-le}
 use native.Mathlib.Numerals.{add-one}
 use lib.ListN.{length, getD}
 use lib.Dec.{ltb, leb, eqb}
-use borrow.Author.Tests.{le-leb, lt-leb, lt-ltb, le-ltb, eq-eqb, ne-eqb, leb-false, ltb-false, eqb-true}
+use borrow.Author.Tests.{le-leb, lt-leb, lt-ltb, le-ltb, eq-eqb, ne-eqb, leb-false, ltb-false, eqb-true, not-false}
 use Rattle.words.specs.Limits.{maxCards, maxLinks}
 use Rattle.words.specs.Reading.{Reading, accepted, turnedDown}
-use Rattle.words.proofs.Bools.{never-both, is-true, not-of-false}
 use Rattle.words.proofs.Readings.{accepted-same, passed, Numbered, refuse-numbered}
 use Rattle.script.specs.Link.{fromIndex, kindIndex, toIndex, fromAt, kindAt, toAt, above, Ascending}
 use Rattle.script.specs.declared.LinkTest.{LinkTest}
@@ -166,7 +165,7 @@ links-passed kinds cards script (suc n) i done c e =
       from-below = leb-false cards (fromAt script i) f;
       kind-below = leb-false kinds (kindAt script i) k;
       to-below = leb-false cards (toAt script i) t;
-      rising = is-true (λ f. never-both (not-of-false f) o);
+      rising = not-false (above script i) o;
     } in (
       d,
       λ j a b.
@@ -200,7 +199,7 @@ script-accepted kinds script c e =
     let links : c .links ≡ getD script 1 0 = sym (ap (λ (x : ScriptCounts). x .links) same) in
     let few : getD script 1 0 ≤ maxLinks = ltb-false maxLinks (getD script 1 0) m in
     let size : length script ≡ 2 + 3 * getD script 1 0 =
-    eqb-true (length script) (2 + 3 * getD script 1 0) (is-true (λ f. never-both (not-of-false f) z)) in
+    eqb-true (length script) (2 + 3 * getD script 1 0) (not-false _ z) in
     let at : (i : ℕ) → i < c .links → Passed kinds (getD script 0 0) script i =
     λ i l. p i (omega arith) (omega arith) in
     let up : Ascending script (c .links) = record {

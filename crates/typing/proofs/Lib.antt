@@ -1,10 +1,9 @@
 -- The theory of the two typings, lowest first.
--- Boards: the board of a script. Represents: a board stands for a sheet. Rounds: a sheet's rounds are
--- the board's. Largest, Smallest: the two typings. Demand: demand 3. Booked: bookings of a list that is read. Unique:
--- two answers to one call are the same. Neighbours, Instance: the board of a template and a script. Existence: every
--- sheet has one, so no contract leaves a choice. Numbers: which numbers the calls refuse with.
--- Adequate: met is decided, and a round strikes nothing exactly if its
--- set is sound. Apart: demand 3 of the two calls made apart.
+-- Boards: the board of a script and a table of names. Represents: a board stands for a sheet. Rounds: a sheet's rounds
+-- are the board's. Largest, Smallest: the two typings. Demand: both together. Booked: bookings of a list that is read.
+-- Unique: two answers to one call are the same. Neighbours, Instance: the board of a template and a script. Existence:
+-- every sheet has one, so no contract leaves a choice. Numbers: which numbers the calls refuse with. Adequate: met is
+-- decided, and a round strikes nothing exactly if its set is sound. Apart: the two calls made apart.
 pub mod Boards
 pub mod Represents
 pub mod Rounds
