@@ -1,6 +1,6 @@
 -- Known: what a sheet that is read has. Tested: the grid of its pairs that fit stands for it. Rows: the cards with no
--- shape. Striking, Settling: what the two searches leave is what they have to say. Readings: what reading finds. Answered:
--- what each way out of a call answers.
+-- shape. Striking, Settling: what the two searches leave is what they have to say. Readings: what reading finds.
+-- Answered: what each way out of a call answers.
 pub mod Known
 pub mod Tested
 pub mod Rows

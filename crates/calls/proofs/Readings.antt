@@ -27,7 +27,8 @@ module _ (template script : List ℕ) {r : SheetRead} (h : ReadAs template scrip
       → Known template script names e
   known-by table room q = record { opened = subst (ReadAs template script) q h; table = table; room = room }
 
-  pub refused-by : {number place : ℕ} → r ≡ read.Refused number place → readSheet template script ≡ turnedDown number place
+  pub refused-by : {number place : ℕ} → r ≡ read.Refused number place
+      → readSheet template script ≡ turnedDown number place
   refused-by q = subst (ReadAs template script) q h
 
   pub sheet-refused : (bookings : List ℕ) {number place : ℕ} → r ≡ read.Refused number place

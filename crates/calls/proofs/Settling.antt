@@ -52,7 +52,8 @@ module _ (cards shapes : ℕ) (bookings : List ℕ) {count : ℕ}
       })
 
 module _ {s : Sheet} {script names : List ℕ} {e : Extent} {grid : List ℕ} (t : Tested s script names e grid)
-    (bookings : List ℕ) {count : ℕ} (list : readBookings (e .cards) (e .shapes) bookings ≡ BookingReading.accepted count)
+    (bookings : List ℕ) {count : ℕ}
+    (list : readBookings (e .cards) (e .shapes) bookings ≡ BookingReading.accepted count)
   where
     listed : readBookings (s .cards) (s .shapes) bookings ≡ BookingReading.accepted count
     listed = rw (cards-same t, shapes-same t) list
@@ -133,4 +134,5 @@ module _ {s : Sheet} {script names : List ℕ} {e : Extent} {grid : List ℕ} (t
 
 pub settled-same : {s : Sheet} {bookings grid : List ℕ} {r q : Settled} → r ≡ q
     → SmallestFound s bookings grid (settledSaid r) → SmallestFound s bookings grid (settledSaid q)
-settled-same {s} {bookings} {grid} h found = subst (λ (x : Settled). SmallestFound s bookings grid (settledSaid x)) h found
+settled-same {s} {bookings} {grid} h found =
+    subst (λ (x : Settled). SmallestFound s bookings grid (settledSaid x)) h found

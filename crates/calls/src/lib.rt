@@ -1,6 +1,6 @@
-// The calls for the two typings of a script: the largest that it allows, and the smallest that holds the bookings. A call
-// reads what it is lent and then takes a few steps on the sheet that is read: test the pairs, strike rounds, settle the
-// bookings.
+// The calls for the two typings of a script: the largest that it allows, and the smallest that holds the bookings.
+// A call reads what it is lent, and takes a few steps on the sheet that is read: test the pairs, strike rounds, settle
+// the bookings.
 ghost use mathlib.Core.Path.{_≡_};
 ghost use Prim.Native.Nat.{_*_, _≤_};
 ghost use lib.ListN.{length, replicate};
@@ -49,8 +49,8 @@ enum Settled {
     NotMet(Card, Shape),
 }
 
-// What reading a template, a script and a booking list finds: the sheet's counts and that of the bookings, or number and
-// place.
+// What reading a template, a script and a booking list finds: the sheet's counts and that of the bookings, or number
+// and place.
 pub enum BookedRead {
     Sheet(Extent, u16),
     Refused(u16, usize),
@@ -145,8 +145,8 @@ fn strike(
     }
 }
 
-// Writes into the grid what follows from the bookings, whatever it held, and tests whether each pair of it fits: the grid
-// then has the smallest typing, or is all 0.
+// Writes into the grid what follows from the bookings, whatever it held, and tests whether each pair of it fits: the
+// grid then has the smallest typing, or is all 0.
 fn settle(
     script: &[u16],
     bookings: &[u16],
@@ -200,8 +200,8 @@ fn largest_of(
     LargestAnswer::Typed(found.rounds, found.struck, found.bare)
 }
 
-// The smallest typing of a sheet and bookings that are read, in a grid of its size. The other grid of its size then has the
-// pairs whose counts fit.
+// The smallest typing of a sheet and bookings that are read, in a grid of its size. The other grid of its size then has
+// the pairs whose counts fit.
 fn smallest_of(
     template: &[u16],
     script: &[u16],

@@ -1,4 +1,5 @@
--- `calls::both_typings` answers as the format says of both calls: a law of proofs/Answered for each way out. Assumes nothing.
+-- `calls::both_typings` answers as the format says of both calls: a law of proofs/Answered for each way out.
+-- Assumes nothing.
 use mathlib.Core.Path.{subst}
 use native.Mathlib.Omega.{arith}
 use denote.Ref.{now}

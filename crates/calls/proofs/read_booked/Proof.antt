@@ -1,4 +1,5 @@
--- `calls::read_booked` reads the sheet and then the bookings: a law of proofs/Readings for each answer. Assumes nothing.
+-- `calls::read_booked` reads the sheet and then the bookings: a law of proofs/Readings for each answer.
+-- Assumes nothing.
 use Prim.Native.Nat.{ℕ}
 use mathlib.Core.Path.{ap, _∙_}
 use lib.ListN.{length, length-replicate}
@@ -22,7 +23,8 @@ known : (c : tie.After-known-told2) → let s = start (read c) .args in
 known c =
     let sheet = read c .read-sheet in
     known-by _ _ (sheet .ensures .0) (sheet .ensures .1)
-    (sheet .kept .1 .1 .0 ∙ ap length (start (read c) .pre) ∙ length-replicate {A = ℕ} tableSize 0) (c .before .read2 .given .1)
+    (sheet .kept .1 .1 .0 ∙ ap length (start (read c) .pre) ∙ length-replicate {A = ℕ} tableSize 0)
+    (c .before .read2 .given .1)
 
 read-sheet-requires : tie.Need-read-sheet-requires
 read-sheet-requires c κs = search needs
@@ -56,8 +58,8 @@ same-length-2 c = search needs
 returns-2 : tie.Need-returns-2
 returns-2 c =
     let list = c .before .before .before in
-    list-refused (known (list .before)) (now (start (read (list .before)) .args .bookings)) (list .read-bookings .ensures)
-    (c .before .list .given .1)
+    list-refused (known (list .before)) (now (start (read (list .before)) .args .bookings))
+    (list .read-bookings .ensures) (c .before .list .given .1)
 
 same-length-3 : tie.Need-same-length-3
 same-length-3 c = search needs
@@ -65,8 +67,8 @@ same-length-3 c = search needs
 returns-3 : tie.Need-returns-3
 returns-3 c =
     let list = c .before .before .before in
-    listed-by (known (list .before)) (now (start (read (list .before)) .args .bookings)) (list .read-bookings .ensures)
-    (c .before .list2 .given .1)
+    listed-by (known (list .before)) (now (start (read (list .before)) .args .bookings))
+    (list .read-bookings .ensures) (c .before .list2 .given .1)
 
 pub read-booked-spec : {M : Type 1} → statement M
 read-booked-spec =

@@ -1,5 +1,5 @@
--- `calls::settle` leaves the smallest typing that holds the bookings, or 50, of each sheet whose pairs that fit it was lent.
--- Assumes nothing.
+-- `calls::settle` leaves the smallest typing that holds the bookings, or 50, of each sheet whose pairs that fit it was
+-- lent. Assumes nothing.
 use mathlib.Core.Path.{sym, _∙_}
 use native.Mathlib.Omega.{arith}
 use denote.Ref.{now}
