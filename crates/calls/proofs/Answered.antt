@@ -29,9 +29,9 @@ module _ (template script : List ℕ) where
         → LargestSays template script grid grid (refusal 40 (0 ∷ []))
     largest-size grid ne = rw (h, ne-eqb (length grid) (size s) ne) (refl, refl)
 
-    pub largest-done : (before after : List ℕ) (said : Said) → length before ≡ size s
-        → LargestFound s after said → LargestSays template script before after said
-    largest-done before after said e found = rw (h, eq-eqb (length before) (size s) e) found
+    pub largest-done : (before after : List ℕ) (said : Said) {told : Said} → length before ≡ size s
+        → said ≡ told → LargestFound s after told → LargestSays template script before after said
+    largest-done before after said e same found = rw (same, h, eq-eqb (length before) (size s) e) found
 
   module _ (bookings : List ℕ) where
     module _ (number place : ℕ) (h : withBookings bookings (readSheet template script) ≡ turnedDown number place) where
@@ -47,9 +47,9 @@ module _ (template script : List ℕ) where
           → SmallestSays template script bookings grid grid (refusal 40 (0 ∷ []))
       smallest-size grid ne = rw (h, ne-eqb (length grid) (size s) ne) (refl, refl)
 
-      pub smallest-done : (before after : List ℕ) (said : Said) → length before ≡ size s
-          → SmallestFound s bookings after said → SmallestSays template script bookings before after said
-      smallest-done before after said e found = rw (h, eq-eqb (length before) (size s) e) found
+      pub smallest-done : (before after : List ℕ) (said : Said) {told : Said} → length before ≡ size s
+          → said ≡ told → SmallestFound s bookings after told → SmallestSays template script bookings before after said
+      smallest-done before after said e same found = rw (same, h, eq-eqb (length before) (size s) e) found
 
       pub both-small : (grids : Grids) → (length (grids .small) ≡ size s → ⊥)
           → BothSays template script bookings grids grids (twice 40 0)
@@ -60,9 +60,9 @@ module _ (template script : List ℕ) where
       both-large grids e ne =
           rw (h, eq-eqb (length (grids .small)) (size s) e, ne-eqb (length (grids .large)) (size s) ne) (refl, refl)
 
-      pub both-done : (before after : Grids) (said : BothSaid)
+      pub both-done : (before after : Grids) (said : BothSaid) {told : BothSaid}
           → length (before .small) ≡ size s → length (before .large) ≡ size s
-          → BothFound s bookings (after .small) (after .large) said
+          → said ≡ told → BothFound s bookings (after .small) (after .large) told
           → BothSays template script bookings before after said
-      both-done before after said e f found =
-          rw (h, eq-eqb (length (before .small)) (size s) e, eq-eqb (length (before .large)) (size s) f) found
+      both-done before after said e f same found =
+          rw (same, h, eq-eqb (length (before .small)) (size s) e, eq-eqb (length (before .large)) (size s) f) found

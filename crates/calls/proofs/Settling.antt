@@ -1,7 +1,6 @@
 -- What follows from the bookings is the smallest typing, or 50.
 --   listed-room, listed-in        a booking list that is read has its bookings, each in the sheet
 --   met-found, unmet-found        the answer where each pair that follows fits, and where one does not
---   settled-same                  what is said, by the case that it is
 --   both-of-found                 the two answers together are that of the call for both
 -- Assumes nothing.
 use Prim.Native.Nat.{ℕ, _+_, _*_, _≤_, _<_}
@@ -27,8 +26,7 @@ use Rattle.typing.proofs.Demand.{both-found}
 use Rattle.search.specs.declared.Unfit.{Unfit}
 use Rattle.search.specs.declared.Unfit.the-variants as unfit
 use Rattle.search.specs.Closing.{BookedAt, Closes, UnfitFound}
-use Rattle.calls.specs.Steps.{Tested, settledSaid}
-use Rattle.calls.specs.declared.Settled.{Settled}
+use Rattle.calls.specs.Steps.{Tested}
 use Rattle.calls.proofs.Known.{read}
 use Rattle.calls.proofs.Tested.{cards-same, shapes-same, full, stands}
 
@@ -131,8 +129,3 @@ module _ {s : Sheet} {script names : List ℕ} {e : Extent} {grid : List ℕ} (t
             rw (sym (shapes-same t)) at (subst (UnfitFound closure grid (e .shapes) after) h judged) in
             subst (λ (g : List ℕ). SmallestFound s bookings g (refusal 50 (card .0 ∷ shape .0 ∷ []))) (sym same)
             (not-met-by (card .0) (shape .0) small inside first)
-
-pub settled-same : {s : Sheet} {bookings grid : List ℕ} {r q : Settled} → r ≡ q
-    → SmallestFound s bookings grid (settledSaid r) → SmallestFound s bookings grid (settledSaid q)
-settled-same {s} {bookings} {grid} h found =
-    subst (λ (x : Settled). SmallestFound s bookings grid (settledSaid x)) h found

@@ -4,7 +4,7 @@
 -- Listed        a sheet with its table of names and a booking list, all read; BookedAs: what reading them finds
 -- Sized, Lent   what is read, with a grid or two grids of the sheet's size
 -- Settling      what settling the bookings asks for
--- struckSaid, settledSaid   what the two searches say
+-- struckSaid, settledSaid, bothOf   what the two searches say, and both
 -- Assumes nothing.
 use Prim.Native.Nat.{ℕ, _*_}
 use mathlib.Core.Path.{_≡_}
@@ -16,11 +16,13 @@ use Rattle.sheet.specs.Sheet.{Sheet, ask, turnedDown, readSheet}
 use Rattle.sheet.specs.Opened.{Known}
 use Rattle.sheet.specs.declared.Extent.{Extent}
 use Rattle.bookings.specs.Bookings.{BookingReading, readBookings}
+use Rattle.typing.specs.Answer.{BothSaid}
 use Rattle.typing.specs.Calls.{withBookings}
 use Rattle.fits.specs.Fitting.{Fitted}
 use Rattle.calls.specs.declared.Struck.{Struck}
 use Rattle.calls.specs.declared.Settled.{Settled}
 use Rattle.calls.specs.declared.Settled.the-variants as settled
+use Rattle.calls.specs.declared.Both.{Both}
 use Rattle.calls.specs.declared.BookedRead.{BookedRead}
 use Rattle.calls.specs.declared.BookedRead.the-variants as read
 
@@ -76,3 +78,6 @@ struckSaid r = values (r .rounds ∷ r .struck ∷ r .bare ∷ [])
 abbrev pub settledSaid : Settled → Said
 settledSaid (settled.Pairs pairs) = values (pairs ∷ [])
 settledSaid (settled.NotMet card shape) = refusal 50 (card .0 ∷ shape .0 ∷ [])
+
+abbrev pub bothOf : Both → BothSaid
+bothOf r = record { largest = struckSaid (r .largest); smallest = settledSaid (r .smallest) }

@@ -11,7 +11,7 @@ ghost use Rattle.typing.specs.Answer.{largestSaid, smallestSaid, bothSaid};
 ghost use Rattle.typing.specs.Largest.{bareCards};
 ghost use Rattle.typing.specs.Calls.{LargestFound, LargestSays, SmallestFound, SmallestSays, BothFound, BothSays};
 ghost use Rattle.calls.specs.Steps.{Tested, PairsTested, BookedAs, Sized, Lent, Settling};
-ghost use Rattle.calls.specs.Steps.{struckSaid, settledSaid};
+ghost use Rattle.calls.specs.Steps.{struckSaid, settledSaid, bothOf};
 use board::count_on;
 use bookings::BookingRead;
 use bookings::read_bookings;
@@ -37,16 +37,22 @@ use words::TABLE_SIZE;
 const STARTS: usize = MAX_CARDS + 1;
 
 // What striking rounds found: rounds, pairs struck, cards with no shape.
-struct Struck {
-    rounds: usize,
-    struck: usize,
-    bare: usize,
+pub struct Struck {
+    pub rounds: usize,
+    pub struck: usize,
+    pub bare: usize,
 }
 
 // How bookings fared: the number of pairs that follow from them, or the lowest of these that is not met.
-enum Settled {
+pub enum Settled {
     Pairs(usize),
     NotMet(Card, Shape),
+}
+
+// What was found of both typings.
+pub struct Both {
+    pub largest: Struck,
+    pub smallest: Settled,
 }
 
 // What reading a template, a script and a booking list finds: the sheet's counts and that of the bookings, or number
@@ -182,22 +188,15 @@ fn settle(
 }
 
 // The largest typing of a sheet that is read, in a grid of its size.
-fn largest_of(
-    template: &[u16],
-    script: &[u16],
-    names: &[u8],
-    e: Extent,
-    grid: &mut [u8],
-) -> LargestAnswer
+fn largest_of(template: &[u16], script: &[u16], names: &[u8], e: Extent, grid: &mut [u8]) -> Struck
     requires { ⌜ Sized (now template) (now script) (now names) e (now grid) ⌝ }
     ensures { λ r. ⌜ ((s : Sheet) → readSheet (now (template .entry)) (now (script .entry)) ≡ ask s
-        → LargestFound s (now (grid .exit)) (largestSaid r)) ⌝ }
+        → LargestFound s (now (grid .exit)) (struckSaid r)) ⌝ }
 {
     let mut starts = [0u16; STARTS];
     test_pairs(template, script, names, e, &mut starts, grid);
     let mut queue = [0u16; MAX_GRID];
-    let found = strike(script, names, e, grid, &mut queue);
-    LargestAnswer::Typed(found.rounds, found.struck, found.bare)
+    strike(script, names, e, grid, &mut queue)
 }
 
 // The smallest typing of a sheet and bookings that are read, in a grid of its size. The other grid of its size then has
@@ -211,15 +210,15 @@ fn smallest_of(
     e: Extent,
     fitting: &mut [u8],
     grid: &mut [u8],
-) -> SmallestAnswer
+) -> Settled
     requires { ⌜ Lent (now template) (now script) (now names) e (now bookings) count (now grid) (now fitting) ⌝ }
     ensures { λ r. ⌜ ((s : Sheet) → readSheet (now (template .entry)) (now (script .entry)) ≡ ask s
-        → SmallestFound s (now (bookings .entry)) (now (grid .exit)) (smallestSaid r)) ⌝ }
+        → SmallestFound s (now (bookings .entry)) (now (grid .exit)) (settledSaid r)) ⌝ }
 {
     let mut starts = [0u16; STARTS];
     test_pairs(template, script, names, e, &mut starts, fitting);
     let mut queue = [0u16; MAX_GRID];
-    let settled = settle(
+    settle(
         script,
         bookings,
         count,
@@ -229,11 +228,7 @@ fn smallest_of(
         fitting,
         grid,
         &mut queue,
-    );
-    match settled {
-        Settled::Pairs(pairs) => SmallestAnswer::Pairs(pairs),
-        Settled::NotMet(card, shape) => SmallestAnswer::NotMet(card, shape),
-    }
+    )
 }
 
 // Both typings of a sheet and bookings that are read, in grids of its size. Each pair's counts are tested once.
@@ -246,15 +241,15 @@ pub fn both_of(
     e: Extent,
     small: &mut [u8],
     large: &mut [u8],
-) -> BothAnswer
+) -> Both
     requires { ⌜ Lent (now template) (now script) (now names) e (now bookings) count (now small) (now large) ⌝ }
     ensures { λ r. ⌜ ((s : Sheet) → readSheet (now (template .entry)) (now (script .entry)) ≡ ask s
-        → BothFound s (now (bookings .entry)) (now (small .exit)) (now (large .exit)) (bothSaid r)) ⌝ }
+        → BothFound s (now (bookings .entry)) (now (small .exit)) (now (large .exit)) (bothOf r)) ⌝ }
 {
     let mut starts = [0u16; STARTS];
     test_pairs(template, script, names, e, &mut starts, large);
     let mut queue = [0u16; MAX_GRID];
-    let settled = settle(
+    let smallest = settle(
         script,
         bookings,
         count,
@@ -265,11 +260,37 @@ pub fn both_of(
         small,
         &mut queue,
     );
-    let found = strike(script, names, e, large, &mut queue);
-    match settled {
-        Settled::Pairs(pairs) => BothAnswer::Typed(found.rounds, found.struck, found.bare, pairs),
+    let largest = strike(script, names, e, large, &mut queue);
+    Both { largest, smallest }
+}
+
+// The answer of the call for the largest.
+fn struck_answer(found: Struck) -> LargestAnswer
+    ensures { λ r. ⌜ largestSaid r ≡ struckSaid found ⌝ }
+{
+    LargestAnswer::Typed(found.rounds, found.struck, found.bare)
+}
+
+// The answer of the call for the smallest.
+fn settled_answer(found: Settled) -> SmallestAnswer
+    ensures { λ r. ⌜ smallestSaid r ≡ settledSaid found ⌝ }
+{
+    match found {
+        Settled::Pairs(pairs) => SmallestAnswer::Pairs(pairs),
+        Settled::NotMet(card, shape) => SmallestAnswer::NotMet(card, shape),
+    }
+}
+
+// The answer of the call for both.
+fn both_answer(found: Both) -> BothAnswer
+    ensures { λ r. ⌜ bothSaid r ≡ bothOf found ⌝ }
+{
+    let large = found.largest;
+    let small = found.smallest;
+    match small {
+        Settled::Pairs(pairs) => BothAnswer::Typed(large.rounds, large.struck, large.bare, pairs),
         Settled::NotMet(card, shape) => {
-            BothAnswer::NotMet(found.rounds, found.struck, found.bare, card, shape)
+            BothAnswer::NotMet(large.rounds, large.struck, large.bare, card, shape)
         }
     }
 }
@@ -287,7 +308,7 @@ pub fn largest(template: &[u16], script: &[u16], grid: &mut [u8]) -> LargestAnsw
             if grid.len() != grid_size(e) {
                 return LargestAnswer::Refused(40, 0);
             }
-            largest_of(template, script, &names, e, grid)
+            struck_answer(largest_of(template, script, &names, e, grid))
         }
     }
 }
@@ -312,21 +333,13 @@ pub fn smallest(
                 return SmallestAnswer::Refused(40, 0);
             }
             let mut fitting = [0u8; MAX_GRID];
-            smallest_of(
-                template,
-                script,
-                bookings,
-                count,
-                &names,
-                e,
-                &mut fitting[0..size],
-                grid,
-            )
+            let pairs = &mut fitting[0..size];
+            settled_answer(smallest_of(template, script, bookings, count, &names, e, pairs, grid))
         }
     }
 }
 
-// Both typings in one call: each as its own call gives it, and demand 3 of the two together.
+// Both typings in one call: each as its own call gives it, and what holds of the two together.
 pub fn both_typings(
     template: &[u16],
     script: &[u16],
@@ -350,7 +363,7 @@ pub fn both_typings(
             if large.len() != size {
                 return BothAnswer::Refused(40, 0);
             }
-            both_of(template, script, bookings, count, &names, e, small, large)
+            both_answer(both_of(template, script, bookings, count, &names, e, small, large))
         }
     }
 }

@@ -2,11 +2,11 @@
 use denote.Ref.{now}
 use borrow.Author.Needs.{needs}
 use Rattle.calls.proofs.Known.{sheet, asked}
-use Rattle.calls.proofs.Settling.{settled-same, both-of-found}
+use Rattle.calls.proofs.Settling.{both-of-found}
 use Rattle.calls.proofs.both_of.Statement.{statement}
 use Rattle.calls.proofs.both_of.Tie as tie
 
--- The start, the pairs as they were tested, the bookings as they were settled, and the rounds struck.
+-- The start, the pairs as they were tested, and the bookings as they were settled.
 abbrev start : tie.After-test-pairs → tie.Start
 start c = c .before .before .before .before .before .before .before .before .before
 
@@ -15,12 +15,6 @@ tested c = c .before .before .before .before .before .before
 
 abbrev settled : tie.After-queue2 → tie.After-settle
 settled c = c .before .before .before .before
-
-abbrev struck : tie.At-match-keys1 → tie.After-strike
-struck c = c .before .before .before
-
-abbrev struck2 : tie.At-match-keys2 → tie.After-strike
-struck2 c = c .before .before .before
 
 test-pairs-requires : tie.Need-test-pairs-requires
 test-pairs-requires c κs = search needs
@@ -44,12 +38,6 @@ strike-requires c κs =
     let k = start pairs .pre .listed .known in
     (sheet k, pairs .test-pairs .ensures .tested (sheet k) (asked k))
 
-enum-known-settled : tie.Need-enum-known-settled
-enum-known-settled c = search needs
-
-enum-known-settled-2 : tie.Need-enum-known-settled-2
-enum-known-settled-2 c = search needs
-
 same-length : tie.Need-same-length
 same-length c = search needs
 
@@ -58,27 +46,12 @@ same-length-2 c = search needs
 
 returns : tie.Need-returns
 returns c s q =
-    let rounds = struck (c .before .before) in
+    let rounds = c .before .before in
     let told = settled (rounds .before) in
     let pairs = tested (told .before) in
     let t = pairs .test-pairs .ensures .tested s q in
     both-of-found t (now (start pairs .args .bookings)) (start pairs .pre .listed .list) (rounds .strike .ensures s t)
-    (settled-same (c .before .settled .given .1) (told .settle .ensures s t))
-
-same-length-3 : tie.Need-same-length-3
-same-length-3 c = search needs
-
-same-length-4 : tie.Need-same-length-4
-same-length-4 c = search needs
-
-returns-2 : tie.Need-returns-2
-returns-2 c s q =
-    let rounds = struck2 (c .before .before) in
-    let told = settled (rounds .before) in
-    let pairs = tested (told .before) in
-    let t = pairs .test-pairs .ensures .tested s q in
-    both-of-found t (now (start pairs .args .bookings)) (start pairs .pre .listed .list) (rounds .strike .ensures s t)
-    (settled-same (c .before .settled2 .given .1) (told .settle .ensures s t))
+    (told .settle .ensures s t)
 
 pub both-of-spec : {M : Type 1} → statement M
 both-of-spec =
@@ -87,11 +60,6 @@ both-of-spec =
     test-pairs-requires
     settle-requires
     strike-requires
-    enum-known-settled
-    enum-known-settled-2
     same-length
     same-length-2
-    returns
-    same-length-3
-    same-length-4
-    returns-2)
+    returns)

@@ -75,6 +75,9 @@ both-of-requires c κs =
       other-size = omega (arith, size .grid-size .ensures);
     }
 
+both-answer-requires : tie.Need-both-answer-requires
+both-answer-requires c κs = search needs
+
 returns-3 : tie.Need-returns-3
 returns-3 c =
     let both = c .before .before .before .before in
@@ -91,14 +94,14 @@ same-length-2 c = search needs
 
 returns-4 : tie.Need-returns-4
 returns-4 c =
-    let found = c .before .before .before .before in
+    let found = c .before .before .before .before .before in
     let size = found .before .before .before .before .before .before in
     let told = size .before in
     let s = start (read told) .args in
     let l = listed told in
     both-done (now (s .template)) (now (s .script)) (now (s .bookings)) (sheet (l .known)) (listed-asked l)
     (grids (read told)) _ _ (omega (arith, size .grid-size .ensures)) (omega (arith, size .grid-size .ensures))
-    (found .both-of .ensures (sheet (l .known)) (asked (l .known)))
+    (c .both-answer .ensures) (found .both-of .ensures (sheet (l .known)) (asked (l .known)))
 
 pub both-typings-spec : {M : Type 1} → statement M
 both-typings-spec =
@@ -113,6 +116,7 @@ both-typings-spec =
     returns-2
     slice-aggregate-both-of
     both-of-requires
+    both-answer-requires
     returns-3
     same-length
     same-length-2

@@ -1,5 +1,4 @@
 -- `calls::largest` answers as the format says: a law of proofs/Answered for each way out. Assumes nothing.
-use Prim.Native.Nat.{_≤_}
 use native.Mathlib.Omega.{arith}
 use denote.Ref.{now}
 use borrow.Author.Needs.{needs}
@@ -54,6 +53,9 @@ largest-of-requires c κs =
     let size = c .before .before .before in
     record { known = known (size .before); size = omega (arith, size .grid-size .ensures) }
 
+struck-answer-requires : tie.Need-struck-answer-requires
+struck-answer-requires c κs = search needs
+
 returns-2 : tie.Need-returns-2
 returns-2 c =
     let sheet = c .before .before .before .before in
@@ -66,13 +68,14 @@ same-length c = search needs
 
 returns-3 : tie.Need-returns-3
 returns-3 c =
-    let found = c .before .before in
+    let found = c .before .before .before in
     let size = found .before .before .before .before in
     let told = size .before in
     let s = start (read told) .args in
     let k = known told in
     largest-done (now (s .template)) (now (s .script)) (sheet k) (asked k) (now (s .grid)) _ _
-    (omega (arith, size .grid-size .ensures)) (found .largest-of .ensures (sheet k) (asked k))
+    (omega (arith, size .grid-size .ensures)) (c .struck-answer .ensures)
+    (found .largest-of .ensures (sheet k) (asked k))
 
 pub largest-spec : {M : Type 1} → statement M
 largest-spec =
@@ -86,6 +89,7 @@ largest-spec =
     returns
     slice-aggregate-largest-of
     largest-of-requires
+    struck-answer-requires
     returns-2
     same-length
     returns-3)

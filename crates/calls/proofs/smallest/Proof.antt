@@ -48,19 +48,19 @@ returns c =
     smallest-size (now (s .template)) (now (s .script)) (now (s .bookings)) (sheet (l .known)) (listed-asked l)
     (now (s .grid)) (λ e. c .if1 .taken (omega (arith, c .before .grid-size .ensures)))
 
-slice-aggregate-smallest-of : tie.Need-slice-aggregate-smallest-of
-slice-aggregate-smallest-of c = search needs
-
-sub-smallest-of : tie.Need-sub-smallest-of
-sub-smallest-of c = search needs
+sub-pairs : tie.Need-sub-pairs
+sub-pairs c = search needs
 
 part-fitting-start : tie.Need-part-fitting-start
 part-fitting-start c = search needs
 
 part-fitting-end : tie.Need-part-fitting-end
 part-fitting-end c =
-    let size = c .before .before in
+    let size = c .before in
     omega (arith, size .grid-size .ensures, few-pairs (listed (size .before) .known))
+
+slice-aggregate-smallest-of : tie.Need-slice-aggregate-smallest-of
+slice-aggregate-smallest-of c = search needs
 
 smallest-of-requires : tie.Need-smallest-of-requires
 smallest-of-requires c κs =
@@ -71,6 +71,9 @@ smallest-of-requires c κs =
       size = omega (arith, size .grid-size .ensures);
       other-size = omega (arith, size .grid-size .ensures, few-pairs (l .known));
     }
+
+settled-answer-requires : tie.Need-settled-answer-requires
+settled-answer-requires c κs = search needs
 
 returns-2 : tie.Need-returns-2
 returns-2 c =
@@ -85,13 +88,13 @@ same-length c = search needs
 
 returns-3 : tie.Need-returns-3
 returns-3 c =
-    let found = c .before .before .before in
+    let found = c .before .before .before .before in
     let size = found .before .before .before .before .before in
     let told = size .before in
     let s = start (read told) .args in
     let l = listed told in
     smallest-done (now (s .template)) (now (s .script)) (now (s .bookings)) (sheet (l .known)) (listed-asked l)
-    (now (s .grid)) _ _ (omega (arith, size .grid-size .ensures))
+    (now (s .grid)) _ _ (omega (arith, size .grid-size .ensures)) (c .settled-answer .ensures)
     (found .smallest-of .ensures (sheet (l .known)) (asked (l .known)))
 
 pub smallest-spec : {M : Type 1} → statement M
@@ -104,11 +107,12 @@ smallest-spec =
     enum-known-read-2
     grid-size-requires
     returns
-    slice-aggregate-smallest-of
-    sub-smallest-of
+    sub-pairs
     part-fitting-start
     part-fitting-end
+    slice-aggregate-smallest-of
     smallest-of-requires
+    settled-answer-requires
     returns-2
     same-length
     returns-3)
