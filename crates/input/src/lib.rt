@@ -1,8 +1,11 @@
-// Writing the text of a printed sheet into a lent buffer, a piece at a time, and finding the printer's input in bytes.
+// The printer's input: finding its three sections in bytes, and decoding their words.
 ghost use mathlib.Core.Path.{_≡_};
 ghost use Prim.Native.Nat.{_+_, _*_, _≤_, _<_};
 ghost use lib.ListN.{length};
-ghost use Rattle.input.specs.Input.{wordAt, Decoded, readInput, sectionsRead, Inside};
+ghost use Rattle.input.specs.Input.{wordAt, readInput};
+ghost use Rattle.input.specs.Machine.{Decodes, Decoded, sectionsRead, Inside};
+use words::MAX_INPUT;
+use words::wide;
 
 // Where a section's words start in the input, and how many they are.
 pub struct Section {
@@ -33,7 +36,7 @@ fn word_at(bytes: &[u8], at: usize) -> u16
 
 // Puts `count` words from the byte `at` on into the front of `words`.
 pub fn decode(bytes: &[u8], at: usize, count: usize, words: &mut [u16])
-    requires { ⌜ (at + 2 * count ≤ length (now bytes)) × (count ≤ length (now words)) ⌝ }
+    requires { ⌜ Decodes (now bytes) at count (now words) ⌝ }
     ensures { λ _. ⌜ Decoded (now (bytes .entry)) at count (now (words .exit)) ⌝ }
 {
     let mut i = 0;
@@ -48,7 +51,7 @@ fn count_at(bytes: &[u8], at: usize) -> usize
     requires { ⌜ at + 2 ≤ length (now bytes) ⌝ }
     ensures { λ r. ⌜ (r ≡ wordAt (now (bytes .entry)) at) × (r ≤ 65535) ⌝ }
 {
-    word_at(bytes, at) as usize
+    wide(word_at(bytes, at))
 }
 
 // Finds the three sections of the input.
@@ -56,7 +59,7 @@ pub fn find_sections(bytes: &[u8]) -> Sections
     ensures reads { λ r. ⌜ readInput (now (bytes .entry)) ≡ sectionsRead (now (bytes .entry)) r ⌝ }
     ensures inside { λ r. ⌜ Inside (now (bytes .entry)) r ⌝ }
 {
-    if 65536 < bytes.len() {
+    if MAX_INPUT < bytes.len() {
         return Sections::Faulty;
     }
     if bytes.len() < 2 {

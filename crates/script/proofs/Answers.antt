@@ -2,18 +2,19 @@
 -- script-answer-unique   an answer says what no other answer says
 -- read-script-unique     reading a script has one answer
 -- links-of-card-unique   a card has one list of links
--- script-read, script-turned   the script's reading, from what it says
+-- script-read            the script's reading, from the counts that it says
 -- Assumes nothing.
 use Prim.Native.Nat.{ℕ}
-use mathlib.Core.Path.{_≡_, refl, sym, _∙_}
+use mathlib.Core.Path.{_≡_, sym, ap₂, _∙_}
 use mathlib.Core.List.{List, [], _∷_}
 use native.Mathlib.Omega.{arith}
 use Rattle.script.specs.declared.ScriptAnswer.{ScriptAnswer}
 use Rattle.script.specs.declared.ScriptAnswer.the-variants.{Counts, Refused}
 use Rattle.script.specs.Answer.{scriptSaid}
-use Rattle.script.specs.Script.{ScriptReading, accepted, turnedDown, scriptAnswer, scriptSays, cardLinks}
-use Rattle.words.specs.Said.{values, refusal}
-use Rattle.words.proofs.Said.{values-refusal}
+use Rattle.script.specs.Script.{ScriptCounts, countsOf, scriptValues, scriptSays, cardLinks}
+use Rattle.words.specs.Said.{values}
+use Rattle.words.specs.Reading.{Reading, accepted, saidOf}
+use Rattle.words.proofs.Readings.{said-accepted}
 
 pub script-answer-unique : (a b : ScriptAnswer) → scriptSaid a ≡ scriptSaid b → a ≡ b
 script-answer-unique (Counts n m) (Counts k l) e = cc
@@ -30,18 +31,10 @@ pub links-of-card-unique : (template script : List ℕ) (card : ℕ) (a b : List
 links-of-card-unique template script card a b p q = p ∙ sym q
 
 -- The script's reading, from what it says.
-pub script-read :
-    (r : ScriptReading) (cards links : ℕ) → values (cards ∷ links ∷ []) ≡ scriptAnswer r → r ≡ accepted cards links
-script-read (accepted n m) cards links e =
-    let p : n ≡ cards = cc in
-    let q : m ≡ links = cc in
-    rw (p, q) refl
-script-read (turnedDown n p) cards links e = values-refusal e
-
-pub script-turned :
-    (r : ScriptReading) (number place : ℕ) → refusal number (place ∷ []) ≡ scriptAnswer r → r ≡ turnedDown number place
-script-turned (accepted n m) number place e = values-refusal (sym e)
-script-turned (turnedDown n p) number place e =
-    let i : n ≡ number = cc in
-    let j : p ≡ place = cc in
-    rw (i, j) refl
+pub script-read : (r : Reading ScriptCounts) (cards links : ℕ) → values (cards ∷ links ∷ []) ≡ saidOf scriptValues r
+    → r ≡ accepted (countsOf cards links)
+script-read r cards links e =
+    let (counts, read, same) = said-accepted scriptValues r (cards ∷ links ∷ []) e in
+    let p : counts .cards ≡ cards = cc in
+    let q : counts .links ≡ links = cc in
+    read ∙ ap₂ (λ (x y : ℕ). accepted (countsOf x y)) p q

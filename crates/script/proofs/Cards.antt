@@ -17,6 +17,7 @@ use lib.Seq.{take-add, drop-drop, drop-cons}
 use lib.Dec.{ltb, eqb}
 use borrow.Author.Tests.{lt-ltb, le-ltb, eq-eqb, ne-eqb}
 use Rattle.script.specs.Link.{fromAt, kindAt, toAt, Ascending, cardWords, below}
+use Rattle.script.specs.Steps.{Within}
 use Rattle.words.proofs.Bools.{le-or-lt, one-or-none}
 use Rattle.script.proofs.Order.{StartsRise, starts-rise}
 
@@ -188,11 +189,6 @@ module _ (script : List ℕ) (m : ℕ) (rise : StartsRise script m) (size : 2 + 
       ∙ words-within (hi - lo) (omega arith) ∙ ap (part script lo) q
 
 -- The part between two counts: where it lies, and what it holds.
-pub record Within (script : List ℕ) (lo hi : ℕ) : Type 0 where
-  pub order : lo ≤ hi
-  pub few : hi ≤ 8192
-  pub end : 2 + 3 * hi ≤ length script
-
 module _ (script : List ℕ) (m : ℕ) (a : Ascending script m) (c lo hi : ℕ)
     (l : lo ≡ below script c m) (h : hi ≡ below script (c + 1) m)
   where

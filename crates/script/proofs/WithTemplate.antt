@@ -4,73 +4,53 @@
 -- card-links-none, card-links-outside, card-links-part   a card's links: none, or its words
 -- Assumes nothing.
 use Prim.Native.Nat.{ℕ, _≤_, _<_}
-use mathlib.Core.Path.{_≡_, refl, sym, ap}
+use mathlib.Core.Path.{_≡_, refl, sym, ap, _∙_}
 use mathlib.Core.List.{List, [], _∷_}
-use native.Mathlib.Omega.{arith}
 use borrow.Author.Tests.{lt-ltb, le-ltb}
 use Rattle.words.specs.Said.{values, refusal}
-use Rattle.words.proofs.Said.{values-refusal}
-use Rattle.script.proofs.Answers.{script-read}
-use Rattle.template.specs.Template.{TemplateReading, readTemplate, templateAnswer, templateSays}
+use Rattle.words.specs.Reading.{Reading, accepted, then, saidOf}
+use Rattle.words.proofs.Readings.{then-accepted, said-turned}
+use Rattle.template.specs.Template.{Template, readTemplate, templateSays}
+use Rattle.template.proofs.Answers.{template-read, template-turned}
 use Rattle.script.specs.Link.{cardWords}
-use Rattle.script.specs.Script.{ScriptReading, accepted, turnedDown, readScript, scriptAnswer, withTemplate}
-use Rattle.script.specs.Script.{scriptSays, linksOf, cardLinks}
+use Rattle.script.specs.Script.{countsOf, readScript, scriptValues, readWith, scriptSays, cardLinks}
 use Rattle.script.proofs.Reading.{Accepted, script-accepted}
-
-counts-of : (script : List ℕ) (kinds shapes : ℕ) (t : TemplateReading)
-    → values (kinds ∷ shapes ∷ []) ≡ templateAnswer t
-    → scriptAnswer (readScript kinds script) ≡ scriptAnswer (withTemplate t script)
-counts-of script kinds shapes (TemplateReading.accepted k s trees) e =
-    ap (λ (n : ℕ). scriptAnswer (readScript n script)) (cc)
-counts-of script kinds shapes (TemplateReading.turnedDown number place) e = values-refusal e
+use Rattle.script.proofs.Answers.{script-read}
 
 pub script-counts : (template script : List ℕ) (kinds shapes : ℕ)
     → values (kinds ∷ shapes ∷ []) ≡ templateSays template
-    → scriptAnswer (readScript kinds script) ≡ scriptSays template script
-unfolding templateSays scriptSays
-script-counts template script kinds shapes e = counts-of script kinds shapes (readTemplate template) e
-
-refusal-of : (script : List ℕ) (number place : ℕ) (t : TemplateReading)
-    → refusal number (place ∷ []) ≡ templateAnswer t
-    → refusal number (place ∷ []) ≡ scriptAnswer (withTemplate t script)
-refusal-of script number place (TemplateReading.accepted k s trees) e = values-refusal (sym e)
-refusal-of script number place (TemplateReading.turnedDown n p) e = e
+    → saidOf scriptValues (readScript kinds script) ≡ scriptSays template script
+unfolding scriptSays
+script-counts template script kinds shapes e =
+    let (t, read, same-kinds, same-shapes) = template-read template kinds shapes e in
+    ap (λ (n : ℕ). saidOf scriptValues (readScript n script)) same-kinds
+    ∙ sym (ap (λ (r : Reading Template). saidOf scriptValues (then r (λ t. readScript (t .kinds) script))) read)
 
 pub script-refused : (template script : List ℕ) (number place : ℕ)
     → refusal number (place ∷ []) ≡ templateSays template
     → refusal number (place ∷ []) ≡ scriptSays template script
-unfolding templateSays scriptSays
-script-refused template script number place e = refusal-of script number place (readTemplate template) e
+unfolding scriptSays
+script-refused template script number place e = rw (template-turned template number place e) refl
 
 -- What template and script have where both are read.
 pub record BothRead (template script : List ℕ) (N M : ℕ) : Type 0 where
   pub kinds : ℕ
-  pub reading : withTemplate (readTemplate template) script ≡ accepted N M
+  pub reading : readWith template script ≡ accepted (countsOf N M)
   pub read : Accepted kinds script N M
-
-kinds-of : (script : List ℕ) (N M : ℕ) (t : TemplateReading) → withTemplate t script ≡ accepted N M
-    → (kinds : ℕ) × (readScript kinds script ≡ accepted N M)
-kinds-of script N M (TemplateReading.accepted k s trees) e = (k, e)
-kinds-of script N M (TemplateReading.turnedDown number place) e = let z : _≡_ {A = ℕ} 0 1 = cc in absurd (omega arith)
 
 pub both-read : (template script : List ℕ) (N M : ℕ) → values (N ∷ M ∷ []) ≡ scriptSays template script
     → BothRead template script N M
 unfolding scriptSays
 both-read template script N M e =
-    let reading = script-read (withTemplate (readTemplate template) script) N M e in
-    let (kinds, a) = kinds-of script N M (readTemplate template) reading in
-    record { kinds = kinds; reading = reading; read = script-accepted kinds script N M a }
-
-none-of : (script : List ℕ) (card number place : ℕ) (r : ScriptReading)
-    → refusal number (place ∷ []) ≡ scriptAnswer r → [] ≡ linksOf r script card
-none-of script card number place (accepted n m) e = values-refusal (sym e)
-none-of script card number place (turnedDown k p) e = refl
+    let reading = script-read (readWith template script) N M e in
+    let (t, first, second) = then-accepted (readTemplate template) (λ t. readScript (t .kinds) script) _ reading in
+    record { kinds = t .kinds; reading = reading; read = script-accepted (t .kinds) script (countsOf N M) second }
 
 pub card-links-none : (template script : List ℕ) (card number place : ℕ)
     → refusal number (place ∷ []) ≡ scriptSays template script → [] ≡ cardLinks template script card
 unfolding scriptSays cardLinks
 card-links-none template script card number place e =
-    none-of script card number place (withTemplate (readTemplate template) script) e
+    rw (said-turned scriptValues (readWith template script) number place e) refl
 
 module _ (template script : List ℕ) (N M card : ℕ) (both : BothRead template script N M) where
   pub card-links-outside : N ≤ card → [] ≡ cardLinks template script card

@@ -1,5 +1,7 @@
--- The links of a script's words (document 01, "Script"): three words each from place 2 on, from, kind and to.
+-- The links of a script's words (docs/FORMAT.md, "Scripts"): three words each from place 2 on, from, kind and to.
+-- fromIndex, kindIndex, toIndex   where the words of link i stand
 -- fromAt, kindAt, toAt   the words of link i
+-- near, label, far       its near end, its label and its far end: what a card's neighbours and a closure go by
 -- greater, above         link i is above another, and above the link before it
 -- Ascending              the first m links stand in the script, each above the one before it
 -- cardWords              the words of a card's links, in order
@@ -13,16 +15,38 @@ use mathlib.Core.List.{List, [], _∷_, _++_}
 use mathlib.Core.Bool.{Bool, true, false, cond}
 use lib.ListN.{length, getD}
 use lib.Dec.{ltb, leb, eqb}
+use Rattle.words.specs.Limits.{maxLinks}
 use Rattle.bags.specs.Choice.{Neighbour, to}
 
+-- Where the words of link i stand.
+abbrev pub fromIndex : ℕ → ℕ
+fromIndex i = 2 + 3 * i
+
+abbrev pub kindIndex : ℕ → ℕ
+kindIndex i = 3 + 3 * i
+
+abbrev pub toIndex : ℕ → ℕ
+toIndex i = 4 + 3 * i
+
+-- The card that link i starts at, its kind, and the card that it leads to.
 unfoldable pub fromAt : List ℕ → ℕ → ℕ
-fromAt script i = getD script (2 + 3 * i) 0
+fromAt script i = getD script (fromIndex i) 0
 
 unfoldable pub kindAt : List ℕ → ℕ → ℕ
-kindAt script i = getD script (3 + 3 * i) 0
+kindAt script i = getD script (kindIndex i) 0
 
 unfoldable pub toAt : List ℕ → ℕ → ℕ
-toAt script i = getD script (4 + 3 * i) 0
+toAt script i = getD script (toIndex i) 0
+
+-- The card whose link it is, the label that the card's shape names, and the card at the other end.
+abbrev pub near : List ℕ → ℕ → ℕ
+near script i = fromAt script i
+
+abbrev pub label : List ℕ → ℕ → ℕ
+label script i = kindAt script i
+
+abbrev pub far : List ℕ → ℕ → ℕ
+far script i = toAt script i
 
 -- Link i is above link j: by its from, then its kind, then its to.
 unfoldable pub greater : List ℕ → ℕ → ℕ → Bool
@@ -38,9 +62,9 @@ unfoldable pub above : List ℕ → ℕ → Bool
 above script zero = true
 above script (suc i) = greater script (suc i) i
 
--- "M times from, kind, to, strictly ascending in that order of comparison", M at most 8,192.
+-- The first m links, at most 8,192, stand in the script and rise strictly.
 pub record Ascending (script : List ℕ) (m : ℕ) : Type 0 where
-  pub few : m ≤ 8192
+  pub few : m ≤ maxLinks
   pub size : 2 + 3 * m ≤ length script
   pub rising : (i : ℕ) → i < m → above script i ≡ true
 
@@ -51,11 +75,11 @@ cardWords script card (suc i) =
     cardWords script card i
     ++ cond (eqb (fromAt script i) card) (fromAt script i ∷ kindAt script i ∷ toAt script i ∷ []) []
 
--- Of the first m links, the label and the far card of those that start at a card. A link's label is its kind.
+-- Of the first m links, the label and the far end of those whose near end is a card.
 unfoldable pub neighbours : List ℕ → ℕ → ℕ → List Neighbour
 neighbours script card zero = []
 neighbours script card (suc i) =
-    neighbours script card i ++ cond (eqb (fromAt script i) card) (to (kindAt script i) (toAt script i) ∷ []) []
+    neighbours script card i ++ cond (eqb (near script i) card) (to (label script i) (far script i) ∷ []) []
 
 -- Of the first m links, how many start at a card below c.
 unfoldable pub below : List ℕ → ℕ → ℕ → ℕ

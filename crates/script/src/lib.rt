@@ -1,15 +1,18 @@
 // Reading a script (a graph): its cards (nodes) and links (edges), the links of a card and the links by target.
 use template::TemplateAnswer;
 use template::read_template;
+use words::MAX_CARDS;
+use words::MAX_LINKS;
 use words::wide;
 ghost use mathlib.Core.Path.{_≡_};
-ghost use Prim.Native.Nat.{ℕ, suc, _+_, _*_, _≤_, _<_};
+ghost use Prim.Native.Nat.{ℕ, suc, _≤_, _<_};
 ghost use lib.ListN.{length, getD};
+ghost use Rattle.words.specs.Reading.{Reading, accepted, saidOf};
 ghost use Rattle.script.specs.Link.{kindAt, greater, above, Ascending, cardWords, below, kindCount};
 ghost use Rattle.script.specs.Answer.{scriptSaid};
-ghost use Rattle.script.specs.Script.{ScriptReading, accepted, readLinks, readScript, scriptAnswer, scriptSays};
+ghost use Rattle.script.specs.Script.{ScriptCounts, countsOf, readLinks, readScript, scriptValues, scriptSays};
 ghost use Rattle.script.specs.Script.{cardLinks};
-ghost use Rattle.script.specs.Steps.{afterLink};
+ghost use Rattle.script.specs.Steps.{afterLink, LinkIn, Within};
 
 // The number of a card: it counts the script's cards from 0.
 pub struct Card(pub u16);
@@ -28,8 +31,8 @@ enum LinkTest {
 
 // Whether link i is above link j: by its from, then its kind, then its to.
 fn is_greater(script: &[u16], i: usize, j: usize) -> bool
-    requires { ⌜ (i < 8192) × (j < 8192) ⌝ }
-    requires { ⌜ (5 + 3 * i ≤ length (now script)) × (5 + 3 * j ≤ length (now script)) ⌝ }
+    requires { ⌜ LinkIn (now script) i ⌝ }
+    requires { ⌜ LinkIn (now script) j ⌝ }
     ensures { λ r. ⌜ r ≡ greater (now (script .entry)) i j ⌝ }
 {
     let from = script[2 + 3 * i];
@@ -49,7 +52,7 @@ fn is_greater(script: &[u16], i: usize, j: usize) -> bool
 
 // Whether link i is above the link before it; the first has none before it.
 fn is_above(script: &[u16], i: usize) -> bool
-    requires { ⌜ (i < 8192) × (5 + 3 * i ≤ length (now script)) ⌝ }
+    requires { ⌜ LinkIn (now script) i ⌝ }
     ensures { λ r. ⌜ r ≡ above (now (script .entry)) i ⌝ }
 {
     if i == 0 {
@@ -58,10 +61,10 @@ fn is_above(script: &[u16], i: usize) -> bool
     is_greater(script, i, i - 1)
 }
 
-// Tests one link, in document 01's order: 23 from, 24 kind, 23 to, 25 its place among the links.
+// Tests one link, in the format's order: 23 from, 24 kind, 23 to, 25 its place among the links.
 fn test_link(kinds: u16, cards: u16, script: &[u16], i: usize) -> LinkTest
-    requires { ⌜ (i < 8192) × (5 + 3 * i ≤ length (now script)) ⌝ }
-    ensures { λ r. ⌜ ((n : ℕ) (done : ScriptReading) →
+    requires { ⌜ LinkIn (now script) i ⌝ }
+    ensures { λ r. ⌜ ((n : ℕ) (done : Reading ScriptCounts) →
         readLinks kinds cards (now (script .entry)) (suc n) i done
         ≡ afterLink r (readLinks kinds cards (now (script .entry)) n (suc i) done)) ⌝ }
 {
@@ -74,17 +77,18 @@ fn test_link(kinds: u16, cards: u16, script: &[u16], i: usize) -> LinkTest
     if cards <= script[4 + 3 * i] {
         return LinkTest::Refused(23, 4 + 3 * i);
     }
-    if is_above(script, i) {
-        return LinkTest::Passed;
+    if !is_above(script, i) {
+        return LinkTest::Refused(25, 2 + 3 * i);
     }
-    LinkTest::Refused(25, 2 + 3 * i)
+    LinkTest::Passed
 }
 
 // Tests the links one by one: the counts, or the first refusal.
 fn read_links(kinds: u16, cards: u16, links: u16, script: &[u16]) -> ScriptAnswer
-    requires { ⌜ (links ≤ 8192) × (2 + 3 * links ≤ length (now script)) ⌝ }
+    requires { ⌜ Within (now script) 0 links ⌝ }
     ensures { λ r. ⌜ scriptSaid r
-        ≡ scriptAnswer (readLinks kinds cards (now (script .entry)) links 0 (accepted cards links)) ⌝ }
+        ≡ saidOf scriptValues
+        (readLinks kinds cards (now (script .entry)) links 0 (accepted (countsOf cards links))) ⌝ }
 {
     let count = wide(links);
     let mut i = 0;
@@ -104,17 +108,17 @@ fn read_links(kinds: u16, cards: u16, links: u16, script: &[u16]) -> ScriptAnswe
 
 // Reads a script under a template that has so many kinds.
 pub fn read_with_kinds(kinds: u16, script: &[u16]) -> ScriptAnswer
-    ensures { λ r. ⌜ scriptSaid r ≡ scriptAnswer (readScript kinds (now (script .entry))) ⌝ }
+    ensures { λ r. ⌜ scriptSaid r ≡ saidOf scriptValues (readScript kinds (now (script .entry))) ⌝ }
 {
     if script.len() < 2 {
         return ScriptAnswer::Refused(20, 0);
     }
     let cards = script[0];
-    if 1024 < cards {
+    if MAX_CARDS < wide(cards) {
         return ScriptAnswer::Refused(21, 0);
     }
     let links = script[1];
-    if 8192 < links {
+    if MAX_LINKS < wide(links) {
         return ScriptAnswer::Refused(22, 1);
     }
     if script.len() != 2 + 3 * wide(links) {
@@ -197,7 +201,7 @@ fn clear(counts: &mut [u16])
 
 // How many of the links from lo to hi, hi not included, have each kind. What the counts were before does not matter.
 pub fn count_kinds(script: &[u16], lo: usize, hi: usize, counts: &mut [u16])
-    requires { ⌜ (lo ≤ hi) × (hi ≤ 8192) × (2 + 3 * hi ≤ length (now script)) ⌝ }
+    requires { ⌜ Within (now script) lo hi ⌝ }
     requires { ⌜ ((i : ℕ) → lo ≤ i → i < hi → kindAt (now script) i < length (now counts)) ⌝ }
     ensures exact { λ _. ⌜ ((k : ℕ) → k < length (now (counts .entry)) →
         getD (now (counts .exit)) k 0 ≡ kindCount (now (script .entry)) k lo hi) ⌝ }

@@ -1,59 +1,66 @@
 -- What a sheet that is read has.
---   SheetAccepted   a sheet whose template and script are read
---   sheet-asked, sheet-made, sheet-read   the readings ask for the sheet that they make, and for no other
+--   SheetNumber, sheet-numbers   a sheet is refused with the template's numbers and the script's
+--   SheetAccepted                a sheet whose template and script are read
+--   mapped-accepted              what was made from what is read
+--   sheet-asked, sheet-made      the sheet of a template and a script that are read
+--   sheet-read                   a sheet that is read is of such
 -- Assumes nothing.
 use Prim.Native.Nat.{ℕ}
-use mathlib.Core.Path.{_≡_, refl, subst}
+use mathlib.Core.Path.{_≡_, refl, sym, subst}
+use mathlib.Core.Logic.{_⊎_, inl, inr}
 use mathlib.Core.List.{List}
-use native.Mathlib.Omega.{arith}
-use Rattle.bags.specs.Part.{Part}
-use Rattle.template.specs.Template.{TemplateReading, readTemplate}
+use Rattle.words.specs.Reading.{Reading, accepted, turnedDown, mapped}
+use Rattle.words.proofs.Readings.{accepted-same, accepted-turned, then-accepted, Numbered, then-numbered}
+use Rattle.words.proofs.Readings.{mapped-numbered, numbered-map}
+use Rattle.template.specs.Template.{Template, readTemplate}
+use Rattle.template.proofs.Numbers.{TemplateNumber, template-numbers}
 use Rattle.template.proofs.Accepted as template
-use Rattle.script.specs.Script.{ScriptReading, readScript}
+use Rattle.script.specs.Script.{ScriptCounts, readScript}
 use Rattle.script.proofs.Reading as script
-use Rattle.sheet.specs.Sheet.{Sheet, ask, withScript, withTemplate, readSheet}
+use Rattle.sheet.specs.Sheet.{Sheet, sheetOf, readSheet}
+use Rattle.sheet.specs.Opened.{templateAs}
+
+-- The numbers that a template or a script is refused with.
+abbrev pub SheetNumber : ℕ → Type 0
+SheetNumber number = TemplateNumber number ⊎ script.ScriptNumber number
+
+pub sheet-numbers : (words list : List ℕ) → Numbered SheetNumber (readSheet words list)
+unfolding readSheet
+sheet-numbers words list =
+    then-numbered SheetNumber (readTemplate words) (λ t. mapped (λ c. sheetOf t c list) (readScript (t .kinds) list))
+    (numbered-map TemplateNumber SheetNumber (readTemplate words) (λ n h. inl h) (template-numbers words))
+    (λ t. mapped-numbered SheetNumber (λ c. sheetOf t c list) (readScript (t .kinds) list)
+    (numbered-map script.ScriptNumber SheetNumber (readScript (t .kinds) list) (λ n h. inr h)
+    (script.script-numbers (t .kinds) list)))
 
 -- The sheet's shapes are those of a template with so many kinds that is read, its links those of a script that is.
 pub record SheetAccepted (words : List ℕ) (kinds : ℕ) (s : Sheet) : Type 0 where
-  pub shapes : template.Accepted words kinds (s .shapes) (s .parts)
+  pub shapes : template.Accepted words (templateAs kinds (s .shapes) (s .parts))
   pub links : script.Accepted kinds (s .script) (s .cards) (s .links)
 
--- The sheet of what the two readings found.
-abbrev pub sheetOf : ℕ → List Part → ℕ → ℕ → List ℕ → Sheet
-sheetOf shapes parts cards links script =
-    record { shapes = shapes; parts = parts; cards = cards; links = links; script = script }
-
-module _ (words list : List ℕ) (kinds shapes : ℕ) (parts : List Part) (cards links : ℕ)
-    (t : readTemplate words ≡ TemplateReading.accepted kinds shapes parts)
-    (a : readScript kinds list ≡ ScriptReading.accepted cards links) where
-  pub sheet-asked : readSheet words list ≡ ask (sheetOf shapes parts cards links list)
+module _ (words list : List ℕ) (t : Template) (c : ScriptCounts)
+    (first : readTemplate words ≡ accepted t) (second : readScript (t .kinds) list ≡ accepted c) where
+  pub sheet-asked : readSheet words list ≡ accepted (sheetOf t c list)
   unfolding readSheet
-  sheet-asked = rw (t, a)
+  sheet-asked = rw (first, second)
 
-  pub sheet-made : SheetAccepted words kinds (sheetOf shapes parts cards links list)
+  pub sheet-made : SheetAccepted words (t .kinds) (sheetOf t c list)
   sheet-made = record {
-    shapes = template.template-accepted words kinds shapes parts t;
-    links = script.script-accepted kinds list cards links a;
+    shapes = template.template-accepted words t first;
+    links = script.script-accepted (t .kinds) list c second;
   }
 
-pub sheet-read : (words list : List ℕ) (s : Sheet) → readSheet words list ≡ ask s
+pub mapped-accepted : {A B : Type 0} (f : A → B) (r : Reading A) (b : B) → mapped f r ≡ accepted b
+    → (a : A) × (r ≡ accepted a) × (f a ≡ b)
+mapped-accepted f (accepted a) b e = (a, refl, accepted-same e)
+mapped-accepted f (turnedDown number place) b e = accepted-turned (sym e)
+
+pub sheet-read : (words list : List ℕ) (s : Sheet) → readSheet words list ≡ accepted s
     → (kinds : ℕ) × SheetAccepted words kinds s × (s .script ≡ list)
 unfolding readSheet
-sheet-read words list s e = by-template (readTemplate words) refl e
-  where
-    by-script : (kinds shapes : ℕ) (parts : List Part)
-        → readTemplate words ≡ TemplateReading.accepted kinds shapes parts
-        → (r : ScriptReading) → readScript kinds list ≡ r → withScript shapes parts list r ≡ ask s
-        → (k : ℕ) × SheetAccepted words k s × (s .script ≡ list)
-    by-script kinds shapes parts t (ScriptReading.turnedDown number at) a e =
-        let z : _≡_ {A = ℕ} 0 1 = cc in absurd (omega arith)
-    by-script kinds shapes parts t (ScriptReading.accepted cards links) a e =
-        let same : sheetOf shapes parts cards links list ≡ s = cc in
-        subst (λ (x : Sheet). (k : ℕ) × SheetAccepted words k x × (x .script ≡ list)) same
-        (kinds, sheet-made words list kinds shapes parts cards links t a, refl)
-
-    by-template : (r : TemplateReading) → readTemplate words ≡ r → withTemplate r list ≡ ask s
-        → (k : ℕ) × SheetAccepted words k s × (s .script ≡ list)
-    by-template (TemplateReading.turnedDown number at) t e = let z : _≡_ {A = ℕ} 0 1 = cc in absurd (omega arith)
-    by-template (TemplateReading.accepted kinds shapes parts) t e =
-        by-script kinds shapes parts t (readScript kinds list) refl e
+sheet-read words list s e =
+    let (t, first, rest) = then-accepted (readTemplate words)
+    (λ t. mapped (λ c. sheetOf t c list) (readScript (t .kinds) list)) s e in
+    let (c, second, same) = mapped-accepted (λ c. sheetOf t c list) (readScript (t .kinds) list) s rest in
+    subst (λ (x : Sheet). (k : ℕ) × SheetAccepted words k x × (x .script ≡ list)) same
+    (t .kinds, sheet-made words list t c first second, refl)

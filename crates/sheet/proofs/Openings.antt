@@ -4,27 +4,30 @@
 -- opened-shaped                    the template is read and has so many shapes
 -- Assumes nothing.
 use Prim.Native.Nat.{ℕ}
-use mathlib.Core.Path.{_≡_, refl, sym, subst}
+use mathlib.Core.Path.{_≡_, refl, sym, ap, ap₂, _∙_, subst}
 use mathlib.Core.List.{List, [], _∷_}
 use Rattle.words.specs.Said.{values, refusal}
+use Rattle.words.specs.Reading.{accepted, turnedDown, saidOf}
+use Rattle.words.proofs.Readings.{said-turned}
 use Rattle.template.specs.Template.{templateSays}
 use Rattle.template.proofs.Answers.{template-read, template-turned}
-use Rattle.script.specs.Script.{readScript, scriptAnswer}
-use Rattle.script.proofs.Answers.{script-read, script-turned}
-use Rattle.sheet.specs.Sheet.{turnedDown, readSheet}
+use Rattle.script.specs.Script.{readScript, scriptValues}
+use Rattle.script.proofs.Answers.{script-read}
+use Rattle.sheet.specs.Sheet.{readSheet}
 use Rattle.sheet.specs.declared.Extent.{Extent}
-use Rattle.sheet.specs.Opened.{Opened, Shaped}
+use Rattle.sheet.specs.Opened.{templateAs, Opened, Shaped}
 
 module _ (template script : List ℕ) where
   -- Both are read.
   pub sheet-opened :
       (e : Extent) → values (e .kinds ∷ e .shapes ∷ []) ≡ templateSays template →
-      values (e .cards ∷ e .links ∷ []) ≡ scriptAnswer (readScript (e .kinds) script) → Opened template script e
+      values (e .cards ∷ e .links ∷ []) ≡ saidOf scriptValues (readScript (e .kinds) script) → Opened template script e
   sheet-opened e p q =
-      let (parts, r) = template-read template (e .kinds) (e .shapes) p in
+      let (t, read, kinds, shapes) = template-read template (e .kinds) (e .shapes) p in
       record {
-        parts = parts;
-        template-read = r;
+        parts = t .parts;
+        template-read =
+            read ∙ ap₂ (λ (k s : ℕ). accepted (templateAs k s (t .parts))) (sym kinds) (sym shapes);
         script-read = script-read (readScript (e .kinds) script) (e .cards) (e .links) q;
       }
 
@@ -38,12 +41,14 @@ module _ (template script : List ℕ) where
   -- The template is read and the script is turned down.
   pub sheet-script :
       (kinds shapes number place : ℕ) → values (kinds ∷ shapes ∷ []) ≡ templateSays template →
-      refusal number (place ∷ []) ≡ scriptAnswer (readScript kinds script) →
+      refusal number (place ∷ []) ≡ saidOf scriptValues (readScript kinds script) →
       readSheet template script ≡ turnedDown number place
   unfolding readSheet
   sheet-script kinds shapes number place p q =
-      let (parts, r) = template-read template kinds shapes p in
-      rw (r, script-turned (readScript kinds script) number place q) refl
+      let (t, read, same-kinds, same-shapes) = template-read template kinds shapes p in
+      let turned = ap (λ (k : ℕ). readScript k script) (sym same-kinds)
+      ∙ said-turned scriptValues (readScript kinds script) number place q in
+      rw (read, turned) refl
 
   -- The template of a sheet that is read has so many shapes.
   pub opened-shaped : (e : Extent) (shapes : ℕ) → Opened template script e → shapes ≡ e .shapes → Shaped template shapes

@@ -1,17 +1,19 @@
--- A sheet: what a well-formed template (schema) and script (graph) are to the typings.
+-- A sheet: what a template (schema) and a script (graph) that are read are to the typings (docs/FORMAT.md, "Typings").
 -- Sheet        the parts of the shapes (types), the counts of cards (nodes) and links (edges), the script's words
 -- partOf       the part of a shape
 -- neighboursOf the neighbours that a shape looks at on a card
 -- place, size  the place of a pair in a grid, and how many places there are
+-- readSheet    the sheet of a template and a script, or the first refusal
 -- Assumes nothing.
 use Prim.Native.Nat.{ℕ, _+_, _*_}
 use mathlib.Core.List.{List}
 use lib.ListN.{getD}
+use Rattle.words.specs.Reading.{Reading, then, mapped}
 use Rattle.bags.specs.Part.{Part}
 use Rattle.bags.specs.Choice.{Neighbour}
+use Rattle.template.specs.Template.{Template, readTemplate}
 use Rattle.script.specs.Link.{neighbours}
-use Rattle.template.specs.Template.{TemplateReading, readTemplate}
-use Rattle.script.specs.Script.{ScriptReading, readScript}
+use Rattle.script.specs.Script.{ScriptCounts, readScript}
 
 pub record Sheet : Type 0 where
   pub shapes : ℕ
@@ -20,6 +22,7 @@ pub record Sheet : Type 0 where
   pub links : ℕ
   pub script : List ℕ
 
+-- The part of shape t.
 abbrev pub partOf : Sheet → ℕ → Part
 partOf s t = getD (s .parts) t Part.nothing
 
@@ -27,28 +30,25 @@ partOf s t = getD (s .parts) t Part.nothing
 abbrev pub neighboursOf : Sheet → ℕ → ℕ → List Neighbour
 neighboursOf s n t = neighbours (s .script) n (s .links)
 
--- "1 where card n has shape t, at place n × S + t."
+-- Where a grid has the pair of card n and shape t.
 abbrev pub place : Sheet → ℕ → ℕ → ℕ
 place s n t = n * s .shapes + t
 
+-- How many places a grid has.
 abbrev pub size : Sheet → ℕ
 size s = s .cards * s .shapes
 
--- A sheet, or a refusal's number and place.
-pub data SheetReading : Type 0 where
-  ask : Sheet → SheetReading
-  turnedDown : ℕ → ℕ → SheetReading
+-- The sheet of a template with a script of these counts and words.
+abbrev pub sheetOf : Template → ScriptCounts → List ℕ → Sheet
+sheetOf template counts script = record {
+  shapes = template .shapes;
+  parts = template .parts;
+  cards = counts .cards;
+  links = counts .links;
+  script = script;
+}
 
--- The sheet of a template's shapes with a script.
-abbrev pub withScript : ℕ → List Part → List ℕ → ScriptReading → SheetReading
-withScript shapes parts script (ScriptReading.turnedDown number place) = turnedDown number place
-withScript shapes parts script (ScriptReading.accepted cards links) =
-    ask (record { shapes = shapes; parts = parts; cards = cards; links = links; script = script })
-
-abbrev pub withTemplate : TemplateReading → List ℕ → SheetReading
-withTemplate (TemplateReading.turnedDown number place) script = turnedDown number place
-withTemplate (TemplateReading.accepted kinds shapes parts) script = withScript shapes parts script (readScript kinds script)
-
--- "Template, script": their refusals in that order.
-unfoldable pub readSheet : List ℕ → List ℕ → SheetReading
-readSheet template script = withTemplate (readTemplate template) script
+-- The template's refusals come first, then the script's.
+unfoldable pub readSheet : List ℕ → List ℕ → Reading Sheet
+readSheet template script =
+    then (readTemplate template) (λ t. mapped (λ c. sheetOf t c script) (readScript (t .kinds) script))

@@ -1,6 +1,7 @@
-// The pairs of a sheet: reading its template and its script, and which pairs fit by counts.
+// A template and a script that are read together.
 ghost use mathlib.Core.Path.{_≡_};
 ghost use lib.ListN.{replicate};
+ghost use Rattle.words.specs.Limits.{tableSize};
 ghost use Rattle.sheet.specs.Opened.{TableOf, ReadAs};
 use script::ScriptAnswer;
 use script::read_with_kinds;
@@ -23,7 +24,7 @@ pub enum SheetRead {
 
 // Reads a template and a script, and fills the table of names, which is all 0 before.
 pub fn read_sheet(template: &[u16], script: &[u16], names: &mut [u8]) -> SheetRead
-    requires { ⌜ now names ≡ replicate 2048 0 ⌝ }
+    requires { ⌜ now names ≡ replicate tableSize 0 ⌝ }
     ensures read { λ r. ⌜ ReadAs (now (template .entry)) (now (script .entry)) r ⌝ }
     ensures table { λ r. ⌜ TableOf (now (template .entry)) (now (names .exit)) ⌝ }
 {

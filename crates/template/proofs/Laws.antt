@@ -3,10 +3,10 @@
 -- link-…             a link: one law for each refusal, and `link-good`
 -- part-…, group-…    a part by its code, and a group
 -- run-…              a run of parts
--- reads-above        the next place after a part is above it and not past the end
+-- reads-above, reads-within   the next place after a part is above it and not past the end
 -- Assumes nothing.
 use mathlib.Core.Path.{_≡_, refl, ap, sym, _∙_}
-use mathlib.Core.Bool.{true, false}
+use mathlib.Core.Bool.{true, false, not}
 use mathlib.Core.List.{List}
 use Prim.Native.Nat.{ℕ, zero, suc, _+_, _-_, _≤_, _<_}
 use native.Mathlib.Omega.{arith}
@@ -15,13 +15,16 @@ use borrow.Author.Tests.{le-ltb, lt-ltb, le-leb, lt-leb, eq-eqb, ne-eqb, ltb-fal
 use lib.ListN.{getD, set}
 use lib.Dec.{ltb, leb, eqb}
 use Rattle.bags.specs.Part.{Part, Parts}
-use Rattle.words.proofs.Bools.{cond-case}
+use Rattle.words.specs.Limits.{minGroup, maxGroup}
+use Rattle.words.specs.Reading.{Reading, accepted, turnedDown, then, mapped}
+use Rattle.words.proofs.Readings.{accepted-same, accepted-turned, refuse-case}
 use Rattle.template.specs.declared.Read.{Read}
 use Rattle.template.specs.declared.Read.the-variants.{Next, Refused}
 use Rattle.template.specs.declared.Sizes.{Sizes}
 use Rattle.template.specs.Reading.{Code, nothing, single, group, unknown, link, wrapped, gathered, codeOf}
-use Rattle.template.specs.Reading.{Reading, found, refused, Outcome, both, outcome, andThen, mapped, limitsOk}
+use Rattle.template.specs.Reading.{Found, found, into, after, limitsOk}
 use Rattle.template.specs.Reading.{readLink, readRun, readGroup, readCode, readPart}
+use Rattle.template.specs.Machine.{Step, step, shown, outcome}
 
 -- Codes, by their ranges.
 pub code-nothing : (n : ℕ) → n ≡ 0 → codeOf n ≡ nothing
@@ -72,73 +75,66 @@ code-high n a =
     let i : 256 ≤ n = omega arith in
     simp (ne-eqb _ _ e, le-ltb _ _ f, le-ltb _ _ g, le-ltb _ _ h, le-ltb _ _ i, le-ltb _ _ a)
 
--- What is made of a tree changes no answer.
-mapped-outcome : {A B : Type 0} (f : A → B) (x : Reading A) → outcome x ≡ outcome (mapped f x)
-mapped-outcome f (found a next row) = refl
-mapped-outcome f (refused number place row) = refl
+-- What is made of a part changes no answer.
+mapped-outcome : {A B : Type 0} (f : A → B) (x : Reading (Found A)) → outcome x ≡ outcome (mapped (into f) x)
+mapped-outcome f (accepted (found a next row)) = refl
+mapped-outcome f (turnedDown number place) = refl
 
-next-next : {m n : ℕ} {row row' : List ℕ} → both (Next m) row ≡ both (Next n) row' → (m ≡ n) × (row ≡ row')
-next-next {m} {n} e =
-    let q : Next m ≡ Next n = ap (λ (o : Outcome). o .read) e in
-    (cc, ap (λ (o : Outcome). o .row) e)
-
-next-refused : {m n p : ℕ} {row row' : List ℕ} → both (Next m) row ≡ both (Refused n p) row' → ⊥
-next-refused {m} {n} {p} e =
-    let q : Next m ≡ Refused n p = ap (λ (o : Outcome). o .read) e in
-    let z : _≡_ {A = ℕ} 0 1 = cc in
-    omega arith
+next-same : {m n : ℕ} {row row' : List ℕ} → shown (Next m) row ≡ accepted (step n row') → (m ≡ n) × (row ≡ row')
+unfolding shown
+next-same e = (ap (λ (s : Step). s .next) (accepted-same e), ap (λ (s : Step). s .row) (accepted-same e))
 
 -- A link, in the order of its refusals.
 module _ (words : List ℕ) (end : ℕ) (sizes : Sizes) (at : ℕ) (row : List ℕ) where
   pub link-short :
-      (kind : ℕ) → end - at < 4 → both (Refused 4 end) row ≡ outcome (readLink words end sizes at row kind)
-  unfolding readLink
+      (kind : ℕ) → end - at < 4 → shown (Refused 4 end) row ≡ outcome (readLink words end sizes at row kind)
+  unfolding readLink shown
   link-short kind h = simp (lt-ltb _ _ h)
 
   pub link-kind :
       (kind : ℕ) → 4 ≤ end - at → sizes .kinds ≤ kind →
-      both (Refused 7 at) row ≡ outcome (readLink words end sizes at row kind)
-  unfolding readLink
+      shown (Refused 7 at) row ≡ outcome (readLink words end sizes at row kind)
+  unfolding readLink shown
   link-kind kind h i = simp (le-ltb _ _ h, le-leb _ _ i)
 
   pub link-again :
       (kind : ℕ) → 4 ≤ end - at → kind < sizes .kinds → (getD row kind 0 ≡ 0 → ⊥) →
-      both (Refused 8 at) row ≡ outcome (readLink words end sizes at row kind)
-  unfolding readLink
+      shown (Refused 8 at) row ≡ outcome (readLink words end sizes at row kind)
+  unfolding readLink shown
   link-again kind h i j = simp (le-ltb _ _ h, lt-leb _ _ i, ne-eqb _ _ j)
 
   pub link-shape :
       (kind : ℕ) → 4 ≤ end - at → kind < sizes .kinds → getD row kind 0 ≡ 0 → sizes .shapes ≤ getD words (at + 1) 0 →
-      both (Refused 9 (at + 1)) row ≡ outcome (readLink words end sizes at row kind)
-  unfolding readLink
+      shown (Refused 9 (at + 1)) row ≡ outcome (readLink words end sizes at row kind)
+  unfolding readLink shown
   link-shape kind h i e j = simp (le-ltb _ _ h, lt-leb _ _ i, eq-eqb _ _ e, le-leb _ _ j)
 
   pub link-good :
       (kind entry : ℕ) → 4 ≤ end - at → kind < sizes .kinds → getD row kind 0 ≡ 0 →
       getD words (at + 1) 0 < sizes .shapes → entry ≡ getD words (at + 1) 0 + 1 →
       limitsOk (getD words (at + 2) 0) (getD words (at + 3) 0) ≡ true →
-      both (Next (at + 4)) (set row kind entry) ≡ outcome (readLink words end sizes at row kind)
-  unfolding readLink
+      shown (Next (at + 4)) (set row kind entry) ≡ outcome (readLink words end sizes at row kind)
+  unfolding readLink shown
   link-good kind entry h i e j q o = simp (q, le-ltb _ _ h, lt-leb _ _ i, eq-eqb _ _ e, lt-leb _ _ j, o)
 
   pub link-limits :
       (kind : ℕ) → 4 ≤ end - at → kind < sizes .kinds → getD row kind 0 ≡ 0 → getD words (at + 1) 0 < sizes .shapes →
       limitsOk (getD words (at + 2) 0) (getD words (at + 3) 0) ≡ false →
-      both (Refused 10 (at + 2)) row ≡ outcome (readLink words end sizes at row kind)
-  unfolding readLink
+      shown (Refused 10 (at + 2)) row ≡ outcome (readLink words end sizes at row kind)
+  unfolding readLink shown
   link-limits kind h i e j o = simp (le-ltb _ _ h, lt-leb _ _ i, eq-eqb _ _ e, lt-leb _ _ j, o)
 
 -- A part whose code is missing, or that stands too deep.
 module _ (words : List ℕ) (end : ℕ) (sizes : Sizes) (at : ℕ) (row : List ℕ) where
   pub part-missing :
-      (left : ℕ) → end ≤ at → both (Refused 4 end) row ≡ outcome (readPart left words end sizes at row)
-  unfolding readPart
+      (left : ℕ) → end ≤ at → shown (Refused 4 end) row ≡ outcome (readPart left words end sizes at row)
+  unfolding readPart shown
   part-missing zero h = simp (le-leb _ _ h)
   part-missing (suc l) h = simp (le-leb _ _ h)
 
   pub part-deep :
-      (left : ℕ) → at < end → left ≡ 0 → both (Refused 6 at) row ≡ outcome (readPart left words end sizes at row)
-  unfolding readPart
+      (left : ℕ) → at < end → left ≡ 0 → shown (Refused 6 at) row ≡ outcome (readPart left words end sizes at row)
+  unfolding readPart shown
   part-deep left h e = rw e (simp (lt-leb _ _ h))
 
   part-by :
@@ -159,7 +155,8 @@ module _
   by-code code e = ap outcome (part-by words end sizes at row left code h p e)
 
   pub part-nothing :
-      getD words at 0 ≡ 0 → both (Next (at + 1)) row ≡ outcome (readPart left words end sizes at row)
+      getD words at 0 ≡ 0 → shown (Next (at + 1)) row ≡ outcome (readPart left words end sizes at row)
+  unfolding shown
   part-nothing e = by-code nothing (code-nothing _ e)
 
   pub part-single :
@@ -171,16 +168,19 @@ module _
 
   pub part-low :
       4 ≤ getD words at 0 → getD words at 0 ≤ 15 →
-      both (Refused 5 at) row ≡ outcome (readPart left words end sizes at row)
+      shown (Refused 5 at) row ≡ outcome (readPart left words end sizes at row)
+  unfolding shown
   part-low a b = by-code unknown (code-low _ a b)
 
   pub part-middle :
       18 ≤ getD words at 0 → getD words at 0 ≤ 255 →
-      both (Refused 5 at) row ≡ outcome (readPart left words end sizes at row)
+      shown (Refused 5 at) row ≡ outcome (readPart left words end sizes at row)
+  unfolding shown
   part-middle a b = by-code unknown (code-middle _ a b)
 
   pub part-high :
-      320 ≤ getD words at 0 → both (Refused 5 at) row ≡ outcome (readPart left words end sizes at row)
+      320 ≤ getD words at 0 → shown (Refused 5 at) row ≡ outcome (readPart left words end sizes at row)
+  unfolding shown
   part-high a = by-code unknown (code-high _ a)
 
   pub part-link :
@@ -197,17 +197,20 @@ module _
         mapped-outcome (gathered (getD words at 0)) (readGroup (readPart (left - 1) words end sizes) words end at row)
         ∙ by-code (group (gathered (getD words at 0))) (code-group _ a b)
 
-    pub group-short : end - at < 2 → both (Refused 4 end) row ≡ outcome (readPart left words end sizes at row)
+    pub group-short : end - at < 2 → shown (Refused 4 end) row ≡ outcome (readPart left words end sizes at row)
+    unfolding shown
     group-short i = simp (lt-ltb (end - at) 2 i) at by-group
 
     pub group-few :
         2 ≤ end - at → getD words (at + 1) 0 < 2 →
-        both (Refused 11 (at + 1)) row ≡ outcome (readPart left words end sizes at row)
+        shown (Refused 11 (at + 1)) row ≡ outcome (readPart left words end sizes at row)
+    unfolding shown
     group-few i j = simp (le-ltb (end - at) 2 i, lt-ltb _ 2 j) at by-group
 
     pub group-many :
         2 ≤ end - at → 16 < getD words (at + 1) 0 →
-        both (Refused 11 (at + 1)) row ≡ outcome (readPart left words end sizes at row)
+        shown (Refused 11 (at + 1)) row ≡ outcome (readPart left words end sizes at row)
+    unfolding shown
     group-many i j =
         let k : 2 ≤ getD words (at + 1) 0 = omega arith in
         simp (le-ltb (end - at) 2 i, le-ltb _ 2 k, lt-ltb 16 _ j) at by-group
@@ -220,71 +223,74 @@ module _
 
 -- A run of parts, each read by `inner`.
 then-next :
-    (x : Reading Part) (rest : ℕ → List ℕ → Reading Parts) (m : ℕ) (row : List ℕ) →
-    both (Next m) row ≡ outcome x →
-    outcome (rest m row) ≡ outcome (andThen x (λ p next row'. mapped (Parts.more p) (rest next row')))
-then-next (found a n row') rest m row e =
-    rw (next-next e .0, next-next e .1) (mapped-outcome (Parts.more a) (rest n row'))
-then-next (refused n p row') rest m row e = absurd (next-refused e)
+    (x : Reading (Found Part)) (rest : ℕ → List ℕ → Reading (Found Parts)) (m : ℕ) (row : List ℕ) →
+    shown (Next m) row ≡ outcome x →
+    outcome (rest m row) ≡ outcome (then x (after (λ p next row'. mapped (into (Parts.more p)) (rest next row'))))
+unfolding shown
+then-next (accepted (found a n row')) rest m row e =
+    rw (next-same e .0, next-same e .1) (mapped-outcome (Parts.more a) (rest n row'))
+then-next (turnedDown n p) rest m row e = accepted-turned e
 
 then-refused :
-    (x : Reading Part) (rest : Part → ℕ → List ℕ → Reading Parts) (n p : ℕ) (row : List ℕ) →
-    both (Refused n p) row ≡ outcome x → both (Refused n p) row ≡ outcome (andThen x rest)
-then-refused (found a m row') rest n p row e = absurd (next-refused (sym e))
-then-refused (refused n' p' row') rest n p row e = e
+    (x : Reading (Found Part)) (rest : Found Part → Reading (Found Parts)) (n p : ℕ) (row : List ℕ) →
+    shown (Refused n p) row ≡ outcome x → shown (Refused n p) row ≡ outcome (then x rest)
+unfolding shown
+then-refused (accepted (found a m row')) rest n p row e = accepted-turned (sym e)
+then-refused (turnedDown n' p') rest n p row e = e
 
-module _ (inner : ℕ → List ℕ → Reading Part) where
+module _ (inner : ℕ → List ℕ → Reading (Found Part)) where
   pub run-none :
-      (count at : ℕ) (row : List ℕ) → count ≡ 0 → both (Next at) row ≡ outcome (readRun inner count at row)
-  unfolding readRun
+      (count at : ℕ) (row : List ℕ) → count ≡ 0 → shown (Next at) row ≡ outcome (readRun inner count at row)
+  unfolding readRun shown
   run-none count at row e = rw e
 
   pub run-refused :
       (count at : ℕ) (row : List ℕ) (n p : ℕ) (row' : List ℕ) → 0 < count →
-      both (Refused n p) row' ≡ outcome (inner at row) →
-      both (Refused n p) row' ≡ outcome (readRun inner count at row)
+      shown (Refused n p) row' ≡ outcome (inner at row) →
+      shown (Refused n p) row' ≡ outcome (readRun inner count at row)
   unfolding readRun
   run-refused zero at row n p row' h e = absurd (omega arith)
   run-refused (suc c) at row n p row' h e = then-refused (inner at row) _ n p row' e
 
   pub run-next :
       (count at : ℕ) (row : List ℕ) (m : ℕ) (row' : List ℕ) → 0 < count →
-      both (Next m) row' ≡ outcome (inner at row) →
+      shown (Next m) row' ≡ outcome (inner at row) →
       outcome (readRun inner (count - 1) m row') ≡ outcome (readRun inner count at row)
   unfolding readRun
   run-next zero at row m row' h e = absurd (omega arith)
   run-next (suc c) at row m row' h e = rw sub-one (then-next (inner at row) (readRun inner c) m row' e)
 
 -- The next place of what was found is from `low` up to `end`.
-abbrev Within : {A : Type 0} → ℕ → ℕ → Reading A → Type 0
-Within low end (found a next row) = (low ≤ next) × (next ≤ end)
-Within low end (refused number place row) = Unit {0}
+abbrev Within : {A : Type 0} → ℕ → ℕ → Reading (Found A) → Type 0
+Within low end (accepted (found a next row)) = (low ≤ next) × (next ≤ end)
+Within low end (turnedDown number place) = Unit {0}
 
 within-less :
-    {A : Type 0} (low low' end : ℕ) (r : Reading A) → low' ≤ low → Within low end r → Within low' end r
-within-less low low' end (found a next row) h w = omega arith
-within-less low low' end (refused number place row) h w = tt
+    {A : Type 0} (low low' end : ℕ) (r : Reading (Found A)) → low' ≤ low → Within low end r → Within low' end r
+within-less low low' end (accepted (found a next row)) h w = omega arith
+within-less low low' end (turnedDown number place) h w = tt
 
 within-mapped :
-    {A B : Type 0} (low end : ℕ) (f : A → B) (r : Reading A) → Within low end r → Within low end (mapped f r)
-within-mapped low end f (found a next row) w = w
-within-mapped low end f (refused number place row) w = tt
+    {A B : Type 0} (low end : ℕ) (f : A → B) (r : Reading (Found A)) → Within low end r →
+    Within low end (mapped (into f) r)
+within-mapped low end f (accepted (found a next row)) w = w
+within-mapped low end f (turnedDown number place) w = tt
 
 within-then :
-    (low end : ℕ) (r : Reading Part) (rest : Part → ℕ → List ℕ → Reading Parts) → Within low end r →
-    ((a : Part) (m : ℕ) (row : List ℕ) → m ≤ end → Within m end (rest a m row)) → Within low end (andThen r rest)
-within-then low end (found a next row) rest w h =
+    (low end : ℕ) (r : Reading (Found Part)) (rest : Part → ℕ → List ℕ → Reading (Found Parts)) → Within low end r →
+    ((a : Part) (m : ℕ) (row : List ℕ) → m ≤ end → Within m end (rest a m row)) → Within low end (then r (after rest))
+within-then low end (accepted (found a next row)) rest w h =
     within-less next low end (rest a next row) (w .0) (h a next row (w .1))
-within-then low end (refused number place row) rest w h = tt
+within-then low end (turnedDown number place) rest w h = tt
 
 within-run :
-    (inner : ℕ → List ℕ → Reading Part) (end : ℕ) →
+    (inner : ℕ → List ℕ → Reading (Found Part)) (end : ℕ) →
     ((at : ℕ) (row : List ℕ) → Within (at + 1) end (inner at row)) →
     (n at : ℕ) (row : List ℕ) → at ≤ end → Within at end (readRun inner n at row)
 unfolding readRun
 within-run inner end h zero at row le = omega arith
 within-run inner end h (suc n) at row le =
-    within-then at end (inner at row) (λ p m left. mapped (Parts.more p) (readRun inner n m left))
+    within-then at end (inner at row) (λ p m left. mapped (into (Parts.more p)) (readRun inner n m left))
     (within-less (at + 1) at end (inner at row) (omega arith) (h at row))
     (λ a m left b. within-mapped m end (Parts.more a) (readRun inner n m left) (within-run inner end h n m left b))
 
@@ -293,16 +299,16 @@ within-link :
     Within (at + 1) end (readLink words end sizes at row kind)
 unfolding readLink
 within-link words end sizes at row kind =
-    cond-case (Within (at + 1) end) (ltb (end - at) 4) _ _ (λ e. tt)
-    (λ e. cond-case (Within (at + 1) end) (leb (sizes .kinds) kind) _ _ (λ e₂. tt)
-    (λ e₂. cond-case (Within (at + 1) end) (eqb (getD row kind 0) 0) _ _
-    (λ e₃. cond-case (Within (at + 1) end) (leb (sizes .shapes) (getD words (at + 1) 0)) _ _ (λ e₄. tt)
-    (λ e₄. cond-case (Within (at + 1) end) (limitsOk (getD words (at + 2) 0) (getD words (at + 3) 0)) _ _
-    (λ e₅. omega (arith, ltb-false (end - at) 4 e)) (λ e₅. tt)))
-    (λ e₃. tt)))
+    let W : Reading (Found Part) → Type 0 = Within (at + 1) end in
+    refuse-case 4 end W (ltb (end - at) 4) _ (λ e. tt)
+    (λ e. refuse-case 7 at W (leb (sizes .kinds) kind) _ (λ e₂. tt)
+    (λ e₂. refuse-case 8 at W (not (eqb (getD row kind 0) 0)) _ (λ e₃. tt)
+    (λ e₃. refuse-case 9 (at + 1) W (leb (sizes .shapes) (getD words (at + 1) 0)) _ (λ e₄. tt)
+    (λ e₄. refuse-case 10 (at + 2) W (not (limitsOk (getD words (at + 2) 0) (getD words (at + 3) 0))) _ (λ e₅. tt)
+    (λ e₅. omega (arith, ltb-false (end - at) 4 e))))))
 
 within-code :
-    (code : Code) (inner : ℕ → List ℕ → Reading Part) (words : List ℕ) (end : ℕ) (sizes : Sizes) (at : ℕ)
+    (code : Code) (inner : ℕ → List ℕ → Reading (Found Part)) (words : List ℕ) (end : ℕ) (sizes : Sizes) (at : ℕ)
     (row : List ℕ) → at < end → ((m : ℕ) (l : List ℕ) → Within (m + 1) end (inner m l)) →
     Within (at + 1) end (readCode code inner words end sizes at row)
 within-code nothing inner words end sizes at row h w = omega arith
@@ -310,10 +316,11 @@ within-code (single f) inner words end sizes at row h w =
     within-mapped (at + 1) end f (inner (at + 1) row)
     (within-less (at + 1 + 1) (at + 1) end (inner (at + 1) row) (omega arith) (w (at + 1) row))
 within-code (group f) inner words end sizes at row h w =
+    let W : Reading (Found Parts) → Type 0 = Within (at + 1) end in
     within-mapped (at + 1) end f (readGroup inner words end at row)
-    (cond-case (Within (at + 1) end) (ltb (end - at) 2) _ _ (λ e. tt)
-    (λ e. cond-case (Within (at + 1) end) (ltb (getD words (at + 1) 0) 2) _ _ (λ e₂. tt)
-    (λ e₂. cond-case (Within (at + 1) end) (ltb 16 (getD words (at + 1) 0)) _ _ (λ e₃. tt)
+    (refuse-case 4 end W (ltb (end - at) 2) _ (λ e. tt)
+    (λ e. refuse-case 11 (at + 1) W (ltb (getD words (at + 1) 0) minGroup) _ (λ e₂. tt)
+    (λ e₂. refuse-case 11 (at + 1) W (ltb maxGroup (getD words (at + 1) 0)) _ (λ e₃. tt)
     (λ e₃. within-less (at + 2) (at + 1) end (readRun inner (getD words (at + 1) 0) (at + 2) row) (omega arith)
     (within-run inner end w (getD words (at + 1) 0) (at + 2) row (omega (arith, ltb-false (end - at) 2 e)))))))
 within-code (link kind) inner words end sizes at row h w = within-link words end sizes at row kind
@@ -323,22 +330,24 @@ within-part :
     (left : ℕ) (words : List ℕ) (end : ℕ) (sizes : Sizes) (at : ℕ) (row : List ℕ) →
     Within (at + 1) end (readPart left words end sizes at row)
 unfolding readPart
-within-part zero words end sizes at row = cond-case (Within (at + 1) end) (leb end at) _ _ (λ e. tt) (λ e. tt)
+within-part zero words end sizes at row =
+    refuse-case 4 end (Within {A = Part} (at + 1) end) (leb end at) _ (λ e. tt) (λ e. tt)
 within-part (suc l) words end sizes at row =
-    cond-case (Within (at + 1) end) (leb end at) _ _ (λ e. tt)
+    refuse-case 4 end (Within (at + 1) end) (leb end at) _ (λ e. tt)
     (λ e. within-code (codeOf (getD words at 0)) (readPart l words end sizes) words end sizes at row
     (leb-false _ _ e) (λ m q. within-part l words end sizes m q))
 
 within-outcome :
-    {A : Type 0} (low end m : ℕ) (row : List ℕ) (r : Reading A) → Within low end r →
-    both (Next m) row ≡ outcome r → (low ≤ m) × (m ≤ end)
-within-outcome low end m row (found a next row') w e = let q = next-next e in omega arith
-within-outcome low end m row (refused n p row') w e = absurd (next-refused e)
+    {A : Type 0} (low end m : ℕ) (row : List ℕ) (r : Reading (Found A)) → Within low end r →
+    shown (Next m) row ≡ outcome r → (low ≤ m) × (m ≤ end)
+unfolding shown
+within-outcome low end m row (accepted (found a next row')) w e = let q = next-same e in omega arith
+within-outcome low end m row (turnedDown n p) w e = accepted-turned e
 
 -- The next place after a part is past its code, and not past the end.
 pub reads-above :
     (left : ℕ) (words : List ℕ) (end : ℕ) (sizes : Sizes) (at : ℕ) (row : List ℕ) (r : Read) (m : ℕ)
-    (row' : List ℕ) → r ≡ Next m → both r row' ≡ outcome (readPart left words end sizes at row) →
+    (row' : List ℕ) → r ≡ Next m → shown r row' ≡ outcome (readPart left words end sizes at row) →
     (at + 1 ≤ m) × (m ≤ end)
 reads-above left words end sizes at row r m row' q e =
     within-outcome (at + 1) end m row' (readPart left words end sizes at row)
@@ -346,5 +355,5 @@ reads-above left words end sizes at row r m row' q e =
 
 pub reads-within :
     (left : ℕ) (words : List ℕ) (end : ℕ) (sizes : Sizes) (at : ℕ) (row : List ℕ) (p : Part) (m : ℕ)
-    (after : List ℕ) → readPart left words end sizes at row ≡ found p m after → (at + 1 ≤ m) × (m ≤ end)
-reads-within left words end sizes at row p m after e = rw e at (within-part left words end sizes at row)
+    (names : List ℕ) → readPart left words end sizes at row ≡ accepted (found p m names) → (at + 1 ≤ m) × (m ≤ end)
+reads-within left words end sizes at row p m names e = rw e at (within-part left words end sizes at row)

@@ -1,11 +1,11 @@
 -- What a part that was read obeys, and what the reading leaves in the row.
--- LimitsOk        every link's low and high obey document 01
+-- LimitsOk        every link's low and high are within their limits
 -- PartRead        what is known of a part that was read: its tree, and the row before and after
 -- reads-part      a part that was read is so
 -- reads-names     read from a row that has no names, it leaves the names of the part
 -- Assumes nothing.
 use mathlib.Core.Path.{_≡_, refl, ap, sym, _∙_}
-use mathlib.Core.Bool.{true, false}
+use mathlib.Core.Bool.{Bool, true, false, not}
 use mathlib.Core.List.{List}
 use mathlib.Core.Logic.{inl, inr, ⊎-elim}
 use Prim.Native.Nat.{ℕ, zero, suc, _+_, _-_, _≤_, _<_, max}
@@ -20,15 +20,18 @@ use Rattle.bags.specs.Part.{Limit, at-most, no-limit, Part, Parts, Names, RunNa
 use Rattle.bags.specs.Part.{depth, runDepth, entry, firstEntry, named, runNamed}
 use Rattle.bags.specs.Span.{limitOf}
 use Rattle.template.specs.declared.Sizes.{Sizes}
-use Rattle.template.specs.Reading.{Code, single, wrapped, gathered, codeOf, Reading, found, refused, andThen}
-use Rattle.template.specs.Reading.{mapped, limitsOk, readLink, readRun, readGroup, readCode, readPart}
+use Rattle.template.specs.Reading.{Code, single, wrapped, gathered, codeOf, Found, found, into, after, limitsOk}
+use Rattle.template.specs.Reading.{readLink, readRun, readGroup, readCode, readPart}
 use Rattle.template.specs.Template.{noNames}
-use Rattle.words.proofs.Bools.{cond-case, bool-case}
+use Rattle.words.specs.Limits.{maxKinds, maxCount, noLimit, minGroup, maxGroup}
+use Rattle.words.specs.Reading.{Reading, accepted, turnedDown, then, mapped}
+use Rattle.words.proofs.Bools.{cond-case, bool-case, never-both}
+use Rattle.words.proofs.Readings.{refuse-case}
 
--- "Low is 0 to 8,192; high is low to 8,192, or no limit."
+-- A link's low and high are within their limits (docs/FORMAT.md, "Templates").
 abbrev pub InLimits : ℕ → Limit → Type 0
-InLimits low (at-most high) = (low ≤ 8192) × (low ≤ high) × (high ≤ 8192)
-InLimits low no-limit = low ≤ 8192
+InLimits low (at-most high) = (low ≤ maxCount) × (low ≤ high) × (high ≤ maxCount)
+InLimits low no-limit = low ≤ maxCount
 
 -- Every link has such limits.
 abbrev mutual
@@ -97,33 +100,35 @@ pub record PartRead (sizes : Sizes) (left : ℕ) (row : List ℕ) (p : Part) (af
   pub size : length after ≡ length row
 
 -- What was found has a property with the row that is left.
-abbrev Found : {A : Type 0} → (A → List ℕ → Type 0) → Reading A → Type 0
-Found P (found a next row) = P a row
-Found P (refused number place row) = Unit {0}
+abbrev Finds : {A : Type 0} → (A → List ℕ → Type 0) → Reading (Found A) → Type 0
+Finds P (accepted (found a next row)) = P a row
+Finds P (turnedDown number place) = Unit {0}
 
-found-mapped :
+finds-mapped :
     {A B : Type 0} (P : A → List ℕ → Type 0) (Q : B → List ℕ → Type 0) (f : A → B) →
-    ((a : A) (row : List ℕ) → P a row → Q (f a) row) → (r : Reading A) → Found P r → Found Q (mapped f r)
-found-mapped P Q f h (found a next row) w = h a row w
-found-mapped P Q f h (refused number place row) w = tt
+    ((a : A) (row : List ℕ) → P a row → Q (f a) row) → (r : Reading (Found A)) → Finds P r →
+    Finds Q (mapped (into f) r)
+finds-mapped P Q f h (accepted (found a next row)) w = h a row w
+finds-mapped P Q f h (turnedDown number place) w = tt
 
-found-then :
-    {A B : Type 0} (P : A → List ℕ → Type 0) (Q : B → List ℕ → Type 0) (r : Reading A)
-    (rest : A → ℕ → List ℕ → Reading B) → Found P r →
-    ((a : A) (next : ℕ) (row : List ℕ) → P a row → Found Q (rest a next row)) → Found Q (andThen r rest)
-found-then P Q (found a next row) rest w h = h a next row w
-found-then P Q (refused number place row) rest w h = tt
+finds-then :
+    {A B : Type 0} (P : A → List ℕ → Type 0) (Q : B → List ℕ → Type 0) (r : Reading (Found A))
+    (rest : A → ℕ → List ℕ → Reading (Found B)) → Finds P r →
+    ((a : A) (next : ℕ) (row : List ℕ) → P a row → Finds Q (rest a next row)) → Finds Q (then r (after rest))
+finds-then P Q (accepted (found a next row)) rest w h = h a next row w
+finds-then P Q (turnedDown number place) rest w h = tt
 
-false-true : false ≡ true → ⊥
-false-true e = let z : _≡_ {A = ℕ} 0 1 = cc in omega arith
+true-of-not : {b : Bool} → not b ≡ false → b ≡ true
+true-of-not {b = true} e = refl
+true-of-not {b = false} e = sym e
 
 -- The limits that the test lets pass.
 limits-in : (low high : ℕ) → limitsOk low high ≡ true → InLimits low (limitOf high)
 limits-in low high =
-    cond-case (λ b. b ≡ true → InLimits low (limitOf high)) (ltb 8192 low) _ _ (λ e o. absurd (false-true o))
-    (λ e. cond-case (λ b. b ≡ true → InLimits low (limitOf high)) (eqb high 65535) _ _
-    (λ e₂ o. rw e₂ (ltb-false _ _ e))
-    (λ e₂. cond-case (λ b. b ≡ true → InLimits low (limitOf high)) (ltb high low) _ _ (λ e₃ o. absurd (false-true o))
+    let P : Bool → Type 0 = λ b. b ≡ true → InLimits low (limitOf high) in
+    cond-case P (ltb maxCount low) _ _ (λ e o. never-both o refl)
+    (λ e. cond-case P (eqb high noLimit) _ _ (λ e₂ o. rw e₂ (ltb-false _ _ e))
+    (λ e₂. cond-case P (ltb high low) _ _ (λ e₃ o. never-both o refl)
     (λ e₃ o. rw e₂ (ltb-false _ _ e, ltb-false _ _ e₃, leb-true _ _ o))))
 
 -- The row after a link whose kind had no entry.
@@ -266,17 +271,17 @@ module _ (sizes : Sizes) where
 
   -- A run of parts, each of which is read so.
   run-reads :
-      (inner : ℕ → List ℕ → Reading Part) (left : ℕ) →
-      ((at : ℕ) (row : List ℕ) → sizes .kinds ≤ length row → Found (PartRead sizes left row) (inner at row)) →
+      (inner : ℕ → List ℕ → Reading (Found Part)) (left : ℕ) →
+      ((at : ℕ) (row : List ℕ) → sizes .kinds ≤ length row → Finds (PartRead sizes left row) (inner at row)) →
       (n at : ℕ) (row : List ℕ) → sizes .kinds ≤ length row →
-      Found (λ ps after. PartRead sizes (suc left) row (Part.choice ps) after) (readRun inner n at row)
+      Finds (λ ps after. PartRead sizes (suc left) row (Part.choice ps) after) (readRun inner n at row)
   unfolding readRun
   run-reads inner left h zero at row b = none-read left row
   run-reads inner left h (suc n) at row b =
-      found-then (PartRead sizes left row) (λ ps after. PartRead sizes (suc left) row (Part.choice ps) after)
-      (inner at row) (λ p next mid. mapped (Parts.more p) (readRun inner n next mid)) (h at row b)
+      finds-then (PartRead sizes left row) (λ ps after. PartRead sizes (suc left) row (Part.choice ps) after)
+      (inner at row) (λ p next mid. mapped (into (Parts.more p)) (readRun inner n next mid)) (h at row b)
       (λ p next mid w.
-      found-mapped (λ ps after. PartRead sizes (suc left) mid (Part.choice ps) after)
+      finds-mapped (λ ps after. PartRead sizes (suc left) mid (Part.choice ps) after)
       (λ ps after. PartRead sizes (suc left) row (Part.choice ps) after) (Parts.more p)
       (λ ps after v. more-read left row p mid ps after w v) (readRun inner n next mid)
       (run-reads inner left h n next mid (omega (arith, w .size))))
@@ -284,51 +289,50 @@ module _ (sizes : Sizes) where
   module _ (words : List ℕ) (end : ℕ) where
     link-reads :
         (left at : ℕ) (row : List ℕ) (kind : ℕ) → sizes .kinds ≤ length row →
-        Found (PartRead sizes (suc left) row) (readLink words end sizes at row kind)
+        Finds (PartRead sizes (suc left) row) (readLink words end sizes at row kind)
     unfolding readLink
     link-reads left at row kind b =
-        let P : Reading Part → Type 0 = Found (PartRead sizes (suc left) row) in
-        cond-case P (ltb (end - at) 4) _ _ (λ e. tt)
-        (λ e. cond-case P (leb (sizes .kinds) kind) _ _ (λ e₂. tt)
-        (λ e₂. cond-case P (eqb (getD row kind 0) 0) _ _
-        (λ e₃. cond-case P (leb (sizes .shapes) (getD words (at + 1) 0)) _ _ (λ e₄. tt)
-        (λ e₄. cond-case P (limitsOk (getD words (at + 2) 0) (getD words (at + 3) 0)) _ _
+        let P : Reading (Found Part) → Type 0 = Finds (PartRead sizes (suc left) row) in
+        refuse-case 4 end P (ltb (end - at) 4) _ (λ e. tt)
+        (λ e. refuse-case 7 at P (leb (sizes .kinds) kind) _ (λ e₂. tt)
+        (λ e₂. refuse-case 8 at P (not (eqb (getD row kind 0) 0)) _ (λ e₃. tt)
+        (λ e₃. refuse-case 9 (at + 1) P (leb (sizes .shapes) (getD words (at + 1) 0)) _ (λ e₄. tt)
+        (λ e₄. refuse-case 10 (at + 2) P (not (limitsOk (getD words (at + 2) 0) (getD words (at + 3) 0))) _ (λ e₅. tt)
         (λ e₅. link-read left row kind (getD words (at + 1) 0) (getD words (at + 2) 0) (getD words (at + 3) 0)
-        (leb-false _ _ e₂) b (eqb-true _ _ e₃) (leb-false _ _ e₄) e₅)
-        (λ e₅. tt)))
-        (λ e₃. tt)))
+        (leb-false _ _ e₂) b (eqb-true _ _ (true-of-not e₃)) (leb-false _ _ e₄) (true-of-not e₅))))))
 
     group-reads :
         (left at : ℕ) (row : List ℕ) → sizes .kinds ≤ length row →
         ((m : ℕ) (l : List ℕ) → sizes .kinds ≤ length l →
-        Found (PartRead sizes left l) (readPart left words end sizes m l)) →
-        Found (λ ps after. PartRead sizes (suc left) row (Part.choice ps) after)
+        Finds (PartRead sizes left l) (readPart left words end sizes m l)) →
+        Finds (λ ps after. PartRead sizes (suc left) row (Part.choice ps) after)
         (readGroup (readPart left words end sizes) words end at row)
     group-reads left at row b h =
-        let P : Reading Parts → Type 0 = Found (λ ps after. PartRead sizes (suc left) row (Part.choice ps) after) in
-        cond-case P (ltb (end - at) 2) _ _ (λ e. tt)
-        (λ e. cond-case P (ltb (getD words (at + 1) 0) 2) _ _ (λ e₂. tt)
-        (λ e₂. cond-case P (ltb 16 (getD words (at + 1) 0)) _ _ (λ e₃. tt)
+        let P : Reading (Found Parts) → Type 0 =
+        Finds (λ ps after. PartRead sizes (suc left) row (Part.choice ps) after) in
+        refuse-case 4 end P (ltb (end - at) 2) _ (λ e. tt)
+        (λ e. refuse-case 11 (at + 1) P (ltb (getD words (at + 1) 0) minGroup) _ (λ e₂. tt)
+        (λ e₂. refuse-case 11 (at + 1) P (ltb maxGroup (getD words (at + 1) 0)) _ (λ e₃. tt)
         (λ e₃. run-reads (readPart left words end sizes) left h (getD words (at + 1) 0) (at + 2) row b)))
 
     code-reads :
         (n left at : ℕ) (row : List ℕ) → sizes .kinds ≤ length row →
         ((m : ℕ) (l : List ℕ) → sizes .kinds ≤ length l →
-        Found (PartRead sizes left l) (readPart left words end sizes m l)) →
-        Found (PartRead sizes (suc left) row)
+        Finds (PartRead sizes left l) (readPart left words end sizes m l)) →
+        Finds (PartRead sizes (suc left) row)
         (readCode (codeOf n) (readPart left words end sizes) words end sizes at row)
     code-reads n left at row b h =
         let P : Code → Type 0 =
-        λ code. Found (PartRead sizes (suc left) row)
+        λ code. Finds (PartRead sizes (suc left) row)
         (readCode code (readPart left words end sizes) words end sizes at row) in
         cond-case P (eqb n 0) _ _ (λ e. nothing-read left row)
         (λ e. cond-case P (ltb n 4) _ _
-        (λ e₂. found-mapped (PartRead sizes left row) (PartRead sizes (suc left) row) (wrapped n)
+        (λ e₂. finds-mapped (PartRead sizes left row) (PartRead sizes (suc left) row) (wrapped n)
         (λ p after w. wrapped-read n left row p after w) (readPart left words end sizes (at + 1) row)
         (h (at + 1) row b))
         (λ e₂. cond-case P (ltb n 16) _ _ (λ e₃. tt)
         (λ e₃. cond-case P (ltb n 18) _ _
-        (λ e₄. found-mapped (λ ps after. PartRead sizes (suc left) row (Part.choice ps) after)
+        (λ e₄. finds-mapped (λ ps after. PartRead sizes (suc left) row (Part.choice ps) after)
         (PartRead sizes (suc left) row) (gathered n)
         (λ ps after w. gathered-read n (suc left) row ps after w)
         (readGroup (readPart left words end sizes) words end at row) (group-reads left at row b h))
@@ -337,23 +341,23 @@ module _ (sizes : Sizes) where
 
     part-reads :
         (left at : ℕ) (row : List ℕ) → sizes .kinds ≤ length row →
-        Found (PartRead sizes left row) (readPart left words end sizes at row)
+        Finds (PartRead sizes left row) (readPart left words end sizes at row)
     unfolding readPart
-    part-reads zero at row b = cond-case (Found (PartRead sizes zero row)) (leb end at) _ _ (λ e. tt) (λ e. tt)
+    part-reads zero at row b = refuse-case 4 end (Finds (PartRead sizes zero row)) (leb end at) _ (λ e. tt) (λ e. tt)
     part-reads (suc left) at row b =
-        cond-case (Found (PartRead sizes (suc left) row)) (leb end at) _ _ (λ e. tt)
+        refuse-case 4 end (Finds (PartRead sizes (suc left) row)) (leb end at) _ (λ e. tt)
         (λ e. code-reads (getD words at 0) left at row b (part-reads left))
 
-    -- A part that was read obeys document 01, and the row has its names.
+    -- A part that was read is allowed, and the row has its names.
     pub reads-part :
         (left at : ℕ) (row : List ℕ) (p : Part) (next : ℕ) (after : List ℕ) → sizes .kinds ≤ length row →
-        readPart left words end sizes at row ≡ found p next after → PartRead sizes left row p after
+        readPart left words end sizes at row ≡ accepted (found p next after) → PartRead sizes left row p after
     reads-part left at row p next after b e = rw e at (part-reads left at row b)
 
     -- Read from a row that has no names, a part leaves its names there.
     pub reads-names :
-        (left at : ℕ) (p : Part) (next : ℕ) (after : List ℕ) → sizes .kinds ≤ 64 →
-        readPart left words end sizes at noNames ≡ found p next after → (k : ℕ) → getD after k 0 ≡ named p k
+        (left at : ℕ) (p : Part) (next : ℕ) (after : List ℕ) → sizes .kinds ≤ maxKinds →
+        readPart left words end sizes at noNames ≡ accepted (found p next after) → (k : ℕ) → getD after k 0 ≡ named p k
     reads-names left at p next after b e k =
         let w = reads-part left at noNames p next after b e in
-        w .entries k ∙ ap (λ (n : ℕ). firstEntry n (named p k)) (no-entry 64 k)
+        w .entries k ∙ ap (λ (n : ℕ). firstEntry n (named p k)) (no-entry maxKinds k)

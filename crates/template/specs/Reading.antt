@@ -1,6 +1,7 @@
--- What reading one part of a shape finds (document 01, "Template" and "Read a template").
+-- What reading one part of a shape finds (docs/FORMAT.md, "Templates"). Refusals stand in the order of their tests, a
+-- line each: the number, its place, and the test for it.
 -- Code, codeOf            what a code starts, decided by ranges
--- Reading                 what was read, with the next place; or a refusal
+-- Found                   what was read, with the next place and the row
 -- readLink, readGroup     a link, and a group, at a place
 -- readRun, readPart       a run of parts, and a part: each leads to the other
 -- A row has, for each label, the shape that the shape being read has named for it so far plus one, or 0. A label is a
@@ -8,13 +9,13 @@
 -- Assumes nothing.
 use Prim.Native.Nat.{ℕ, zero, suc, _+_, _-_}
 use mathlib.Core.List.{List}
-use mathlib.Core.Bool.{Bool, true, false, cond}
+use mathlib.Core.Bool.{Bool, true, false, not, cond}
 use lib.ListN.{getD, set}
 use lib.Dec.{ltb, leb, eqb}
+use Rattle.words.specs.Limits.{maxCount, noLimit, minGroup, maxGroup}
+use Rattle.words.specs.Reading.{Reading, accepted, turnedDown, refuse, then, mapped}
 use Rattle.bags.specs.Part.{Part, Parts}
 use Rattle.bags.specs.Span.{limitOf}
-use Rattle.template.specs.declared.Read.{Read}
-use Rattle.template.specs.declared.Read.the-variants.{Next, Refused}
 use Rattle.template.specs.declared.Sizes.{Sizes}
 
 -- What a code starts: nothing, one part that is wrapped, a group of parts, a link of a kind, or nothing known.
@@ -43,80 +44,67 @@ codeOf n =
     (cond (ltb n 256) unknown
     (cond (ltb n 320) (link (n - 256)) unknown)))))
 
--- What was read, the next place and the row; or a refusal's number and place, and the row as it was then.
-pub data Reading (A : Type 0) : Type 0 where
-  found : A → ℕ → List ℕ → Reading A
-  refused : ℕ → ℕ → List ℕ → Reading A
-
--- The rest is read after what was found.
-abbrev pub andThen : {A B : Type 0} → Reading A → (A → ℕ → List ℕ → Reading B) → Reading B
-andThen (found a next row) rest = rest a next row
-andThen (refused number place row) rest = refused number place row
+-- What was read, the next place and the row.
+pub data Found (A : Type 0) : Type 0 where
+  found : A → ℕ → List ℕ → Found A
 
 -- What was found becomes a part of something larger.
-abbrev pub mapped : {A B : Type 0} → (A → B) → Reading A → Reading B
-mapped f (found a next row) = found (f a) next row
-mapped f (refused number place row) = refused number place row
+abbrev pub into : {A B : Type 0} → (A → B) → Found A → Found B
+into f (found a next row) = found (f a) next row
 
--- "Low is 0 to 8,192; high is low to 8,192, or 65,535."
+-- The rest is read after what was found.
+abbrev pub after : {A B : Type 0} → (A → ℕ → List ℕ → Reading B) → Found A → Reading B
+after rest (found a next row) = rest a next row
+
+-- A link's low is at most 8,192; its high is from low to 8,192, or 65,535 for no limit.
 abbrev pub limitsOk : ℕ → ℕ → Bool
 limitsOk low high =
-    cond (ltb 8192 low) false (cond (eqb high 65535) true (cond (ltb high low) false (leb high 8192)))
+    cond (ltb maxCount low) false (cond (eqb high noLimit) true (cond (ltb high low) false (leb high maxCount)))
 
--- "For a link all four words (4), then 7 kind not below L and 8 kind already in this shape, at the code;
--- 9 shape not below S; 10 low or high, at the low."
-unfoldable pub readLink : List ℕ → ℕ → Sizes → ℕ → List ℕ → ℕ → Reading Part
+-- A link: the code, then its shape, low and high. 4: a word is missing. 7: the kind is not below the count of kinds.
+-- 8: it stands in this shape already. 9: the shape is not below the count of shapes. 10: low or high.
+unfoldable pub readLink : List ℕ → ℕ → Sizes → ℕ → List ℕ → ℕ → Reading (Found Part)
 readLink words end sizes at row kind =
-    cond (ltb (end - at) 4) (refused 4 end row)
-    (cond (leb (sizes .kinds) kind) (refused 7 at row)
-    (cond (eqb (getD row kind 0) 0)
-    (cond (leb (sizes .shapes) (getD words (at + 1) 0)) (refused 9 (at + 1) row)
-    (cond (limitsOk (getD words (at + 2) 0) (getD words (at + 3) 0))
+    refuse 4 end (ltb (end - at) 4)
+    (refuse 7 at (leb (sizes .kinds) kind)
+    (refuse 8 at (not (eqb (getD row kind 0) 0))
+    (refuse 9 (at + 1) (leb (sizes .shapes) (getD words (at + 1) 0))
+    (refuse 10 (at + 2) (not (limitsOk (getD words (at + 2) 0) (getD words (at + 3) 0)))
+    (accepted
     (found
     (Part.link kind (getD words (at + 1) 0) (getD words (at + 2) 0) (limitOf (getD words (at + 3) 0)))
     (at + 4)
-    (set row kind (getD words (at + 1) 0 + 1)))
-    (refused 10 (at + 2) row)))
-    (refused 8 at row)))
+    (set row kind (getD words (at + 1) 0 + 1))))))))
 
 -- So many parts one after the other, each read by `inner`.
-unfoldable pub readRun : (ℕ → List ℕ → Reading Part) → ℕ → ℕ → List ℕ → Reading Parts
-readRun inner zero at row = found Parts.none at row
+unfoldable pub readRun : (ℕ → List ℕ → Reading (Found Part)) → ℕ → ℕ → List ℕ → Reading (Found Parts)
+readRun inner zero at row = accepted (found Parts.none at row)
 readRun inner (suc n) at row =
-    andThen (inner at row) (λ p next left. mapped (Parts.more p) (readRun inner n next left))
+    then (inner at row) (after (λ p next left. mapped (into (Parts.more p)) (readRun inner n next left)))
 
--- "For a group 4, then 11 its count": 2 to 16, and so many parts follow.
-abbrev pub readGroup : (ℕ → List ℕ → Reading Part) → List ℕ → ℕ → ℕ → List ℕ → Reading Parts
+-- A group: the code, then its count of parts, then those. 4: the count is missing. 11: it is under 2 or over 16.
+abbrev pub readGroup : (ℕ → List ℕ → Reading (Found Part)) → List ℕ → ℕ → ℕ → List ℕ → Reading (Found Parts)
 readGroup inner words end at row =
-    cond (ltb (end - at) 2) (refused 4 end row)
-    (cond (ltb (getD words (at + 1) 0) 2) (refused 11 (at + 1) row)
-    (cond (ltb 16 (getD words (at + 1) 0)) (refused 11 (at + 1) row)
+    refuse 4 end (ltb (end - at) 2)
+    (refuse 11 (at + 1) (ltb (getD words (at + 1) 0) minGroup)
+    (refuse 11 (at + 1) (ltb maxGroup (getD words (at + 1) 0))
     (readRun inner (getD words (at + 1) 0) (at + 2) row)))
 
--- The part that a code starts; 5 for an unknown code.
-abbrev pub readCode : Code → (ℕ → List ℕ → Reading Part) → List ℕ → ℕ → Sizes → ℕ → List ℕ → Reading Part
-readCode nothing inner words end sizes at row = found Part.nothing (at + 1) row
-readCode (single f) inner words end sizes at row = mapped f (inner (at + 1) row)
-readCode (group f) inner words end sizes at row = mapped f (readGroup inner words end at row)
+-- The part that a code starts. 5: the code is unknown.
+abbrev pub readCode :
+    Code → (ℕ → List ℕ → Reading (Found Part)) → List ℕ → ℕ → Sizes → ℕ → List ℕ → Reading (Found Part)
+readCode nothing inner words end sizes at row = accepted (found Part.nothing (at + 1) row)
+readCode (single f) inner words end sizes at row = mapped (into f) (inner (at + 1) row)
+readCode (group f) inner words end sizes at row = mapped (into f) (readGroup inner words end at row)
 readCode (link kind) inner words end sizes at row = readLink words end sizes at row kind
-readCode unknown inner words end sizes at row = refused 5 at row
+readCode unknown inner words end sizes at row = turnedDown 5 at
 
--- The part at a place below the shape's end, where `left` levels are still allowed: 12 for a shape's whole part.
--- "For each part 4, 6 depth over 12, 5 unknown code."
-unfoldable pub readPart : ℕ → List ℕ → ℕ → Sizes → ℕ → List ℕ → Reading Part
-readPart zero words end sizes at row = cond (leb end at) (refused 4 end row) (refused 6 at row)
+-- The part at a place below the shape's end, where `left` levels are still allowed. 4: the code is missing. 6: the part
+-- stands too deep. Then what its code starts.
+unfoldable pub readPart : ℕ → List ℕ → ℕ → Sizes → ℕ → List ℕ → Reading (Found Part)
+readPart zero words end sizes at row =
+    refuse 4 end (leb end at)
+    (turnedDown 6 at)
 readPart (suc left) words end sizes at row =
-    cond (leb end at) (refused 4 end row)
+    refuse 4 end (leb end at)
     (readCode (codeOf (getD words at 0)) (readPart left words end sizes) words end sizes at row)
-
--- What the code's answer and the row that it leaves say of a reading: all but the tree.
-pub record Outcome : Type 0 where
-  pub read : Read
-  pub row : List ℕ
-
-abbrev pub both : Read → List ℕ → Outcome
-both read row = record { read = read; row = row }
-
-abbrev pub outcome : {A : Type 0} → Reading A → Outcome
-outcome (found a next row) = both (Next next) row
-outcome (refused number place row) = both (Refused number place) row

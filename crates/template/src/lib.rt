@@ -1,14 +1,23 @@
 // Reading a template (a schema): the words of each shape (a type) are one part exactly. `part` reads a part and `run` a
 // run of parts, and each calls the other. The same reading fills the table of names.
 ghost use mathlib.Core.Path.{_≡_};
-ghost use mathlib.Core.List.{List};
-ghost use Prim.Native.Nat.{ℕ, _+_, _≤_, _<_};
-ghost use lib.ListN.{length, getD, replicate};
-ghost use Rattle.bags.specs.Part.{Part, named};
+ghost use Prim.Native.Nat.{_+_, _<_};
+ghost use lib.ListN.{replicate};
+ghost use Rattle.words.specs.Limits.{maxShapes, tableSize};
+ghost use Rattle.words.specs.Reading.{accepted};
 ghost use Rattle.template.specs.Answer.{templateSaid};
-ghost use Rattle.template.specs.Reading.{limitsOk, both, outcome, readLink, readPart, readRun};
-ghost use Rattle.template.specs.Template.{ok, accepted, noNames, resultRead, readShape, readShapes};
-ghost use Rattle.template.specs.Template.{readTemplate, templateSays, Tabled};
+ghost use Rattle.template.specs.Reading.{limitsOk, readLink, readPart, readRun};
+ghost use Rattle.template.specs.Template.{readShape, readShapes, Template, readTemplate, templateSays, Tabled};
+ghost use Rattle.template.specs.Machine.{shown, outcome, readOf, Inside, Ready, RowNames, Empty, Filled};
+use words::MAX_COUNT;
+use words::MAX_DEPTH;
+use words::MAX_GROUP;
+use words::MAX_KINDS;
+use words::MAX_SHAPES;
+use words::MAX_TEMPLATE;
+use words::MIN_GROUP;
+use words::NO_LIMIT;
+use words::TABLE_SIZE;
 use words::wide;
 
 // The number of a kind: it counts the template's kinds from 0.
@@ -43,7 +52,7 @@ pub enum TemplateAnswer {
 
 // A shape's entry in the table of names: its number plus one.
 fn entry(shape: Shape) -> u8
-    requires { ⌜ shape .0 < 32 ⌝ }
+    requires { ⌜ shape .0 < maxShapes ⌝ }
     ensures { λ r. ⌜ r ≡ shape .0 + 1 ⌝ }
 {
     (shape.0 + 1) as u8
@@ -53,22 +62,23 @@ fn entry(shape: Shape) -> u8
 fn limits_ok(low: u16, high: u16) -> bool
     ensures { λ r. ⌜ r ≡ limitsOk low high ⌝ }
 {
-    if 8192 < low {
+    if MAX_COUNT < low {
         return false;
     }
-    if high == 65535 {
+    if high == NO_LIMIT {
         return true;
     }
     if high < low {
         return false;
     }
-    high <= 8192
+    high <= MAX_COUNT
 }
 
 // The link of this kind whose code is at `at`, below `end`. Its shape is entered in the row.
 fn link(words: &[u16], at: usize, end: usize, sizes: Sizes, row: &mut [u8], kind: Kind) -> Read
-    requires { ⌜ (at < end) × (end ≤ length (now words)) × (sizes .kinds ≤ length (now row)) × (sizes .shapes ≤ 32) ⌝ }
-    ensures { λ r. ⌜ both r (now (row .exit)) ≡ outcome (readLink (now (words .entry)) end sizes at (now (row .entry)) (kind .0)) ⌝ }
+    requires { ⌜ (at < end) × Inside (now words) end sizes (now row) ⌝ }
+    ensures { λ r. ⌜ shown r (now (row .exit))
+        ≡ outcome (readLink (now (words .entry)) end sizes at (now (row .entry)) (kind .0)) ⌝ }
 {
     if end - at < 4 {
         return Read::Refused(4, end);
@@ -94,8 +104,9 @@ fn link(words: &[u16], at: usize, end: usize, sizes: Sizes, row: &mut [u8], kind
 
 // The part at `at`, where `left` levels of parts are still allowed.
 fn part(words: &[u16], at: usize, end: usize, sizes: Sizes, left: usize, row: &mut [u8]) -> Read
-    requires { ⌜ (end ≤ length (now words)) × (sizes .kinds ≤ length (now row)) × (sizes .shapes ≤ 32) ⌝ }
-    ensures { λ r. ⌜ both r (now (row .exit)) ≡ outcome (readPart left (now (words .entry)) end sizes at (now (row .entry))) ⌝ }
+    requires { ⌜ Inside (now words) end sizes (now row) ⌝ }
+    ensures { λ r. ⌜ shown r (now (row .exit))
+        ≡ outcome (readPart left (now (words .entry)) end sizes at (now (row .entry))) ⌝ }
 {
     if end <= at {
         return Read::Refused(4, end);
@@ -113,10 +124,10 @@ fn part(words: &[u16], at: usize, end: usize, sizes: Sizes, left: usize, row: &m
                 return Read::Refused(4, end);
             }
             let count = words[at + 1];
-            if count < 2 {
+            if count < MIN_GROUP {
                 return Read::Refused(11, at + 1);
             }
-            if 16 < count {
+            if MAX_GROUP < count {
                 return Read::Refused(11, at + 1);
             }
             run(words, at + 2, end, sizes, left - 1, row, count)
@@ -137,8 +148,9 @@ fn run(
     row: &mut [u8],
     count: u16,
 ) -> Read
-    requires { ⌜ (end ≤ length (now words)) × (sizes .kinds ≤ length (now row)) × (sizes .shapes ≤ 32) ⌝ }
-    ensures { λ r. ⌜ both r (now (row .exit)) ≡ outcome (readRun (readPart left (now (words .entry)) end sizes) count at (now (row .entry))) ⌝ }
+    requires { ⌜ Inside (now words) end sizes (now row) ⌝ }
+    ensures { λ r. ⌜ shown r (now (row .exit))
+        ≡ outcome (readRun (readPart left (now (words .entry)) end sizes) count at (now (row .entry))) ⌝ }
 {
     if count == 0 {
         return Read::Next(at);
@@ -152,9 +164,9 @@ fn run(
 
 // The shape whose count of words stands at `at`. The row then has the shape that it names for each label.
 fn shape_at(words: &[u16], at: usize, sizes: Sizes, row: &mut [u8]) -> Read
-    requires { ⌜ (sizes .kinds ≤ 64) × (sizes .shapes ≤ 32) × (now row ≡ noNames) ⌝ }
-    ensures read { λ r. ⌜ r ≡ resultRead (readShape sizes (now (words .entry)) at) ⌝ }
-    ensures names { λ r. ⌜ ((p : Part) (n : ℕ) → readShape sizes (now (words .entry)) at ≡ ok p n → (k : ℕ) → getD (now (row .exit)) k 0 ≡ named p k) ⌝ }
+    requires { ⌜ Ready sizes (now row) ⌝ }
+    ensures read { λ r. ⌜ r ≡ readOf (readShape sizes (now (words .entry)) at) ⌝ }
+    ensures names { λ r. ⌜ RowNames (readShape sizes (now (words .entry)) at) (now (row .exit)) ⌝ }
 {
     if words.len() <= at {
         return Read::Refused(4, words.len());
@@ -165,7 +177,7 @@ fn shape_at(words: &[u16], at: usize, sizes: Sizes, row: &mut [u8]) -> Read
         return Read::Refused(4, words.len());
     }
     let end = start + count;
-    let whole = part(words, start, end, sizes, 12, row);
+    let whole = part(words, start, end, sizes, MAX_DEPTH, row);
     match whole {
         Read::Next(next) => {
             if next < end {
@@ -180,34 +192,35 @@ fn shape_at(words: &[u16], at: usize, sizes: Sizes, row: &mut [u8]) -> Read
 
 // The shape at a reader's place. The reader is taken apart.
 fn read_shape(reader: Reader, sizes: Sizes, row: &mut [u8]) -> Read
-    requires { ⌜ (sizes .kinds ≤ 64) × (sizes .shapes ≤ 32) × (now row ≡ noNames) ⌝ }
-    ensures read { λ r. ⌜ r ≡ resultRead (readShape sizes (now (reader .entry .words)) (reader .entry .at)) ⌝ }
-    ensures names { λ r. ⌜ ((p : Part) (n : ℕ) → readShape sizes (now (reader .entry .words)) (reader .entry .at) ≡ ok p n → (k : ℕ) → getD (now (row .exit)) k 0 ≡ named p k) ⌝ }
+    requires { ⌜ Ready sizes (now row) ⌝ }
+    ensures read { λ r. ⌜ r ≡ readOf (readShape sizes (now (reader .entry .words)) (reader .entry .at)) ⌝ }
+    ensures names { λ r. ⌜ RowNames (readShape sizes (now (reader .entry .words)) (reader .entry .at))
+        (now (row .exit)) ⌝ }
 {
     shape_at(reader.words, reader.at, sizes, row)
 }
 
 // Makes the reader for the shape at `at`: who calls this one needs no reader.
 fn one_shape(words: &[u16], at: usize, sizes: Sizes, row: &mut [u8]) -> Read
-    requires { ⌜ (sizes .kinds ≤ 64) × (sizes .shapes ≤ 32) × (now row ≡ noNames) ⌝ }
-    ensures read { λ r. ⌜ r ≡ resultRead (readShape sizes (now (words .entry)) at) ⌝ }
-    ensures names { λ r. ⌜ ((p : Part) (n : ℕ) → readShape sizes (now (words .entry)) at ≡ ok p n → (k : ℕ) → getD (now (row .exit)) k 0 ≡ named p k) ⌝ }
+    requires { ⌜ Ready sizes (now row) ⌝ }
+    ensures read { λ r. ⌜ r ≡ readOf (readShape sizes (now (words .entry)) at) ⌝ }
+    ensures names { λ r. ⌜ RowNames (readShape sizes (now (words .entry)) at) (now (row .exit)) ⌝ }
 {
     read_shape(Reader { words, at }, sizes, row)
 }
 
-// All shapes, and then the template's end. A table that is all 0 gets a row of 64 for each shape.
+// All shapes, and then the template's end. A table that is all 0 gets a row for each shape.
 fn all_shapes(words: &[u16], sizes: Sizes, names: &mut [u8]) -> Read
-    requires { ⌜ (sizes .kinds ≤ 64) × (sizes .shapes ≤ 32) × (now names ≡ replicate 2048 0) ⌝ }
-    ensures read { λ r. ⌜ r ≡ resultRead (readShapes sizes (now (words .entry)) (sizes .shapes) 2) ⌝ }
-    ensures table { λ r. ⌜ ((trees : List Part) (n : ℕ) → readShapes sizes (now (words .entry)) (sizes .shapes) 2 ≡ ok trees n → Tabled trees (now (names .exit))) ⌝ }
+    requires { ⌜ Empty sizes (now names) ⌝ }
+    ensures read { λ r. ⌜ r ≡ readOf (readShapes sizes (now (words .entry)) (sizes .shapes) 2) ⌝ }
+    ensures table { λ r. ⌜ Filled (readShapes sizes (now (words .entry)) (sizes .shapes) 2) (now (names .exit)) ⌝ }
 {
     let shapes = wide(sizes.shapes);
     let mut at = 2;
     let mut t = 0;
     while t < shapes {
-        let base = t * 64;
-        let end = base + 64;
+        let base = t * MAX_KINDS;
+        let end = base + MAX_KINDS;
         let first = one_shape(words, at, sizes, &mut names[base..end]);
         match first {
             Read::Next(next) => {
@@ -227,28 +240,29 @@ fn all_shapes(words: &[u16], sizes: Sizes, names: &mut [u8]) -> Read
 
 // Reads a template and fills the table of names, which is all 0 before.
 pub fn read_names(template: &[u16], names: &mut [u8]) -> TemplateAnswer
-    requires { ⌜ now names ≡ replicate 2048 0 ⌝ }
+    requires { ⌜ now names ≡ replicate tableSize 0 ⌝ }
     ensures answer { λ r. ⌜ templateSaid r ≡ templateSays (now (template .entry)) ⌝ }
-    ensures table { λ r. ⌜ ((kinds shapes : ℕ) (trees : List Part) → readTemplate (now (template .entry)) ≡ accepted kinds shapes trees → Tabled trees (now (names .exit))) ⌝ }
+    ensures table { λ r. ⌜ ((t : Template) → readTemplate (now (template .entry)) ≡ accepted t
+        → Tabled (t .parts) (now (names .exit))) ⌝ }
 {
     if template.len() < 2 {
         return TemplateAnswer::Refused(1, 0);
     }
-    if 4096 < template.len() {
+    if MAX_TEMPLATE < template.len() {
         return TemplateAnswer::Refused(1, 0);
     }
     let kinds = template[0];
     if kinds < 1 {
         return TemplateAnswer::Refused(2, 0);
     }
-    if 64 < kinds {
+    if MAX_KINDS < wide(kinds) {
         return TemplateAnswer::Refused(2, 0);
     }
     let shapes = template[1];
     if shapes < 1 {
         return TemplateAnswer::Refused(3, 1);
     }
-    if 32 < shapes {
+    if MAX_SHAPES < wide(shapes) {
         return TemplateAnswer::Refused(3, 1);
     }
     let all = all_shapes(template, Sizes { kinds, shapes }, names);
@@ -262,6 +276,6 @@ pub fn read_names(template: &[u16], names: &mut [u8]) -> TemplateAnswer
 pub fn read_template(template: &[u16]) -> TemplateAnswer
     ensures { λ r. ⌜ templateSaid r ≡ templateSays (now (template .entry)) ⌝ }
 {
-    let mut names = [0u8; 2048];
+    let mut names = [0u8; TABLE_SIZE];
     read_names(template, &mut names)
 }

@@ -1,5 +1,5 @@
--- Demand 3 from the answers of the two calls.
---   demand-3    every sentence of demand 3 holds of the grids and the numbers that the two calls leave
+-- What holds of the two typings together, from the answers of the two calls.
+--   demand-3    it holds of the grids and the numbers that the two calls leave
 --   both-found  the two answers together are the answer of the call for both
 -- Assumes nothing.
 use Prim.Native.Nat.{ℕ, _<_}
@@ -16,7 +16,6 @@ use Rattle.words.specs.Said.{Said}
 use Rattle.sheet.specs.Sheet.{Sheet, place, size}
 use Rattle.typing.specs.Typing.{Pairs, Holds, SoundTyping}
 use Rattle.typing.specs.Largest.{Largest, bareCards}
-use Rattle.bookings.specs.Bookings as bookings
 use Rattle.typing.specs.Smallest.{booked, Accepted, TurnedDown}
 use Rattle.typing.specs.Demand3.{Outcome, pairs, notMet, Demand3}
 use Rattle.typing.specs.Answer.{BothSaid}
@@ -108,9 +107,9 @@ module _ {s : Sheet} {B : Board} (rep : Represents s B) {large : List ℕ} {said
     demand-3 (pairs m) a = accepted-demand m a
     demand-3 (notMet n t) a = turned-down-demand n t a
 
-pub both-found : {s : Sheet} {B : Board} → Represents s B → {list small large : List ℕ} {said : BothSaid}
-    → BookedIn s (bookings.Booked list)
-    → LargestFound s large (said .largest) → SmallestFound s list small (said .smallest)
-    → BothFound s list small large said
+pub both-found : {s : Sheet} {B : Board} → Represents s B → {Booked : ℕ → ℕ → Type 0} {small large : List ℕ}
+    {said : BothSaid} → BookedIn s Booked
+    → LargestFound s large (said .largest) → SmallestFound s Booked small (said .smallest)
+    → BothFound s Booked small large said
 both-found rep inside l m =
     record { largest = l; smallest = m; demand = demand-3 rep l inside (m .outcome) (m .leaves) }

@@ -1,4 +1,4 @@
--- The largest typing (document 01, "Largest"): there is one, it is one, and every sound set is below it.
+-- The largest typing: there is one, it is one, and every sound set is below it.
 --   largest-of      what the board's rounds leave is the largest
 --   largest-is, largest-last   it is what they leave, after their last round
 --   largest-over    every sound set is below it

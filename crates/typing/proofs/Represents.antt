@@ -1,4 +1,4 @@
--- A board stands for a sheet: its places are the sheet's pairs, and its test decides what document 01 calls met.
+-- A board stands for a sheet: its places are the sheet's pairs, and its test decides which pairs are met ("Typings").
 --   Follows     what the closure goes on to from a pair
 --   Represents  the board stands for the sheet
 --   Alike       two sets of pairs agree on the sheet
@@ -14,7 +14,7 @@ use mathlib.Core.Bool.{true}
 use Rattle.bags.specs.Part.{Declares}
 use Rattle.board.specs.Board.{Board, Lawful, SoundSet}
 use Rattle.board.proofs.Rounds.{mono}
-use Rattle.script.specs.Link.{fromAt, kindAt, toAt}
+use Rattle.script.specs.Link.{near, label, far}
 use Rattle.words.proofs.Places.{place-in, place-of, card-in, shape-in}
 use Rattle.sheet.specs.Sheet.{Sheet, partOf, place, size}
 use Rattle.typing.specs.Typing.{Pairs, Met, Sound}
@@ -24,9 +24,9 @@ pub record Follows (s : Sheet) (n t q : ℕ) : Type 0 where
   pub link : ℕ
   pub shape : ℕ
   pub below : link < s .links
-  pub starts : fromAt (s .script) link ≡ n
-  pub declares : Declares (partOf s t) (kindAt (s .script) link) shape
-  pub leads : q ≡ place s (toAt (s .script) link) shape
+  pub starts : near (s .script) link ≡ n
+  pub declares : Declares (partOf s t) (label (s .script) link) shape
+  pub leads : q ≡ place s (far (s .script) link) shape
 
 pub record Represents (s : Sheet) (B : Board) : Type 0 where
   -- the board has a place for each pair, and Proposition 8.1 holds on it
@@ -38,7 +38,7 @@ pub record Represents (s : Sheet) (B : Board) : Type 0 where
   -- a place needs just what the closure goes on to from its pair
   pub needs-exact : (n t q : ℕ) → n < s .cards → t < s .shapes → B .Dep (place s n t) q ↔ Follows s n t q
   -- links lead to cards of the sheet, and shapes declare shapes of the sheet
-  pub target-in : (i : ℕ) → i < s .links → toAt (s .script) i < s .cards
+  pub target-in : (i : ℕ) → i < s .links → far (s .script) i < s .cards
   pub declared-in : (t k u : ℕ) → t < s .shapes → Declares (partOf s t) k u → u < s .shapes
 
 -- Two sets agree on every pair of the sheet.

@@ -1,4 +1,4 @@
--- Document 01's rounds are the board's: so many rounds from every pair lead to one set, and strike so many pairs.
+-- The rounds of a sheet are the board's: so many rounds from every pair lead to one set, and strike so many pairs.
 --   rounds-after   the board's rounds are rounds of the sheet
 --   rounds-only    and there are no others
 --   rounds-alike   a set that agrees with one that the rounds lead to is one too

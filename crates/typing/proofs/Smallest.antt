@@ -1,4 +1,4 @@
--- The smallest typing that holds the bookings (document 01, "Smallest"): the closure is one set, every sound set that
+-- The smallest typing that holds the bookings: the closure is one set, every sound set that
 -- holds the bookings has it, and under it a pair is met exactly if its counts fit.
 --   BookedIn, closure-in, closure-place   the bookings are in the sheet, and so is the closure
 --   sound-over      every sound set that holds the bookings has it
@@ -21,11 +21,10 @@ use Rattle.board.specs.Board.{Board, Flooded}
 use Rattle.board.specs.Board as board
 use Rattle.words.proofs.Bools.{never-both, is-false, bools-equal}
 use Rattle.board.proofs.Tally.{tally-ext}
-use Rattle.script.specs.Link.{fromAt, kindAt, toAt}
+use Rattle.script.specs.Link.{near, label, far}
 use Rattle.words.specs.Said.{values, refusal}
 use Rattle.sheet.specs.Sheet.{Sheet, partOf, place, size}
 use Rattle.typing.specs.Typing.{Pairs, Has, Met, Sound, Holds, Typing}
-use Rattle.bookings.specs.Bookings as bookings
 use Rattle.typing.specs.Smallest.{Closure, booked, follow, IsClosure, Accepted, TurnedDown}
 use Rattle.typing.specs.Demand3.{pairs, notMet}
 use Rattle.typing.specs.Calls.{SmallestFound}
@@ -47,24 +46,24 @@ module _ {s : Sheet} {B : Board} (rep : Represents s B) {Booked : ℕ → ℕ �
   pub closure-in : {n t : ℕ} → Closure s Booked n t → (n < s .cards) × (t < s .shapes)
   closure-in (booked b) = inside _ _ b
   closure-in (follow {n} {t} {u} c i l e d) =
-      (rep .target-in i l, rep .declared-in t (kindAt (s .script) i) u (closure-in c .1) d)
+      (rep .target-in i l, rep .declared-in t (label (s .script) i) u (closure-in c .1) d)
 
   pub closure-place : {n t : ℕ} → Closure s Booked n t → place s n t < size s
   closure-place {n} {t} c = let (ln, lt) = closure-in c in pair-in rep n t ln lt
 
   -- what the closure goes on to is what the board's place needs
-  follow-needs : {n t : ℕ} → Closure s Booked n t → (i u : ℕ) → i < s .links → fromAt (s .script) i ≡ n
-      → Declares (partOf s t) (kindAt (s .script) i) u → B .Dep (place s n t) (place s (toAt (s .script) i) u)
+  follow-needs : {n t : ℕ} → Closure s Booked n t → (i u : ℕ) → i < s .links → near (s .script) i ≡ n
+      → Declares (partOf s t) (label (s .script) i) u → B .Dep (place s n t) (place s (far (s .script) i) u)
   follow-needs {n} {t} c i u l e d =
       let (ln, lt) = closure-in c in
-      rep .needs-exact n t (place s (toAt (s .script) i) u) ln lt .1
+      rep .needs-exact n t (place s (far (s .script) i) u) ln lt .1
       (record { link = i; shape = u; below = l; starts = e; declares = d; leads = refl })
 
   pub sound-over : (X : Pairs) → Sound s X → Holds s Booked X → {n t : ℕ} → Closure s Booked n t → Has s X n t
   sound-over X sound holds (booked b) = holds _ _ b
   sound-over X sound holds (follow {n} {t} {u} c i l e d) =
       let (ln, lt) = closure-in c in
-      rep .lawful .met-dep X (place s n t) (place s (toAt (s .script) i) u)
+      rep .lawful .met-dep X (place s n t) (place s (far (s .script) i) u)
       (rep .met-exact X n t ln lt .1 (sound n t ln lt (sound-over X sound holds c))) (follow-needs c i u l e d)
 
   -- one set that is the closure has all of another
@@ -90,7 +89,7 @@ module _ {s : Sheet} {B : Board} (rep : Represents s B) {Booked : ℕ → ℕ �
         let (ln, lt) = closure-in c in
         let f = rep .needs-exact n t q ln lt .0 d in
         subst (λ (x : ℕ). Y x ≡ true) (sym (f .leads))
-        (y .has (toAt (s .script) (f .link)) (f .shape) (follow c (f .link) (f .below) (f .starts) (f .declares)))
+        (y .has (far (s .script) (f .link)) (f .shape) (follow c (f .link) (f .below) (f .starts) (f .declares)))
 
     pub closure-met : (B .ok (place s n t) ≡ true) ↔ Met s Y n t
     closure-met =
@@ -123,7 +122,7 @@ module _ {s : Sheet} {B : Board} (rep : Represents s B) {Booked : ℕ → ℕ �
       let (ln, lt) = closure-in (c .pair) in
       let f = rep .needs-exact (c .card) (c .shape) q ln lt .0 (subst (λ (x : ℕ). B .Dep x q) (c .at) d) in
       record {
-        card = toAt (s .script) (f .link);
+        card = far (s .script) (f .link);
         shape = f .shape;
         pair = follow (c .pair) (f .link) (f .below) (f .starts) (f .declares);
         at = f .leads;
@@ -175,17 +174,17 @@ module _ {s : Sheet} {B : Board} (rep : Represents s B) {Booked : ℕ → ℕ �
         first = flooded-closure .only n t (card-below (s .shapes) (rep .one-shape) (s .cards) n t lt l) lt e
 
 -- ---- what the call for the smallest says
-module _ {s : Sheet} {B : Board} (rep : Represents s B) {list : List ℕ} (inside : BookedIn s (bookings.Booked list))
-    {X : Pairs} {found : ℕ} (f : Flooded B (PlaceOf s (bookings.Booked list)) X found) where
+module _ {s : Sheet} {B : Board} (rep : Represents s B) {Booked : ℕ → ℕ → Type 0} (inside : BookedIn s Booked)
+    {X : Pairs} {found : ℕ} (f : Flooded B (PlaceOf s Booked) X found) where
   pub pairs-found : (grid : List ℕ) → Typing s grid → Alike s (on grid) X
-      → ((p : ℕ) → p < size s → X p ≡ true → B .ok p ≡ true) → SmallestFound s list grid (values (found ∷ []))
+      → ((p : ℕ) → p < size s → X p ≡ true → B .ok p ≡ true) → SmallestFound s Booked grid (values (found ∷ []))
   pairs-found grid typed e oks =
       record { outcome = pairs found; says = refl; leaves = smallest-accepted rep inside f grid typed e oks }
 
   pub not-met-found : (n t : ℕ) → t < s .shapes → place s n t < size s
       → X (place s n t) ≡ true → B .ok (place s n t) ≡ false
       → ((q : ℕ) → q < place s n t → X q ≡ true → B .ok q ≡ true)
-      → SmallestFound s list (replicate (size s) 0) (refusal 50 (n ∷ t ∷ []))
+      → SmallestFound s Booked (replicate (size s) 0) (refusal 50 (n ∷ t ∷ []))
   not-met-found n t lt l e o low = record {
     outcome = notMet n t;
     says = refl;

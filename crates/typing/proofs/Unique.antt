@@ -25,13 +25,15 @@ use Rattle.typing.specs.declared.SmallestAnswer.{SmallestAnswer}
 use Rattle.typing.specs.declared.SmallestAnswer.the-variants as small
 use Rattle.typing.specs.declared.BothAnswer.{BothAnswer}
 use Rattle.typing.specs.declared.BothAnswer.the-variants as both
-use Rattle.sheet.specs.Sheet.{Sheet, place, size, SheetReading, ask, turnedDown, readSheet}
+use Rattle.words.specs.Reading.{Reading, accepted, turnedDown, then}
+use Rattle.sheet.specs.Sheet.{Sheet, place, size, readSheet}
 use Rattle.typing.specs.Typing.{Typing}
 use Rattle.bookings.specs.Bookings.{Booked}
 use Rattle.typing.specs.Smallest.{Accepted, TurnedDown}
 use Rattle.typing.specs.Demand3.{Outcome, pairs, notMet}
 use Rattle.typing.specs.Answer.{largestSaid, smallestSaid, BothSaid, bothSaid}
-use Rattle.typing.specs.Calls.{withBookings, withGrid, Leaves, outcomeSaid, Grids, LargestFound}
+use Rattle.typing.specs.Calls.{withBookings, withGrid, largestReading, smallestReading, bothReading}
+use Rattle.typing.specs.Calls.{Leaves, outcomeSaid, Grids, LargestFound}
 use Rattle.typing.specs.Calls.{LargestAnswered, LargestSays, SmallestFound, SmallestAnswered, SmallestSays}
 use Rattle.typing.specs.Calls.{BothFound, BothAnswered, BothSays}
 use Rattle.words.proofs.Places.{place-unique}
@@ -93,15 +95,14 @@ module _ {s : Sheet} {B : Board} (rep : Represents s B) where
         let (card, shape) = turned-down-unique x y in
         (rw (card, shape), x .zeros ∙ sym (y .zeros))
 
-  module _ {bookings : List ℕ} (inside : BookedIn s (Booked bookings)) where
     pub smallest-found-unique : {g h : List ℕ} {a b : Said}
-        → SmallestFound s bookings g a → SmallestFound s bookings h b → (a ≡ b) × (g ≡ h)
+        → SmallestFound s Wanted g a → SmallestFound s Wanted h b → (a ≡ b) × (g ≡ h)
     smallest-found-unique {g} {h} {a} {b} x y =
-        let (o, e) = outcome-unique inside (x .outcome) (y .outcome) (x .leaves) (y .leaves) in
+        let (o, e) = outcome-unique (x .outcome) (y .outcome) (x .leaves) (y .leaves) in
         (x .says ∙ ap outcomeSaid o ∙ sym (y .says), e)
 
     pub both-found-unique : {g h k m : List ℕ} {a b : BothSaid}
-        → BothFound s bookings g h a → BothFound s bookings k m b
+        → BothFound s Wanted g h a → BothFound s Wanted k m b
         → (a .largest ≡ b .largest) × (a .smallest ≡ b .smallest) × (g ≡ k) × (h ≡ m)
     both-found-unique x y =
         let (l, el) = largest-found-unique (x .largest) (y .largest) in
@@ -152,59 +153,61 @@ both-said-unique (both.Refused number at) (both.Refused number′ at′) e f = c
 
 -- ---- of one input one answer and one grid
 -- A board stands for each sheet that a reading finds.
-abbrev pub Represented : SheetReading → Type 1
-Represented r = (s : Sheet) → r ≡ ask s → (B : Board) × Represents s B
+abbrev pub Represented : Reading Sheet → Type 1
+Represented r = (s : Sheet) → r ≡ accepted s → (B : Board) × Represents s B
 
 -- The bookings are in each sheet that a reading finds.
-abbrev ListedIn : SheetReading → List ℕ → Type 0
-ListedIn r bookings = (s : Sheet) → r ≡ ask s → BookedIn s (Booked bookings)
+abbrev ListedIn : Reading Sheet → (ℕ → ℕ → Type 0) → Type 0
+ListedIn r Wanted = (s : Sheet) → r ≡ accepted s → BookedIn s Wanted
 
-largest-answered-unique : (r : SheetReading) → Represented r → (before g h : List ℕ) (a b : Said)
+largest-answered-unique : (r : Reading Sheet) → Represented r → (before g h : List ℕ) (a b : Said)
     → LargestAnswered r before g a → LargestAnswered r before h b → (a ≡ b) × (g ≡ h)
 largest-answered-unique (turnedDown number at) sheets before g h a b x y = (x .0 ∙ sym (y .0), x .1 ∙ sym (y .1))
-largest-answered-unique (ask s) sheets before g h a b x y = largest-found-unique (sheets s refl .1) x y
-
-smallest-answered-unique : (r : SheetReading) → Represented r → (bookings : List ℕ) → ListedIn r bookings
-    → (before g h : List ℕ) (a b : Said)
-    → SmallestAnswered r bookings before g a → SmallestAnswered r bookings before h b → (a ≡ b) × (g ≡ h)
-smallest-answered-unique (turnedDown number at) sheets bookings inside before g h a b x y =
-    (x .0 ∙ sym (y .0), x .1 ∙ sym (y .1))
-smallest-answered-unique (ask s) sheets bookings inside before g h a b x y =
-    smallest-found-unique (sheets s refl .1) (inside s refl) x y
+largest-answered-unique (accepted s) sheets before g h a b x y = largest-found-unique (sheets s refl .1) x y
 
 grids-unique : {g h : Grids} → g .small ≡ h .small → g .large ≡ h .large → g ≡ h
 grids-unique {g} {h} e f =
     ap (λ (z : List ℕ). record { small = z; large = g .large }) e
     ∙ ap (λ (z : List ℕ). record { small = h .small; large = z }) f
 
-both-answered-unique : (r : SheetReading) → Represented r → (bookings : List ℕ) → ListedIn r bookings
-    → (before g h : Grids) (a b : BothSaid) → BothAnswered r bookings before g a → BothAnswered r bookings before h b
-    → (a .largest ≡ b .largest) × (a .smallest ≡ b .smallest) × (g ≡ h)
-both-answered-unique (turnedDown number at) sheets bookings inside before g h a b x y =
-    let same : a ≡ b = x .0 ∙ sym (y .0) in
-    (ap (λ (z : BothSaid). z .largest) same, ap (λ (z : BothSaid). z .smallest) same, x .1 ∙ sym (y .1))
-both-answered-unique (ask s) sheets bookings inside before g h a b x y =
-    let (l, m, e, f) = both-found-unique (sheets s refl .1) (inside s refl) x y in
-    (l, m, grids-unique e f)
+module _ (Wanted : ℕ → ℕ → Type 0) where
+  smallest-answered-unique : (r : Reading Sheet) → Represented r → ListedIn r Wanted
+      → (before g h : List ℕ) (a b : Said) → SmallestAnswered r Wanted before g a → SmallestAnswered r Wanted before h b
+      → (a ≡ b) × (g ≡ h)
+  smallest-answered-unique (turnedDown number at) sheets inside before g h a b x y =
+      (x .0 ∙ sym (y .0), x .1 ∙ sym (y .1))
+  smallest-answered-unique (accepted s) sheets inside before g h a b x y =
+      smallest-found-unique (sheets s refl .1) (inside s refl) x y
+
+  both-answered-unique : (r : Reading Sheet) → Represented r → ListedIn r Wanted → (before g h : Grids) (a b : BothSaid)
+      → BothAnswered r Wanted before g a → BothAnswered r Wanted before h b
+      → (a .largest ≡ b .largest) × (a .smallest ≡ b .smallest) × (g ≡ h)
+  both-answered-unique (turnedDown number at) sheets inside before g h a b x y =
+      let same : a ≡ b = x .0 ∙ sym (y .0) in
+      (ap (λ (z : BothSaid). z .largest) same, ap (λ (z : BothSaid). z .smallest) same, x .1 ∙ sym (y .1))
+  both-answered-unique (accepted s) sheets inside before g h a b x y =
+      let (l, m, e, f) = both-found-unique (sheets s refl .1) (inside s refl) x y in
+      (l, m, grids-unique e f)
 
 module _ (template script : List ℕ) (sheets : Represented (readSheet template script)) where
   pub largest-says-unique : (before g h : List ℕ) (a b : LargestAnswer)
       → LargestSays template script before g (largestSaid a) → LargestSays template script before h (largestSaid b)
       → (a ≡ b) × (g ≡ h)
   largest-says-unique before g h a b x y =
-      let (e, f) = largest-answered-unique (withGrid before (readSheet template script))
+      let (e, f) = largest-answered-unique (largestReading template script before)
       (λ s r. sheets s (grid-asked before (readSheet template script) s r .0))
       before g h (largestSaid a) (largestSaid b) x y in
       (largest-said-unique a b e, f)
 
   module _ (bookings : List ℕ) where
-    abbrev listed : SheetReading
-    listed = withBookings bookings (readSheet template script)
+    -- template, script and bookings are read
+    abbrev listed : Reading Sheet
+    listed = then (readSheet template script) (withBookings bookings)
 
     listed-sheets : Represented listed
     listed-sheets s r = sheets s (bookings-asked bookings (readSheet template script) s r .0)
 
-    listed-in : ListedIn listed bookings
+    listed-in : ListedIn listed (Booked bookings)
     listed-in s r = bookings-asked bookings (readSheet template script) s r .1
 
     pub smallest-says-unique : (before g h : List ℕ) (a b : SmallestAnswer)
@@ -212,8 +215,8 @@ module _ (template script : List ℕ) (sheets : Represented (readSheet template 
         → SmallestSays template script bookings before h (smallestSaid b)
         → (a ≡ b) × (g ≡ h)
     smallest-says-unique before g h a b x y =
-        let (e, f) = smallest-answered-unique (withGrid before listed)
-        (λ s r. listed-sheets s (grid-asked before listed s r .0)) bookings
+        let (e, f) = smallest-answered-unique (Booked bookings) (smallestReading template script bookings before)
+        (λ s r. listed-sheets s (grid-asked before listed s r .0))
         (λ s r. listed-in s (grid-asked before listed s r .0)) before g h (smallestSaid a) (smallestSaid b) x y in
         (smallest-said-unique a b e, f)
 
@@ -222,11 +225,12 @@ module _ (template script : List ℕ) (sheets : Represented (readSheet template 
         → BothSays template script bookings before h (bothSaid b)
         → (a ≡ b) × (g ≡ h)
     both-says-unique before g h a b x y =
-        let (l, m, f) = both-answered-unique (withGrid (before .large) (withGrid (before .small) listed))
-        (λ s r. listed-sheets s (asked s r)) bookings (λ s r. listed-in s (asked s r))
+        let (l, m, f) = both-answered-unique (Booked bookings) (bothReading template script bookings before)
+        (λ s r. listed-sheets s (asked s r)) (λ s r. listed-in s (asked s r))
         before g h (bothSaid a) (bothSaid b) x y in
         (both-said-unique a b l m, f)
       where
-        asked : (s : Sheet) → withGrid (before .large) (withGrid (before .small) listed) ≡ ask s → listed ≡ ask s
+        asked : (s : Sheet) → bothReading template script bookings before ≡ accepted s → listed ≡ accepted s
         asked s r =
-            grid-asked (before .small) listed s (grid-asked (before .large) (withGrid (before .small) listed) s r .0) .0
+            let small = grid-asked (before .large) (then listed (withGrid (before .small))) s r .0 in
+            grid-asked (before .small) listed s small .0

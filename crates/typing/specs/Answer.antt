@@ -1,4 +1,4 @@
--- Document 01's number and values for each case of the enums `LargestAnswer`, `SmallestAnswer` and `BothAnswer`.
+-- What each case of the enums `LargestAnswer`, `SmallestAnswer` and `BothAnswer` says (docs/FORMAT.md, "Operations").
 -- Assumes nothing.
 use mathlib.Core.List.{[], _∷_}
 use Rattle.words.specs.Said.{Said, values, refusal}
@@ -25,6 +25,7 @@ pub record BothSaid : Type 0 where
   pub largest : Said
   pub smallest : Said
 
+-- One case stands for what the two calls say.
 abbrev pub bothSaid : BothAnswer → BothSaid
 bothSaid (both.Typed rounds struck bare pairs) =
     record { largest = values (rounds ∷ struck ∷ bare ∷ []); smallest = values (pairs ∷ []) }

@@ -1,6 +1,7 @@
--- Demand 3, sentence by sentence, over the two grids and the numbers that the calls for the largest and the smallest leave.
+-- What holds of the two typings together (docs/FORMAT.md, "Largest" and "Smallest"), over the two grids and the numbers
+-- that the calls leave.
 -- Outcome, Refused   how the bookings fared: the number of pairs, or the card and shape of 50
--- Demand3            one field for each of the owner's sentences
+-- Demand3            a field for each thing that is promised
 -- Assumes nothing.
 use Prim.Native.Nat.{ℕ, _+_, _≤_, _<_}
 use mathlib.Core.Path.{_≡_}
@@ -13,6 +14,7 @@ use Rattle.typing.specs.Typing.{Pairs, Below, Holds, SoundTyping}
 use Rattle.typing.specs.Largest.{Largest, bareCards}
 use Rattle.typing.specs.Smallest.{IsClosure}
 
+-- The number of pairs, or the card and the shape that 50 names.
 pub data Outcome : Type 0 where
   pairs : ℕ → Outcome
   notMet : ℕ → ℕ → Outcome
@@ -24,22 +26,22 @@ Refused (notMet n t) = Unit {0}
 
 pub record Demand3 (s : Sheet) (Booked : ℕ → ℕ → Type 0) (large : List ℕ) (rounds struck bare : ℕ) (small : List ℕ)
     (outcome : Outcome) : Type 0 where
-  -- "The bookings are turned down exactly when no sound typing holds them all."
+  -- 50 comes exactly where no sound typing has all bookings
   pub turned-down : Refused outcome ↔ ((h : List ℕ) → SoundTyping s h → Holds s Booked (on h) → ⊥)
-  -- "Where they aren't, the smallest and the largest typing written are both sound, both hold the bookings,
+  -- elsewhere both grids are sound typings that have the bookings,
   pub small-sound : (Refused outcome → ⊥) → SoundTyping s small × Holds s Booked (on small)
   pub large-sound : (Refused outcome → ⊥) → SoundTyping s large × Holds s Booked (on large)
-  -- and every sound typing that holds them lies between them."
+  -- and each sound typing that has them lies between the two
   pub between : (Refused outcome → ⊥) → (h : List ℕ) → SoundTyping s h → Holds s Booked (on h)
       → Below s (on small) (on h) × Below s (on h) (on large)
-  -- "With or without bookings, a card gets no shape in the largest exactly when no sound typing gives it one."
+  -- the largest leaves a card bare exactly where every sound typing does, whatever is booked
   pub shapeless : (n : ℕ) → n < s .cards
       → ((t : ℕ) → t < s .shapes → on large (place s n t) ≡ false)
       ↔ ((h : List ℕ) → SoundTyping s h → (t : ℕ) → t < s .shapes → on h (place s n t) ≡ false)
-  -- "The rounds, strikes, pairs and cards with no shape reported are those that document 01's definition counts":
-  -- whatever numbers the definition counts are these, and it does count some.
+  -- rounds, strikes, cards with no shape and pairs are those that the definitions count: whatever numbers these count
+  -- are the answer's, and they do count some
   pub numbers : (r m : ℕ) (X : Pairs) → Largest s r m X → (rounds ≡ r) × (struck ≡ m) × (bare ≡ bareCards s X)
   pub counts-some : (r : ℕ) × (m : ℕ) × (X : Pairs) × Largest s r m X
   pub pairs-counted : (m : ℕ) (X : Pairs) → outcome ≡ pairs m → IsClosure s Booked X → m ≡ tally X (size s)
-  -- "Rounds are at most one more than the pairs struck."
+  -- there is at most one round more than there are strikes
   pub bound : rounds ≤ struck + 1

@@ -1,4 +1,4 @@
--- The smallest typing that holds the bookings (document 01, "Smallest").
+-- The smallest typing that holds the bookings (docs/FORMAT.md, "Smallest").
 -- Closure     the least set with the bookings and what follows from them
 -- IsClosure   a set of pairs is the closure
 -- Accepted    the answer where every pair of the closure is met; TurnedDown: 50
@@ -9,29 +9,31 @@ use mathlib.Core.List.{List}
 use lib.ListN.{replicate}
 use Rattle.bags.specs.Part.{Declares}
 use Rattle.board.specs.Grid.{on, tally}
-use Rattle.script.specs.Link.{fromAt, kindAt, toAt}
+use Rattle.script.specs.Link.{near, label, far}
 use Rattle.sheet.specs.Sheet.{Sheet, partOf, place, size}
 use Rattle.typing.specs.Typing.{Pairs, Has, Met, Typing}
 
--- "The least set of pairs with the bookings and, for (n, t) in it and a link of n whose kind t names with shape u,
--- the pair (target, u)."
+-- The bookings are in it. Where a pair of a card and a shape is in it, and the shape names the label of a link of the
+-- card with some shape, the link's far end is in it with that shape. Nothing else is.
 pub data Closure (s : Sheet) (Booked : ℕ → ℕ → Type 0) : ℕ → ℕ → Type 0 where
   booked : {n t : ℕ} → Booked n t → Closure s Booked n t
-  follow : {n t u : ℕ} → Closure s Booked n t → (i : ℕ) → i < s .links → fromAt (s .script) i ≡ n
-      → Declares (partOf s t) (kindAt (s .script) i) u → Closure s Booked (toAt (s .script) i) u
+  follow : {n t u : ℕ} → Closure s Booked n t → (i : ℕ) → i < s .links → near (s .script) i ≡ n
+      → Declares (partOf s t) (label (s .script) i) u → Closure s Booked (far (s .script) i) u
 
+-- A set of pairs of the sheet is the closure.
 pub record IsClosure (s : Sheet) (Booked : ℕ → ℕ → Type 0) (X : Pairs) : Type 0 where
   pub has : (n t : ℕ) → Closure s Booked n t → Has s X n t
   pub only : (n t : ℕ) → n < s .cards → t < s .shapes → Has s X n t → Closure s Booked n t
 
--- "If each pair of it is met, the grid is the closure and the answer its number of pairs."
+-- Every pair of the closure is met under it: the grid is the closure, and the answer is its number of pairs.
 pub record Accepted (s : Sheet) (Booked : ℕ → ℕ → Type 0) (grid : List ℕ) (pairs : ℕ) : Type 0 where
   pub typing : Typing s grid
   pub closure : IsClosure s Booked (on grid)
   pub met : (n t : ℕ) → Closure s Booked n t → Met s (on grid) n t
   pub counted : pairs ≡ tally (on grid) (size s)
 
--- "50 bookings not met, with the lowest card and then lowest shape of the closure that isn't met; the grid is then all 0."
+-- Some pair of the closure is not met under it: the refusal 50 names the lowest such pair, by its card and then by its
+-- shape, and the grid is all 0.
 pub record TurnedDown (s : Sheet) (Booked : ℕ → ℕ → Type 0) (grid : List ℕ) (n t : ℕ) : Type 0 where
   pub zeros : grid ≡ replicate (size s) 0
   pub set : Pairs

@@ -1,4 +1,4 @@
--- `text::decode` fills the front of `words`. The invariant: those below `i` are the words that stand in the bytes.
+-- `input::decode` fills the front of `words`. The invariant: those below `i` are the words that stand in the bytes.
 -- Assumes nothing.
 use mathlib.Core.List.{List, [], _∷_, _++_}
 use mathlib.Core.Path.{_≡_, refl, sym, _∙_, ap}

@@ -1,13 +1,40 @@
--- `text::find_sections` tells what reading the input gives: one law of `Inputs` for each return. Assumes nothing.
-use mathlib.Core.Path.{refl, _∙_}
+-- `input::find_sections` tells what reading the input gives: one law of `Inputs` for each return. Assumes nothing.
+use Prim.Native.Nat.{ℕ, _+_, _*_}
+use mathlib.Core.Path.{_≡_, refl, ap, _∙_}
+use mathlib.Core.List.{List}
 use native.Mathlib.Omega.{arith}
 use denote.Ref.{now}
 use borrow.Author.Needs.{needs}
-use Rattle.input.proofs.Inputs.{script-at, bookings-at, end-at, words-at, same-sections, reads-too-long}
+use Rattle.words.specs.Reading.{accepted}
+use Rattle.input.specs.Input.{scriptStart, bookingsStart, inputEnd}
+use Rattle.input.proofs.Inputs.{script-at, bookings-at, end-at, words-at, same-input, reads-too-long}
 use Rattle.input.proofs.Inputs.{reads-no-template, reads-no-script, reads-no-bookings, reads-short}
 use Rattle.input.proofs.Inputs.{reads-going-on, reads-sections}
 use Rattle.input.proofs.find_sections.Statement.{statement}
 use Rattle.input.proofs.find_sections.Tie as tie
+
+-- The bytes, and where the second and the third section and the end of the input are by the counts read so far.
+abbrev bytes-of : tie.After-count-at → List ℕ
+bytes-of a = now (a .before .before .before .before .args .bytes)
+
+second : (a : tie.After-count-at) → 2 + 2 * a .count-at .result ≡ scriptStart (bytes-of a)
+second a = script-at (bytes-of a) (a .count-at .ensures .0)
+
+third : (a : tie.After-count-at2) →
+    let first = a .before .before in
+    2 + 2 * first .count-at .result + 2 + 2 * a .count-at2 .result ≡ bookingsStart (bytes-of first)
+third a =
+    let first = a .before .before in
+    bookings-at (bytes-of first) (second first) (a .count-at2 .ensures .0)
+
+end : (a : tie.After-count-at3) →
+    let next = a .before .before in
+    let first = next .before .before in
+    2 + 2 * first .count-at .result + 2 + 2 * next .count-at2 .result + 2 + 2 * a .count-at3 .result
+    ≡ inputEnd (bytes-of first)
+end a =
+    let next = a .before .before in
+    end-at (bytes-of (next .before .before)) (third next) (a .count-at3 .ensures .0)
 
 returns : tie.Need-returns
 returns c = (reads-too-long _ (omega arith), tt)
@@ -29,10 +56,8 @@ add-if3 c = search needs
 
 returns-3 : tie.Need-returns-3
 returns-3 c =
-    let bytes = now (c .before .before .before .before .before .args .bytes) in
-    let template = c .before .count-at in
-    let second = script-at bytes (template .ensures .0) in
-    (reads-no-script bytes (omega arith) (omega arith) (omega arith), tt)
+    let first = c .before in
+    (reads-no-script _ (omega arith) (omega arith) (omega (arith, second first)), tt)
 
 count-at-requires-2 : tie.Need-count-at-requires-2
 count-at-requires-2 c κs = search needs
@@ -51,12 +76,9 @@ add-if4 c = search needs
 
 returns-4 : tie.Need-returns-4
 returns-4 c =
-    let bytes = now (c .before .before .before .before .before .before .before .args .bytes) in
-    let template = c .before .before .before .count-at in
-    let script = c .before .count-at2 in
-    let second = script-at bytes (template .ensures .0) in
-    let third = bookings-at bytes second (script .ensures .0) in
-    (reads-no-bookings bytes (omega arith) (omega arith) (omega arith) (omega arith), tt)
+    let next = c .before in
+    let first = next .before .before in
+    (reads-no-bookings _ (omega arith) (omega arith) (omega (arith, second first)) (omega (arith, third next)), tt)
 
 count-at-requires-3 : tie.Need-count-at-requires-3
 count-at-requires-3 c κs = search needs
@@ -72,25 +94,23 @@ add-end-2 c = search needs
 
 returns-5 : tie.Need-returns-5
 returns-5 c =
-    let bytes = now (c .before .before .before .before .before .before .before .before .before .args .bytes) in
-    let template = c .before .before .before .before .before .count-at in
-    let script = c .before .before .before .count-at2 in
-    let bookings = c .before .count-at3 in
-    let second = script-at bytes (template .ensures .0) in
-    let third = bookings-at bytes second (script .ensures .0) in
-    let end = end-at bytes third (bookings .ensures .0) in
-    (reads-short bytes (omega arith) (omega arith) (omega arith) (omega arith) (omega arith), tt)
+    let last = c .before in
+    let next = last .before .before in
+    let first = next .before .before in
+    let script = second first in
+    let bookings = third next in
+    let all = end last in
+    (reads-short _ (omega arith) (omega arith) (omega arith) (omega arith) (omega arith), tt)
 
 returns-6 : tie.Need-returns-6
 returns-6 c =
-    let bytes = now (c .before .before .before .before .before .before .before .before .before .before .args .bytes) in
-    let template = c .before .before .before .before .before .before .count-at in
-    let script = c .before .before .before .before .count-at2 in
-    let bookings = c .before .before .count-at3 in
-    let second = script-at bytes (template .ensures .0) in
-    let third = bookings-at bytes second (script .ensures .0) in
-    let end = end-at bytes third (bookings .ensures .0) in
-    (reads-going-on bytes (omega arith) (omega arith) (omega arith) (omega arith) (omega arith) (omega arith), tt)
+    let last = c .before .before in
+    let next = last .before .before in
+    let first = next .before .before in
+    let script = second first in
+    let bookings = third next in
+    let all = end last in
+    (reads-going-on _ (omega arith) (omega arith) (omega arith) (omega arith) (omega arith) (omega arith), tt)
 
 add-t11 : tie.Need-add-t11
 add-t11 c = search needs
@@ -100,16 +120,15 @@ add-t13 c = search needs
 
 returns-7 : tie.Need-returns-7
 returns-7 c =
-    let bytes = now (c .before .before .before .before .before .before .before .before .before .before .args .bytes) in
-    let template = c .before .before .before .before .before .before .count-at in
-    let script = c .before .before .before .before .count-at2 in
-    let bookings = c .before .before .count-at3 in
-    let second = script-at bytes (template .ensures .0) in
-    let third = bookings-at bytes second (script .ensures .0) in
-    let end = end-at bytes third (bookings .ensures .0) in (
-      reads-sections bytes (omega arith) (omega arith) (omega arith) (omega arith) (omega arith) (omega arith)
-          ∙ same-sections (words-at bytes refl (template .ensures .0)) (words-at bytes second (script .ensures .0))
-          (words-at bytes third (bookings .ensures .0)),
+    let last = c .before .before in
+    let next = last .before .before in
+    let first = next .before .before in
+    let script = second first in
+    let bookings = third next in
+    let all = end last in (
+      reads-sections _ (omega arith) (omega arith) (omega arith) (omega arith) (omega arith) (omega arith)
+          ∙ ap accepted (same-input (words-at _ refl (first .count-at .ensures .0))
+          (words-at _ script (next .count-at2 .ensures .0)) (words-at _ bookings (last .count-at3 .ensures .0))),
       (
         record { ends = omega arith; small = omega arith },
         record { ends = omega arith; small = omega arith },

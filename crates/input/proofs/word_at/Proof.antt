@@ -1,4 +1,4 @@
--- `text::word_at` gives the word at a byte. Assumes nothing.
+-- `input::word_at` gives the word at a byte. Assumes nothing.
 use borrow.Author.Needs.{needs}
 use Rattle.input.specs.Input.{wordAt}
 use Rattle.input.proofs.word_at.Statement.{statement}

@@ -4,7 +4,8 @@ use mathlib.Core.Path.{refl}
 use native.Mathlib.Omega.{arith}
 use denote.Ref.{now}
 use borrow.Author.Needs.{needs}
-use Rattle.script.proofs.Cards.{Within, part-within, part-words}
+use Rattle.script.specs.Steps.{Within}
+use Rattle.script.proofs.Cards.{part-within, part-words}
 use Rattle.script.proofs.card_part.Tie as tie
 use Rattle.script.proofs.card_part.Statement.{statement}
 

@@ -4,7 +4,8 @@ use Prim.Native.Nat.{_-_, _≤_}
 use mathlib.Core.Path.{_≡_, refl, sym, ap, _∙_}
 use native.Mathlib.Omega.{arith}
 use borrow.Author.Needs.{needs}
-use Rattle.script.specs.Script.{accepted, readLinks, scriptAnswer}
+use Rattle.words.specs.Reading.{accepted, saidOf}
+use Rattle.script.specs.Script.{countsOf, readLinks, scriptValues}
 use Rattle.script.proofs.Reading.{links-next, links-refused, links-done}
 use Rattle.script.proofs.read_links.Tie as tie
 use Rattle.script.proofs.read_links.Statement.{statement}
@@ -12,8 +13,8 @@ use Rattle.script.proofs.read_links.Statement.{statement}
 abbrev Inv-loop : tie.InvT-loop
 Inv-loop kinds cards links script count i₀ i =
     (i ≤ count)
-    × (readLinks kinds cards script links 0 (accepted cards links)
-    ≡ readLinks kinds cards script (count - i) i (accepted cards links))
+    × (readLinks kinds cards script links 0 (accepted (countsOf cards links))
+    ≡ readLinks kinds cards script (count - i) i (accepted (countsOf cards links)))
 
 abbrev μ-loop : tie.MeasureT-loop
 μ-loop kinds cards links script count i₀ i = count - i
@@ -52,13 +53,13 @@ returns c =
     let l = c .before .before .before .before .before in
     let t = c .before .before .before .test-link in
     sym
-    (ap scriptAnswer
+    (ap (saidOf scriptValues)
     (l .loop .inv .1 ∙ links-refused _ _ _ _ _ _ _ (omega arith) (t .ensures) _ _ (c .before .test .given .1)))
 
 returns-2 : tie.Need-returns-2 Inv-loop μ-loop
 returns-2 c =
     let l = c .before in
-    sym (ap scriptAnswer (l .loop .inv .1 ∙ links-done _ _ _ _ _ _ (omega arith)))
+    sym (ap (saidOf scriptValues) (l .loop .inv .1 ∙ links-done _ _ _ _ _ _ (omega arith)))
 
 pub read-links-spec : {M : Type 1} → statement M
 read-links-spec =

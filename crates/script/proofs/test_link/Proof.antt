@@ -3,6 +3,7 @@
 use mathlib.Core.Path.{sym, _∙_}
 use native.Mathlib.Omega.{arith}
 use borrow.Author.Needs.{needs}
+use borrow.Author.Tests.{not-true, not-false}
 use Rattle.script.specs.Link.{fromAt, kindAt, toAt}
 use Rattle.script.proofs.Reading.{link-from, link-kind, link-to, link-passes, link-order}
 use Rattle.script.proofs.test_link.Tie as tie
@@ -77,25 +78,25 @@ returns-3 c = λ n done. link-to _ _ _ n _ done (omega arith) (omega arith) (ome
 is-above-requires : tie.Need-is-above-requires
 is-above-requires c κs = search needs
 
+mul-t20 : tie.Need-mul-t20
+mul-t20 c = search needs
+
+add-t21 : tie.Need-add-t21
+add-t21 c = search needs
+
 returns-4 : tie.Need-returns-4
 unfolding fromAt kindAt toAt
 returns-4 c =
     λ n done.
-    link-passes _ _ _ n _ done (omega arith) (omega arith) (omega arith)
-    (sym (c .before .is-above .ensures) ∙ c .if4 .taken)
-
-mul-t5 : tie.Need-mul-t5
-mul-t5 c = search needs
-
-add-t6 : tie.Need-add-t6
-add-t6 c = search needs
+    link-order _ _ _ n _ done (omega arith) (omega arith) (omega arith)
+    (sym (c .before .is-above .ensures) ∙ not-true _ (c .if4 .taken))
 
 returns-5 : tie.Need-returns-5
 unfolding fromAt kindAt toAt
 returns-5 c =
     λ n done.
-    link-order _ _ _ n _ done (omega arith) (omega arith) (omega arith)
-    (sym (c .before .is-above .ensures) ∙ c .if4 .left)
+    link-passes _ _ _ n _ done (omega arith) (omega arith) (omega arith)
+    (sym (c .before .is-above .ensures) ∙ not-false _ (c .if4 .left))
 
 pub test-link-spec : {M : Type 1} → statement M
 test-link-spec =
@@ -123,7 +124,7 @@ test-link-spec =
     add-t18
     returns-3
     is-above-requires
+    mul-t20
+    add-t21
     returns-4
-    mul-t5
-    add-t6
     returns-5)

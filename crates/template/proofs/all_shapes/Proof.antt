@@ -20,7 +20,7 @@ wide-requires : tie.Need-wide-requires Inv-loop μ-loop
 wide-requires c κs = search needs
 
 loop-holds : tie.Need-loop-holds Inv-loop μ-loop
-loop-holds c = filling-start _ _ _ (c .before .before .before .pre .2)
+loop-holds c = filling-start _ _ _ (c .before .before .before .pre .unnamed)
 
 mul-base : tie.Need-mul-base Inv-loop μ-loop
 mul-base c = search needs
@@ -38,11 +38,11 @@ part-one-shape-end : tie.Need-part-one-shape-end Inv-loop μ-loop
 part-one-shape-end c = search needs
 
 one-shape-requires : tie.Need-one-shape-requires Inv-loop μ-loop
-one-shape-requires c κs = (
-  search needs,
-  search needs,
-  filling-row _ _ _ _ _ (c .before .before .loop .inv) (omega arith) (omega arith),
-)
+one-shape-requires c κs = record {
+  kinds-high = search needs;
+  shapes-high = search needs;
+  unnamed = filling-row _ _ _ _ _ (c .before .before .loop .inv) (omega arith) (omega arith);
+}
 
 enum-known-first : tie.Need-enum-known-first Inv-loop μ-loop
 enum-known-first c = search needs
@@ -66,7 +66,7 @@ enum-known-first-2 c = search needs
 same-length : tie.Need-same-length Inv-loop μ-loop
 same-length c =
     let a = c .before .before .before .before .before .before in
-    let e = ap length (a .before .before .before .before .before .before .pre .2) in
+    let e = ap length (a .before .before .before .before .before .before .pre .unnamed) in
     search needs
 
 returns : tie.Need-returns Inv-loop μ-loop
@@ -77,7 +77,7 @@ returns c =
 
 same-length-2 : tie.Need-same-length-2 Inv-loop μ-loop
 same-length-2 c =
-    let e = ap length (c .before .before .before .before .before .before .pre .2) in
+    let e = ap length (c .before .before .before .before .before .before .pre .unnamed) in
     search needs
 
 returns-2 : tie.Need-returns-2 Inv-loop μ-loop
@@ -85,7 +85,7 @@ returns-2 c = filling-more _ _ _ _ _ _ (c .before .before .loop .inv) (omega ari
 
 same-length-3 : tie.Need-same-length-3 Inv-loop μ-loop
 same-length-3 c =
-    let e = ap length (c .before .before .before .before .before .before .pre .2) in
+    let e = ap length (c .before .before .before .before .before .before .pre .unnamed) in
     search needs
 
 returns-3 : tie.Need-returns-3 Inv-loop μ-loop

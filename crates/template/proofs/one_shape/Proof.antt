@@ -50,7 +50,8 @@ use denote.Triple.Clauses.{ensured, lasts, Lasts}
 use Rattle.template.specs.declared.Reader.{Reader}
 use Rattle.template.specs.declared.Sizes.{Sizes}
 use Rattle.template.specs.declared.Read.{Read}
-use Rattle.template.proofs.Readers.{Ready, Answered, RowNames}
+use Rattle.template.specs.Machine.{Ready}
+use Rattle.template.proofs.Readers.{Answered, Named}
 use Rattle.template.proofs.Reader as T
 use Rattle.template.proofs.Reader.Laws as T′
 use Rattle.template.proofs.Sizes as Z
@@ -167,7 +168,7 @@ module _ {M : Type 1} (𝓤 : URA M) (H : Heap 𝓤) (A : Atoms 𝓤) (W : Given
       move ! (3 ∷ 0 ∷ []) $ use2 W (raw (ReadShape 𝓤 H A mem run .pre to)) (asked needed) $ frame ! $
       move ! (1 ∷ 0 ∷ []) $ fjoin ! $ done !
 
-  exits : (r : Read) (u : Val) (zs : List ℕ) → Answered d z r → RowNames d z zs → length zs ≡ length ys
+  exits : (r : Read) (u : Val) (zs : List ℕ) → Answered d z r → Named d z zs → length zs ≡ length ys
       → ent 𝓤 (⋆ 𝓤 H A (‵ (S.the-row .own r (u ∷ [])) ∷ tokens ∷ ‵ (fsep Own OwnZ) ∷ ‵ (finally u8 γ zs) ∷ [])) (Post u)
   exits r u zs e f l =
       qed W (‵ (S.the-row .own r (u ∷ [])) ∷ tokens ∷ ‵ (fsep Own OwnZ) ∷ ‵ (finally u8 γ zs) ∷ []) ∵
@@ -214,9 +215,9 @@ module _ {M : Type 1} (𝓤 : URA M) (H : Heap 𝓤) (A : Atoms 𝓤) (W : Given
         await ! tt $ pick ! (λ r. split ! $ move ! (1 ∷ []) $
         -- what `read_shape` ensures, at some last list
         use1 W (some (λ (zs : Lasts read.ended κs a′). ‵ (lasts read.ended κs a′ zs)
-        ⊛ (raw (fact 𝓤 (Answered d z r)) ⊛ raw (fact 𝓤 (RowNames d z (zs .1 .1 .0)))))) (id⊢ 𝓤 _) $ pick ! (λ zs.
+        ⊛ (raw (fact 𝓤 (Answered d z r)) ⊛ raw (fact 𝓤 (Named d z (zs .1 .1 .0)))))) (id⊢ 𝓤 _) $ pick ! (λ zs.
         split ! $ move ! (1 ∷ []) $ split ! $ heard ! (Answered d z r) (λ e.
-        heard ! (RowNames d z (zs .1 .1 .0)) (λ f.
+        heard ! (Named d z (zs .1 .1 .0)) (λ f.
         fsplit ! $ drop ! $ fsplit ! $ drop ! $ fsplit ! $ fsplit ! $ move ! (1 ∷ []) $ feqL ! (λ l.
         -- [the row's last list; true; the tokens and the result; the words and the counts; _7; …]
         move ! (2 ∷ []) $ split ! $ move ! (1 ∷ 0 ∷ 4 ∷ []) $

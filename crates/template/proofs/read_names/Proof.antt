@@ -20,6 +20,9 @@ shared-slice-read-kinds c = search needs
 returns-3 : tie.Need-returns-3
 returns-3 c = template-no-kinds _ _ (omega arith) (omega arith) (omega arith)
 
+wide-requires : tie.Need-wide-requires
+wide-requires c κs = search needs
+
 returns-4 : tie.Need-returns-4
 returns-4 c = template-kinds _ _ (omega arith) (omega arith) (omega arith)
 
@@ -28,6 +31,9 @@ shared-slice-read-shapes c = search needs
 
 returns-5 : tie.Need-returns-5
 returns-5 c = template-no-shapes _ _ (omega arith) (omega arith) (omega arith) (omega arith) (omega arith)
+
+wide-requires-2 : tie.Need-wide-requires-2
+wide-requires-2 c κs = search needs
 
 returns-6 : tie.Need-returns-6
 returns-6 c = template-shapes _ _ (omega arith) (omega arith) (omega arith) (omega arith) (omega arith)
@@ -66,9 +72,11 @@ read-names-spec =
     returns-2
     shared-slice-read-kinds
     returns-3
+    wide-requires
     returns-4
     shared-slice-read-shapes
     returns-5
+    wide-requires-2
     returns-6
     all-shapes-requires
     enum-told

@@ -34,7 +34,7 @@ add-end c = search needs
 
 part-requires : tie.Need-part-requires
 part-requires c κs =
-    let e = ap length (c .before .before .before .before .before .before .before .pre .2) in
+    let e = ap length (c .before .before .before .before .before .before .before .pre .unnamed) in
     search needs
 
 enum-known-whole : tie.Need-enum-known-whole
@@ -50,7 +50,7 @@ returns-3 : tie.Need-returns-3
 returns-3 c =
     let a = c .before .before .before .before .before .before in
     shape-left _ _ _ _ (omega arith) (a .before .before .before .wide .ensures .0) (omega arith) _ _ _
-    (a .before .before .before .before .before .before .before .before .pre .2) (a .part .ensures)
+    (a .before .before .before .before .before .before .before .before .pre .unnamed) (a .part .ensures)
     _ _ (c .before .before .whole .given .1) (omega arith)
 
 same-length-2 : tie.Need-same-length-2
@@ -60,7 +60,7 @@ returns-4 : tie.Need-returns-4
 returns-4 c =
     let a = c .before .before .before .before .before .before in
     shape-done _ _ _ _ (omega arith) (a .before .before .before .wide .ensures .0) (omega arith) _ _ _
-    (a .before .before .before .before .before .before .before .before .pre .2) (a .part .ensures)
+    (a .before .before .before .before .before .before .before .before .pre .unnamed) (a .part .ensures)
     _ (omega arith) (c .before .before .whole .given .1) (omega arith)
 
 same-length-3 : tie.Need-same-length-3
@@ -70,7 +70,7 @@ returns-5 : tie.Need-returns-5
 returns-5 c =
     let a = c .before .before .before .before .before in
     shape-refused _ _ _ _ (omega arith) (a .before .before .before .wide .ensures .0) (omega arith) _ _ _
-    (a .before .before .before .before .before .before .before .before .pre .2) (a .part .ensures)
+    (a .before .before .before .before .before .before .before .before .pre .unnamed) (a .part .ensures)
     _ _ _ (c .before .whole2 .given .1)
 
 pub shape-at-spec : {M : Type 1} → statement M

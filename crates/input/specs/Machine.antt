@@ -1,0 +1,47 @@
+-- What finding and decoding the sections of the input does; no part of a promise.
+-- Decodes, Decoded       what decoding words into a buffer asks, and what it does
+-- wordsIn, sectionsRead  the words of a section that an answer names, and the reading that an answer stands for
+-- Within, Inside         a section is in the input, and each section of an answer is
+-- Assumes nothing.
+use Prim.Native.Nat.{ℕ, _+_, _*_, _≤_}
+use mathlib.Core.Path.{_≡_}
+use mathlib.Core.List.{List}
+use lib.ListN.{length, take}
+use Rattle.words.specs.Limits.{maxInput}
+use Rattle.words.specs.Reading.{Reading, accepted, turnedDown}
+use Rattle.input.specs.declared.Section.{Section}
+use Rattle.input.specs.declared.Sections.{Sections}
+use Rattle.input.specs.declared.Sections.the-variants.{Found, Faulty}
+use Rattle.input.specs.Input.{wordsFrom, Input, inputOf}
+
+-- So many words from a byte on are in the bytes, and the buffer has room for them.
+pub record Decodes (bytes : List ℕ) (at count : ℕ) (words : List ℕ) : Type 0 where
+  pub inside : at + 2 * count ≤ length bytes
+  pub room : count ≤ length words
+
+-- The first `count` words of a buffer are those that stand in the bytes from a place on.
+pub record Decoded (bytes : List ℕ) (at count : ℕ) (words : List ℕ) : Type 0 where
+  -- the buffer has that many
+  pub size : count ≡ length (take count words)
+  -- and they are those words
+  pub holds : take count words ≡ wordsFrom bytes at count
+
+-- The words of a section that the answer names by its first word's byte and its count.
+abbrev pub wordsIn : List ℕ → Section → List ℕ
+wordsIn bytes s = wordsFrom bytes (s .at) (s .count)
+
+-- The reading that an answer stands for.
+abbrev pub sectionsRead : List ℕ → Sections → Reading Input
+sectionsRead bytes (Found template script bookings) =
+    accepted (inputOf (wordsIn bytes template) (wordsIn bytes script) (wordsIn bytes bookings))
+sectionsRead bytes Faulty = turnedDown 60 0
+
+-- A section is in the bytes, and with its count it is no longer than an input can be.
+pub record Within (bytes : List ℕ) (s : Section) : Type 0 where
+  pub ends : s .at + 2 * s .count ≤ length bytes
+  pub small : 2 + 2 * s .count ≤ maxInput
+
+-- Each section of an answer is.
+abbrev pub Inside : List ℕ → Sections → Type 0
+Inside bytes (Found template script bookings) = Within bytes template × Within bytes script × Within bytes bookings
+Inside bytes Faulty = Unit

@@ -1,0 +1,76 @@
+-- What the inner functions of the reader go by, and where shapes stand; no part of a promise.
+-- Step, shown, outcome   what the code shows of a part that is read: the next place and the row, or the refusal
+-- readOf                 what it shows of a shape, or of all shapes
+-- Inside                 what the readers of a part ask
+-- Ready, RowNames        what the readers of a shape ask, and the names that they leave in its row
+-- Empty, Filled          what filling the table of names asks, and what it leaves there
+-- shapePlace             where a shape's count of words stands
+-- Assumes nothing.
+use Prim.Native.Nat.{ℕ, zero, suc, _+_, _≤_}
+use mathlib.Core.Path.{_≡_}
+use mathlib.Core.List.{List}
+use lib.ListN.{length, getD, replicate}
+use Rattle.words.specs.Limits.{maxKinds, maxShapes, tableSize}
+use Rattle.words.specs.Reading.{Reading, accepted, turnedDown, mapped}
+use Rattle.bags.specs.Part.{Part, named}
+use Rattle.template.specs.declared.Read.{Read}
+use Rattle.template.specs.declared.Read.the-variants.{Next, Refused}
+use Rattle.template.specs.declared.Sizes.{Sizes}
+use Rattle.template.specs.Reading.{Found, found}
+use Rattle.template.specs.Template.{Placed, noNames, Tabled}
+
+-- The next place and the row: all that the code has of what was found.
+pub record Step : Type 0 where
+  pub next : ℕ
+  pub row : List ℕ
+
+abbrev pub step : ℕ → List ℕ → Step
+step next row = record { next = next; row = row }
+
+-- What the code's answer and the row that it leaves show.
+unfoldable pub shown : Read → List ℕ → Reading Step
+shown (Next next) row = accepted (step next row)
+shown (Refused number place) row = turnedDown number place
+
+abbrev pub stepOf : {A : Type 0} → Found A → Step
+stepOf (found a next row) = step next row
+
+-- What a reading has the code show: all but the part.
+abbrev pub outcome : {A : Type 0} → Reading (Found A) → Reading Step
+outcome r = mapped stepOf r
+
+-- The code's answer for a shape, or for all shapes: all but what was read.
+abbrev pub readOf : {A : Type 0} → Reading (Placed A) → Read
+readOf (accepted read) = Next (read .next)
+readOf (turnedDown number place) = Refused number place
+
+-- The words end at `end` or later, the row has room for all kinds, and the counts are within their limits.
+pub record Inside (words : List ℕ) (end : ℕ) (sizes : Sizes) (row : List ℕ) : Type 0 where
+  pub end-in : end ≤ length words
+  pub kinds-in : sizes .kinds ≤ length row
+  pub shapes-high : sizes .shapes ≤ maxShapes
+
+-- The counts are within their limits, and the row names nothing.
+pub record Ready (sizes : Sizes) (row : List ℕ) : Type 0 where
+  pub kinds-high : sizes .kinds ≤ maxKinds
+  pub shapes-high : sizes .shapes ≤ maxShapes
+  pub unnamed : row ≡ noNames
+
+-- A row has the names of the shape that was read.
+abbrev pub RowNames : Reading (Placed Part) → List ℕ → Type 0
+RowNames reading row = (p : Placed Part) → reading ≡ accepted p → (k : ℕ) → getD row k 0 ≡ named (p .value) k
+
+-- The counts are within their limits, and the table names nothing.
+pub record Empty (sizes : Sizes) (names : List ℕ) : Type 0 where
+  pub kinds-high : sizes .kinds ≤ maxKinds
+  pub shapes-high : sizes .shapes ≤ maxShapes
+  pub unnamed : names ≡ replicate tableSize 0
+
+-- A table has the names of all shapes that were read.
+abbrev pub Filled : Reading (Placed (List Part)) → List ℕ → Type 0
+Filled reading names = (p : Placed (List Part)) → reading ≡ accepted p → Tabled (p .value) names
+
+-- Where the count of words of the shape stands that is n shapes after the one whose count is at `at`.
+unfoldable pub shapePlace : List ℕ → ℕ → ℕ → ℕ
+shapePlace words zero at = at
+shapePlace words (suc n) at = shapePlace words n (at + 1 + getD words at 0)
