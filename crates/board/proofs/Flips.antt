@@ -14,7 +14,8 @@ use native.Mathlib.Omega.{arith}
 use lib.ListN.{length, getD, set, length-set}
 use lib.Seq.{getD-set-same, getD-set-other}
 use borrow.Author.Count.{below-more}
-use Rattle.board.specs.Grid.{on, Flipped}
+use Rattle.board.specs.Grid.{on}
+use Rattle.board.specs.Machine.{Flipped}
 use Rattle.words.proofs.Bools.{not-of-false, not-of-true}
 use Rattle.board.proofs.Grids.{on-yes, on-no, on-same}
 

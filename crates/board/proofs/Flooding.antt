@@ -6,7 +6,7 @@
 --   flood-done                         the queue is used up: the zeros are the closure
 --   flood-flipped                      the grid turned round has the closure
 -- Assumes nothing.
-use mathlib.Core.Path.{_≡_, refl, sym, ap, _∙_, subst}
+use mathlib.Core.Path.{_≡_, refl, sym, _∙_, subst}
 use mathlib.Core.List.{List}
 use mathlib.Core.Bool.{Bool, false, not}
 use Prim.Native.Nat.{ℕ, _+_, _≤_, _<_}
@@ -14,11 +14,11 @@ use native.Mathlib.Numerals.{add-one}
 use native.Mathlib.Omega.{arith}
 use lib.ListN.{length, set}
 use lib.Seq.{getD-set-same, getD-set-other}
-use Rattle.board.specs.Grid.{on, tally, Flipped}
+use Rattle.board.specs.Grid.{on}
+use Rattle.board.specs.Machine.{Flipped}
 use Rattle.board.specs.Board.{Board, Inside, Closed, follow, Flooded}
 use Rattle.board.specs.Work.{Work, work, entry, Queued, strikeOne, Room, Run, stay, then, Swept}
-use Rattle.board.specs.Listing.{Listed}
-use Rattle.words.proofs.Bools.{false-of-not, not-of-false, not-of-true}
+use Rattle.board.specs.Listing.{Lists, Listed}
 use Rattle.board.proofs.Tally.{tally-le, tally-both}
 use Rattle.board.proofs.Grids.{on-set-same, on-set-other}
 use Rattle.board.proofs.Closure.{flooded-ext}
@@ -30,8 +30,8 @@ abbrev pub found : Work → ℕ → Bool
 found w p = not (on (w .grid) p)
 
 -- the flood of a work's zeros and queue
-abbrev pub FloodOf : (B : Board) (Book : ℕ → Type 0) → Work → ℕ → Type 0
-FloodOf B Book w head = Flood B Book (found w) (entry (w .queue)) head (w .tail)
+abbrev FloodOf : (B : Board) (Book : ℕ → Type 0) → Work → ℕ → Type 0
+FloodOf B Book w head = Flood B Book (on (w .grid)) (entry (w .queue)) head (w .tail)
 
 pub record Flooding (B : Board) (Book : ℕ → Type 0) (room : ℕ) (w : Work) (head : ℕ) : Type 0 where
   -- the grid has a byte for each place
@@ -54,9 +54,8 @@ module _ {B : Board} {Book : ℕ → Type 0} {head : ℕ} where
       → p < B .size → Closed B Book p → FloodOf B Book w head → FloodKept B Book head w (strikeOne w p)
   one-flood w p full room h l closed s = strike-case (FloodKept B Book head w) w p
       (λ e. (
-        rw (add-one (w .tail)) (add (λ q. not (on (set (w .grid) p 0) q)) (entry (set (w .queue) (w .tail) p)) p s l
-            (not-of-true e) closed
-            (not-of-false (on-set-same (w .grid) p (omega arith))) (λ q ne. ap not (on-set-other (w .grid) p q ne))
+        rw (add-one (w .tail)) (add (on (set (w .grid) p 0)) (entry (set (w .queue) (w .tail) p)) p s l e closed
+            (on-set-same (w .grid) p (omega arith)) (λ q ne. on-set-other (w .grid) p q ne)
             (getD-set-same (w .queue) (w .tail) p 0 (room-hit w p room e (omega arith)))
             (λ i li. getD-set-other (w .queue) (w .tail) i p 0 (omega arith))),
         getD-set-other (w .queue) (w .tail) head p 0 (omega arith),
@@ -64,7 +63,7 @@ module _ {B : Board} {Book : ℕ → Type 0} {head : ℕ} where
       ))
       (λ e. (s, refl, h))
 
-  pub run-flood : {Good : ℕ → Type 0} {w v : Work} → length (w .grid) ≡ B .size → Room w → head < w .tail
+  run-flood : {Good : ℕ → Type 0} {w v : Work} → length (w .grid) ≡ B .size → Room w → head < w .tail
       → ((p : ℕ) → Good p → (p < B .size) × Closed B Book p) → FloodOf B Book w head → Run Good w v
       → FloodKept B Book head w v
   run-flood full room h good s stay = (s, refl, h)
@@ -83,27 +82,24 @@ pub flood-start : {B : Board} (grid queue : List ℕ) (tail : ℕ) → length gr
 flood-start grid queue tail e s = record {
   full = e;
   space = refl;
-  flood = start (λ p. not (on grid p)) (entry queue) tail
-      (s .count ∙ ap (λ (n : ℕ). tally (λ p. not (on grid p)) n) e)
-      (λ i l. let r = s .queued i l in (omega (arith, r .0), not-of-false (r .1)))
-      (λ p l h. s .listed p (omega arith) (false-of-not h));
+  flood = start (on grid) (entry queue) tail (subst (λ (n : ℕ). Listed grid queue tail n) e s);
   books = λ p b. subst (λ (x : ℕ). on grid x ≡ false) (b .2) (s .queued (b .0) (b .1) .1);
 }
 
 -- the bookings that the queue lists are on the board
-pub queued-inside : {grid queue : List ℕ} {tail n : ℕ} → Listed grid queue tail n
-    → (p : ℕ) → Queued (entry queue) tail p → p < n
-queued-inside {grid} {queue} {tail} {n} s p b = subst (λ (x : ℕ). x < n) (b .2) (s .queued (b .0) (b .1) .0)
+pub queued-inside : {X : ℕ → Bool} {queue : ℕ → ℕ} {tail n : ℕ} → Lists X queue tail n
+    → (p : ℕ) → Queued queue tail p → p < n
+queued-inside {X} {queue} {tail} {n} s p b = subst (λ (x : ℕ). x < n) (b .2) (s .queued (b .0) (b .1) .0)
 
 module _ {B : Board} {Book : ℕ → Type 0} {room : ℕ} {w : Work} {head : ℕ} (s : Flooding B Book room w head) where
   pub flood-tail : w .tail ≤ B .size
-  flood-tail = omega (arith, s .flood .count, tally-le (found w) (B .size))
+  flood-tail = omega (arith, s .flood .lists .count, tally-le (found w) (B .size))
 
   pub flood-head : head < w .tail → entry (w .queue) head < B .size
-  flood-head h = s .flood .queued head h .0
+  flood-head h = s .flood .lists .queued head h .0
 
   pub flood-room : B .size ≤ room → Room w
-  flood-room l = rw (s .full) (omega (arith, s .space, s .flood .count, tally-both (on (w .grid)) (B .size)))
+  flood-room l = rw (s .full) (omega (arith, s .space, s .flood .lists .count, tally-both (on (w .grid)) (B .size)))
 
   -- the places that the one at the head needs are swept, and the head moves on
   pub flood-turn : {Good : ℕ → Type 0} {v : Work} → B .size ≤ room → head < w .tail
@@ -114,7 +110,7 @@ module _ {B : Board} {Book : ℕ → Type 0} {room : ℕ} {w : Work} {head : ℕ
     full = run-grid (swept .run) ∙ s .full;
     space = run-queue (swept .run) ∙ s .space;
     flood = rw (add-one head) (advance (kept .0) (kept .2) (λ p d.
-        not-of-false (swept .off p (all-good p (subst (λ (x : ℕ). B .Dep x p) (kept .1) d)))));
+        swept .off p (all-good p (subst (λ (x : ℕ). B .Dep x p) (kept .1) d))));
     books = λ p b. run-off p (s .books p b) (swept .run);
   }
     where
@@ -126,7 +122,7 @@ module _ {B : Board} {Book : ℕ → Type 0} {room : ℕ} {w : Work} {head : ℕ
       → Flooded B Book (found w) (w .tail)
   flood-done inside books h =
       let used : head ≡ w .tail = omega (arith, s .flood .head-tail) in
-      flooded inside books (subst (λ (x : ℕ). FloodOf B Book w x) used (s .flood)) (λ p b. not-of-false (s .books p b))
+      flooded inside books (subst (λ (x : ℕ). FloodOf B Book w x) used (s .flood)) (s .books)
 
 pub flood-flipped : {B : Board} {Book : ℕ → Type 0} {grid typing : List ℕ} {n : ℕ}
     → Inside B → ((p : ℕ) → Book p → p < B .size) → length grid ≡ B .size

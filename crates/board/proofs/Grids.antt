@@ -1,8 +1,7 @@
 -- A grid's places.
---   on-yes, on-no              the test of a byte
---   on-set-same, on-set-other  after a byte is set to 0
---   marks-set, marks-replicate    grids whose bytes are 0 or 1
---   on-replicate               a grid that is filled
+--   on-yes, on-no, on-byte, on-same   the test of a byte
+--   on-set-same, on-set-other         after a byte is set to 0
+--   marks-set                         grids whose bytes are 0 or 1
 -- Assumes nothing.
 use mathlib.Core.Path.{_≡_, ap, _∙_}
 use mathlib.Core.Logic.{_⊎_, inl, inr, ⊎-elim, _≢_}
@@ -11,10 +10,11 @@ use mathlib.Core.Bool.{true, false}
 use Prim.Native.Nat.{ℕ, _<_}
 use native.Mathlib.Omega.{arith}
 use lib.Dec.{eqb}
-use lib.ListN.{length, getD, set, length-set, replicate, getD-replicate, length-replicate}
+use lib.ListN.{length, getD, set, length-set}
 use lib.Seq.{getD-set-same, getD-set-other}
 use borrow.Author.Tests.{eqb-true, eq-eqb, ne-eqb}
-use Rattle.board.specs.Grid.{on, Marks}
+use Rattle.board.specs.Grid.{on}
+use Rattle.board.specs.Machine.{Marks}
 use Rattle.words.proofs.Bools.{eq-or-ne}
 
 -- ---- the test of a byte
@@ -53,15 +53,3 @@ marks-set g p m q l = by-place (eq-or-ne q p)
     by-place (inl e) = inl (rw e (getD-set-same g p 0 0 (omega (arith, e, inside))))
     by-place (inr ne) =
         let same = getD-set-other g p q 0 0 ne in ⊎-elim (λ z. inl (same ∙ z)) (λ o. inr (same ∙ o)) (m q inside)
-
-pub marks-replicate : (n value : ℕ) → (value ≡ 0) ⊎ (value ≡ 1) → Marks (replicate n value)
-marks-replicate n value c p l =
-    let here = getD-replicate n p value 0 (omega (arith, length-replicate n value)) in
-    ⊎-elim (λ z. inl (here ∙ z)) (λ o. inr (here ∙ o)) c
-
--- ---- a grid that is filled
-pub on-replicate : (n p : ℕ) → p < n → on (replicate n 1) p ≡ true
-on-replicate n p l = on-yes (replicate n 1) p (getD-replicate n p 1 0 l)
-
-pub off-replicate : (n p : ℕ) → p < n → on (replicate n 0) p ≡ false
-off-replicate n p l = on-no (replicate n 0) p (λ e. absurd (omega (arith, e, getD-replicate {A = ℕ} n p 0 0 l)))

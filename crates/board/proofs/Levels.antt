@@ -8,19 +8,18 @@
 -- Assumes nothing.
 use mathlib.Core.Path.{_≡_, sym, ap, _∙_, subst}
 use mathlib.Core.Logic.{_⊎_, inl, inr, ⊎-elim, _≢_}
-use mathlib.Core.Bool.{Bool, true, false, not}
+use mathlib.Core.Bool.{Bool, true, false}
 use Prim.Native.Nat.{ℕ, zero, suc, _≤_, _<_}
 use native.Mathlib.Nat.{not-suc-le-zero}
 use native.Mathlib.Omega.{arith}
-use Rattle.board.specs.Grid.{tally}
 use Rattle.board.specs.Board.{Board, Inside, Struck, Finished}
 use Rattle.board.specs.Work.{Queued}
-use Rattle.words.proofs.Bools.{never-both, not-of-false, not-of-true, eq-or-ne, last-or-below}
-use Rattle.board.proofs.Tally.{tally-more}
-use Rattle.board.proofs.Queues.{each-entry, queued-more, queued-last, kept-value}
+use Rattle.board.specs.Listing.{Lists}
+use Rattle.words.proofs.Bools.{never-both, last-or-below}
+use Rattle.board.proofs.Queues.{each-entry, kept-value, lists-more}
 
 -- what falls in the first k rounds falls in the first k + 1
-pub struck-more : (B : Board) (k p : ℕ) → Struck B k p → Struck B (suc k) p
+struck-more : (B : Board) (k p : ℕ) → Struck B k p → Struck B (suc k) p
 struck-more B zero p s = absurd s
 struck-more B (suc k) p (inl o) = inl o
 struck-more B (suc k) p (inr w) = inr (w .0, w .1, struck-more B k (w .0) (w .2))
@@ -32,12 +31,8 @@ pub record Levels (B : Board) (X : ℕ → Bool) (queue : ℕ → ℕ) (head end
   pub end-tail : end ≤ tail
   -- each round struck something
   pub round-end : round ≤ end
-  -- there is an entry for each place struck, so none is there twice
-  pub count : tail ≡ tally (λ p. not (X p)) (B .size)
-  -- each entry is struck
-  pub queued : (i : ℕ) → i < tail → (queue i < B .size) × (X (queue i) ≡ false)
-  -- each place struck is an entry
-  pub listed : (p : ℕ) → p < B .size → X p ≡ false → Queued queue tail p
+  -- the entries are the places struck
+  pub lists : Lists X queue tail (B .size)
   -- the entries below `end` fell in the rounds up to `round`
   pub old : (i : ℕ) → i < end → Struck B round (queue i)
   -- and all that fell in them are below `end`
@@ -54,22 +49,16 @@ pub record Levels (B : Board) (X : ℕ → Bool) (queue : ℕ → ℕ) (head end
   pub noisy : (j : ℕ) → j < round → (p : ℕ) × (p < B .size) × Struck B (suc j) p × (Struck B j p → ⊥)
 
 pub start : {B : Board} (X : ℕ → Bool) (queue : ℕ → ℕ) (tail : ℕ)
-    → ((p : ℕ) → p < B .size → X p ≡ B .ok p)
-    → tail ≡ tally (λ p. not (X p)) (B .size)
-    → ((i : ℕ) → i < tail → (queue i < B .size) × (X (queue i) ≡ false))
-    → ((p : ℕ) → p < B .size → X p ≡ false → Queued queue tail p)
-    → Levels B X queue 0 0 tail 0
-start X queue tail grid counted queued listed = record {
+    → ((p : ℕ) → p < B .size → X p ≡ B .ok p) → Lists X queue tail (B .size) → Levels B X queue 0 0 tail 0
+start X queue tail grid lists = record {
   head-end = omega arith;
   end-tail = omega arith;
   round-end = omega arith;
-  count = counted;
-  queued = queued;
-  listed = listed;
+  lists = lists;
   old = λ i h. absurd (not-suc-le-zero h);
   all-old = λ p h f. absurd f;
   fresh = λ i a b f. f;
-  new = λ i h. inl (sym (grid (queue i) (queued i h .0)) ∙ queued i h .1);
+  new = λ i h. let here = lists .queued i h in inl (sym (grid (queue i) (here .0)) ∙ here .1);
   done = λ i p h. absurd (not-suc-le-zero h);
   base = λ p h f. grid p h ∙ f;
   noisy = λ j h. absurd (not-suc-le-zero h);
@@ -86,16 +75,7 @@ module _ {B : Board} {X : ℕ → Bool} {queue : ℕ → ℕ} {head end tail rou
     head-end = s .head-end;
     end-tail = omega (arith, s .end-tail);
     round-end = s .round-end;
-    count =
-        ap suc (s .count)
-        ∙ sym (tally-more (λ q. not (X q)) (λ q. not (X′ q)) (B .size) p l (not-of-true stood) (not-of-false now)
-        (λ i li ne. ap not (sym (other i ne))));
-    queued = each-entry last same (λ x. (x < B .size) × (X′ x ≡ false)) (l, now)
-        (λ i m. (s .queued i m .0, off (queue i) (s .queued i m .1)));
-    listed = λ q lq f. ⊎-elim
-        (λ (e : q ≡ p). subst (λ (x : ℕ). Queued queue′ (suc tail) x) (sym e) (queued-last last same))
-        (λ ne. queued-more last same (s .listed q lq (sym (other q ne) ∙ f)))
-        (eq-or-ne q p);
+    lists = lists-more last same (s .lists) l stood now other;
     old = λ i li. subst (λ (x : ℕ). Struck B round x) (sym (same i (omega (arith, s .end-tail)))) (s .old i li);
     all-old = λ q lq f.
         let w = s .all-old q lq f in (w .0, w .1, same (w .0) (omega (arith, w .1, s .end-tail)) ∙ w .2);
@@ -114,7 +94,7 @@ module _ {B : Board} {X : ℕ → Bool} {queue : ℕ → ℕ} {head end tail rou
       not-old : Struck B round p → ⊥
       not-old f =
           let w = s .all-old p l f in
-          let fell = s .queued (w .0) (omega (arith, w .1, s .end-tail)) .1 in
+          let fell = s .lists .queued (w .0) (omega (arith, w .1, s .end-tail)) .1 in
           never-both stood (subst (λ (x : ℕ). X x ≡ false) (w .2) fell)
 
       not-fresh : (i : ℕ) → end ≤ i → i < suc tail → Struck B round (queue′ i) → (i ≡ tail) ⊎ (i < tail) → ⊥
@@ -128,9 +108,7 @@ module _ {B : Board} {X : ℕ → Bool} {queue : ℕ → ℕ} {head end tail rou
     head-end = h;
     end-tail = s .end-tail;
     round-end = s .round-end;
-    count = s .count;
-    queued = s .queued;
-    listed = s .listed;
+    lists = s .lists;
     old = s .old;
     all-old = s .all-old;
     fresh = s .fresh;
@@ -158,11 +136,9 @@ module _ {B : Board} (inside : Inside B) where
     head-end = omega arith;
     end-tail = omega arith;
     round-end = omega (arith, s .round-end);
-    count = s .count;
-    queued = s .queued;
-    listed = s .listed;
+    lists = s .lists;
     old = s .new;
-    all-old = λ p l f. s .listed p l (level-on s p l f);
+    all-old = λ p l f. s .lists .listed p l (level-on s p l f);
     fresh = λ i a b. absurd (omega arith);
     new = λ i l. struck-more B (suc round) (queue i) (s .new i l);
     done = s .done;
@@ -170,7 +146,7 @@ module _ {B : Board} (inside : Inside B) where
     noisy = λ j h. ⊎-elim
         (λ (e : j ≡ round).
         subst (λ (x : ℕ). (p : ℕ) × (p < B .size) × Struck B (suc x) p × (Struck B x p → ⊥)) (sym e)
-        (queue end, s .queued end g .0, s .new end g, s .fresh end (omega arith) g))
+        (queue end, s .lists .queued end g .0, s .new end g, s .fresh end (omega arith) g))
         (λ m. s .noisy j m) (last-or-below h);
   }
 
@@ -179,12 +155,12 @@ module _ {B : Board} (inside : Inside B) where
   finished {X} {queue} {end} {round} s = record {
     only-struck = struck-of;
     all-struck = λ p l f.
-        let q = s .all-old p l f in subst (λ (x : ℕ). X x ≡ false) (q .2) (s .queued (q .0) (q .1) .1);
+        let q = s .all-old p l f in subst (λ (x : ℕ). X x ≡ false) (q .2) (s .lists .queued (q .0) (q .1) .1);
     quiet = λ p l f. struck-of p l (level-on s p l f);
     noisy = s .noisy;
-    count = s .count;
+    count = s .lists .count;
     bound = s .round-end;
   }
     where
       struck-of : (p : ℕ) → p < B .size → X p ≡ false → Struck B round p
-      struck-of p l f = let q = s .listed p l f in subst (λ (x : ℕ). Struck B round x) (q .2) (s .old (q .0) (q .1))
+      struck-of p l f = let q = s .lists .listed p l f in subst (λ (x : ℕ). Struck B round x) (q .2) (s .old (q .0) (q .1))

@@ -4,7 +4,6 @@ pub mod Queues
 pub mod Rounds
 pub mod Levels
 pub mod Closure
-pub mod Boards
 pub mod Flood
 pub mod Worklist
 pub mod Lists

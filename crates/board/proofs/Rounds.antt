@@ -72,13 +72,13 @@ module _ {B : Board} (law : Lawful B) where
   pub keep-struck : (k p : ℕ) → after B k p ≡ false → after B (suc k) p ≡ false
   keep-struck k p h = is-false (λ t. never-both (after-down k p t) h)
 
-  pub strike-ok : (k p : ℕ) → B .ok p ≡ false → after B (suc k) p ≡ false
+  strike-ok : (k p : ℕ) → B .ok p ≡ false → after B (suc k) p ≡ false
   strike-ok k p h = is-false (λ t. never-both (law .met-ok (after B k) p (after-met k p t)) h)
 
-  pub strike-dep : (k p q : ℕ) → B .Dep p q → after B k q ≡ false → after B (suc k) p ≡ false
+  strike-dep : (k p q : ℕ) → B .Dep p q → after B k q ≡ false → after B (suc k) p ≡ false
   strike-dep k p q d h = is-false (λ t. never-both (law .met-dep (after B k) p q (after-met k p t) d) h)
 
-  pub struck-why : (k p : ℕ) → p < B .size → after B (suc k) p ≡ false
+  struck-why : (k p : ℕ) → p < B .size → after B (suc k) p ≡ false
       → (B .ok p ≡ false) ⊎ ((q : ℕ) × B .Dep p q × (after B k q ≡ false))
   struck-why k p l h = law .unmet (after B k) p (is-false (λ t. never-both (met-after k p l t) h))
 
@@ -108,7 +108,7 @@ module _ {B : Board} (law : Lawful B) where
             false-of-not (and-second (after B k p) (not (B .met (after B k) p)) both),
           )
 
-  pub progress : (k : ℕ) → Noisy B k → struck B k < struck B (suc k)
+  progress : (k : ℕ) → Noisy B k → struck B k < struck B (suc k)
   progress k n =
       tally-lt (λ p. not (after B k p)) (λ p. not (after B (suc k) p)) (B .size) (n .0) (n .1) (not-of-true (n .2))
       (not-of-false (is-false (λ t. never-both (after-met k (n .0) t) (n .3))))
@@ -152,12 +152,12 @@ module _ {B : Board} (law : Lawful B) where
   )
 
   -- ---- what is struck, by the positive definition
-  pub struck-after : (k p : ℕ) → Struck B k p → after B k p ≡ false
+  struck-after : (k p : ℕ) → Struck B k p → after B k p ≡ false
   struck-after zero p s = absurd s
   struck-after (suc k) p (inl o) = strike-ok k p o
   struck-after (suc k) p (inr w) = strike-dep k p (w .0) (w .1) (struck-after k (w .0) (w .2))
 
-  pub after-struck : (k p : ℕ) → p < B .size → after B k p ≡ false → Struck B k p
+  after-struck : (k p : ℕ) → p < B .size → after B k p ≡ false → Struck B k p
   unfolding after
   after-struck zero p l e = never-both refl e
   after-struck (suc k) p l e = by-reason (struck-why k p l e) (after-struck k)
@@ -191,6 +191,3 @@ module _ {B : Board} (law : Lawful B) where
     finished-strikes =
         f .count
         ∙ tally-ext (λ p. not (X p)) (λ p. not (after B rounds p)) (B .size) (λ p l. ap not (finished-is p l))
-
-    pub finished-last : Last B (suc rounds)
-    finished-last = record { before = rounds; is = refl; quiet = finished-quiet; noisy = finished-noisy }

@@ -6,7 +6,7 @@
 --   search-turn                a turn that sweeps all that needs the place at the head
 --   search-done                the queue is used up: the rounds are done
 -- Assumes nothing.
-use mathlib.Core.Path.{_≡_, refl, sym, ap, _∙_, subst, subst₂}
+use mathlib.Core.Path.{_≡_, refl, sym, _∙_, subst, subst₂}
 use mathlib.Core.List.{List}
 use mathlib.Core.Bool.{not}
 use Prim.Native.Nat.{ℕ, suc, _+_, _≤_, _<_}
@@ -14,7 +14,7 @@ use native.Mathlib.Numerals.{add-one}
 use native.Mathlib.Omega.{arith}
 use lib.ListN.{length, set}
 use lib.Seq.{getD-set-same, getD-set-other}
-use Rattle.board.specs.Grid.{on, tally}
+use Rattle.board.specs.Grid.{on}
 use Rattle.board.specs.Board.{Board, Inside, Finished}
 use Rattle.board.specs.Work.{Work, work, entry, strikeOne, Room, Run, stay, then, Swept}
 use Rattle.board.specs.Listing.{Listed}
@@ -24,7 +24,7 @@ use Rattle.board.proofs.Levels.{Levels, start, strike, advance, next-le
 use Rattle.board.proofs.Worklist.{strike-case, room-hit, run-grid, run-queue, run-room}
 
 -- the levels of a work's grid and queue
-abbrev pub LevelsOf : Board → Work → ℕ → ℕ → ℕ → Type 0
+abbrev LevelsOf : Board → Work → ℕ → ℕ → ℕ → Type 0
 LevelsOf B w head end round = Levels B (on (w .grid)) (entry (w .queue)) head end (w .tail) round
 
 pub record Searching (B : Board) (room : ℕ) (w : Work) (head end round : ℕ) : Type 0 where
@@ -52,7 +52,7 @@ module _ {B : Board} {head end round : ℕ} (h : head < end) where
       ))
       (λ e. (s, refl))
 
-  pub run-levels : {Good : ℕ → Type 0} {w v : Work} → length (w .grid) ≡ B .size → Room w
+  run-levels : {Good : ℕ → Type 0} {w v : Work} → length (w .grid) ≡ B .size → Room w
       → ((p : ℕ) → Good p → (p < B .size) × B .Dep p (entry (w .queue) head))
       → LevelsOf B w head end round → Run Good w v
       → LevelsOf B v head end round × (entry (v .queue) head ≡ entry (w .queue) head)
@@ -71,25 +71,22 @@ pub search-start : {B : Board} (grid queue : List ℕ) (tail : ℕ) → length g
 search-start grid queue tail e oks s = record {
   full = e;
   space = refl;
-  levels = start (on grid) (entry queue) tail oks
-      (s .count ∙ ap (λ (n : ℕ). tally (λ p. not (on grid p)) n) e)
-      (λ i l. let r = s .queued i l in (omega (arith, r .0), r .1))
-      (λ p l. s .listed p (omega arith));
+  levels = start (on grid) (entry queue) tail oks (subst (λ (n : ℕ). Listed grid queue tail n) e s);
 }
 
 module _ {B : Board} {room : ℕ} {w : Work} {head end round : ℕ} (s : Searching B room w head end round) where
   pub search-tail : w .tail ≤ B .size
-  search-tail = omega (arith, s .levels .count, tally-le (λ p. not (on (w .grid) p)) (B .size))
+  search-tail = omega (arith, s .levels .lists .count, tally-le (λ p. not (on (w .grid) p)) (B .size))
 
   pub search-round : round ≤ B .size
   search-round = omega (arith, search-tail, s .levels .round-end, s .levels .end-tail)
 
   pub search-head : head < w .tail → entry (w .queue) head < B .size
-  search-head h = s .levels .queued head h .0
+  search-head h = s .levels .lists .queued head h .0
 
   pub search-room : B .size ≤ room → Room w
   search-room l =
-      rw (s .full) (omega (arith, s .space, s .levels .count, tally-both (on (w .grid)) (B .size)))
+      rw (s .full) (omega (arith, s .space, s .levels .lists .count, tally-both (on (w .grid)) (B .size)))
 
   pub search-level : head < w .tail → (head ≡ end → ⊥) → head < end
   search-level h ne = omega (arith, s .levels .head-end)

@@ -4,7 +4,7 @@
 --   tally-le                 at most the bound
 --   tally-mono, tally-lt     a wider test counts as many, or more where one more passes
 --   tally-ext, tally-more    equal tests count the same; tests that differ in one number, one more
---   tally-pos, tally-some    above 0 exactly where some number passes
+--   tally-pos                above 0 where some number passes
 --   tally-none               0 where none passes
 --   tally-split, tally-both  what passes and what does not, together
 --   Lowest, none-or-lowest   none passes, or there is a lowest that does
@@ -18,12 +18,13 @@ use native.Mathlib.Nat.{not-suc-le-zero}
 use native.Mathlib.Numerals.{add-one}
 use native.Mathlib.Omega.{arith}
 use borrow.Author.Tests.{eqb-true, eq-eqb}
-use Rattle.board.specs.Grid.{bit, tally, all}
+use Rattle.board.specs.Grid.{bit, tally}
+use Rattle.board.specs.Machine.{all}
 use Rattle.words.proofs.Bools.{never-both, true-or-false, is-true, false-of-not, not-of-false, not-of-true}
 use Rattle.words.proofs.Bools.{last-or-below}
 
 -- ---- one test
-pub bit-le : (b : Bool) → bit b ≤ 1
+bit-le : (b : Bool) → bit b ≤ 1
 unfolding bit
 bit-le true = omega arith
 bit-le false = omega arith
@@ -36,7 +37,7 @@ pub bit-false : (b : Bool) → b ≡ false → bit b ≡ 0
 unfolding bit
 bit-false b e = rw e
 
-pub bit-mono : (a b : Bool) → (a ≡ true → b ≡ true) → bit a ≤ bit b
+bit-mono : (a b : Bool) → (a ≡ true → b ≡ true) → bit a ≤ bit b
 unfolding bit
 bit-mono true b f = omega (arith, bit-true b (f refl))
 bit-mono false b f = omega arith
@@ -60,7 +61,7 @@ unfolding tally
 tally-le p zero = omega arith
 tally-le p (suc n) = omega (arith, tally-le p n, bit-le (p n))
 
-pub tally-mono : (p q : ℕ → Bool) (n : ℕ) → ((i : ℕ) → i < n → p i ≡ true → q i ≡ true) → tally p n ≤ tally q n
+tally-mono : (p q : ℕ → Bool) (n : ℕ) → ((i : ℕ) → i < n → p i ≡ true → q i ≡ true) → tally p n ≤ tally q n
 unfolding tally
 tally-mono p q zero f = omega arith
 tally-mono p q (suc n) f =
@@ -124,16 +125,6 @@ unfolding tally
 tally-none p zero f = refl
 tally-none p (suc n) f =
     omega (arith, tally-none p n (λ i l. f i (omega arith)), bit-false (p n) (f n (omega arith)))
-
-pub tally-some : (p : ℕ → Bool) (n : ℕ) → 0 < tally p n → (i : ℕ) × (i < n) × (p i ≡ true)
-unfolding tally
-tally-some p zero l = absurd (omega arith)
-tally-some p (suc n) l = by-last (tally-some p n) (true-or-false (p n))
-  where
-    by-last : (0 < tally p n → (i : ℕ) × (i < n) × (p i ≡ true)) → (p n ≡ true) ⊎ (p n ≡ false)
-        → (i : ℕ) × (i < suc n) × (p i ≡ true)
-    by-last below (inl t) = (n, omega arith, t)
-    by-last below (inr f) = let r = below (omega (arith, bit-false (p n) f)) in (r .0, omega (arith, r .1), r .2)
 
 -- the lowest number below n that passes
 pub record Lowest (p : ℕ → Bool) (n : ℕ) : Type 0 where

@@ -10,10 +10,11 @@
 use mathlib.Core.Path.{_≡_, refl, sym, _∙_, subst}
 use mathlib.Core.Logic.{_⊎_, ⊎-elim}
 use mathlib.Core.Bool.{true, false}
-use Prim.Native.Nat.{ℕ, _+_, _≤_, _<_}
+use Prim.Native.Nat.{ℕ, _+_, _<_}
 use native.Mathlib.Omega.{arith}
 use lib.ListN.{length, set, length-set}
-use Rattle.board.specs.Grid.{on, Marks}
+use Rattle.board.specs.Grid.{on}
+use Rattle.board.specs.Machine.{Marks}
 use Rattle.board.specs.Work.{Work, work, strikeOne, Room, Run, stay, then, Swept}
 use Rattle.words.proofs.Bools.{never-both, true-or-false}
 use Rattle.board.proofs.Tally.{tally-more, tally-pos}
@@ -43,20 +44,17 @@ pub room-hit : (w : Work) (p : ℕ) → Room w → on (w .grid) p ≡ true → p
 room-hit w p r e l = omega (arith, tally-pos (on (w .grid)) (length (w .grid)) p l e)
 
 module _ (w : Work) (p : ℕ) where
-  pub one-grid : length (strikeOne w p .grid) ≡ length (w .grid)
+  one-grid : length (strikeOne w p .grid) ≡ length (w .grid)
   one-grid = strike-case (λ v. length (v .grid) ≡ length (w .grid)) w p (λ e. length-set (w .grid) p 0) (λ e. refl)
 
-  pub one-queue : length (strikeOne w p .queue) ≡ length (w .queue)
+  one-queue : length (strikeOne w p .queue) ≡ length (w .queue)
   one-queue = strike-case (λ v. length (v .queue) ≡ length (w .queue)) w p
       (λ e. length-set (w .queue) (w .tail) p) (λ e. refl)
 
-  pub one-tail : w .tail ≤ strikeOne w p .tail
-  one-tail = strike-case (λ v. w .tail ≤ v .tail) w p (λ e. omega arith) (λ e. omega arith)
-
-  pub one-marks : Marks (w .grid) → Marks (strikeOne w p .grid)
+  one-marks : Marks (w .grid) → Marks (strikeOne w p .grid)
   one-marks m = strike-case (λ v. Marks (v .grid)) w p (λ e. marks-set (w .grid) p m) (λ e. m)
 
-  pub one-stays : (q : ℕ) → on (w .grid) q ≡ false → on (strikeOne w p .grid) q ≡ false
+  one-stays : (q : ℕ) → on (w .grid) q ≡ false → on (strikeOne w p .grid) q ≡ false
   one-stays q f = strike-case (λ v. on (v .grid) q ≡ false) w p
       (λ e. on-set-other (w .grid) p q (λ x. never-both e (subst (λ (y : ℕ). on (w .grid) y ≡ false) x f)) ∙ f)
       (λ e. f)
@@ -65,7 +63,7 @@ module _ (w : Work) (p : ℕ) where
     pub one-off : on (strikeOne w p .grid) p ≡ false
     one-off = strike-case (λ v. on (v .grid) p ≡ false) w p (λ e. on-set-same (w .grid) p l) (λ e. e)
 
-    pub one-room : Room w → Room (strikeOne w p)
+    one-room : Room w → Room (strikeOne w p)
     one-room r = strike-case Room w p
         (λ e. rw (length-set (w .grid) p 0, length-set (w .queue) (w .tail) p)
         (omega (
@@ -76,11 +74,11 @@ module _ (w : Work) (p : ℕ) where
         (λ e. r)
 
 -- ---- runs of strikes
-pub run-wider : {G H : ℕ → Type 0} {w v : Work} → ((p : ℕ) → G p → H p) → Run G w v → Run H w v
+run-wider : {G H : ℕ → Type 0} {w v : Work} → ((p : ℕ) → G p → H p) → Run G w v → Run H w v
 run-wider f stay = stay
 run-wider f (then {v} {p} r g) = then (run-wider f r) (f p g)
 
-pub run-append : {G : ℕ → Type 0} {w v x : Work} → Run G w v → Run G v x → Run G w x
+run-append : {G : ℕ → Type 0} {w v x : Work} → Run G w v → Run G v x → Run G w x
 run-append r stay = r
 run-append r (then {v} {p} q g) = then (run-append r q) g
 
@@ -93,7 +91,7 @@ module _ {Good : ℕ → Type 0} {w : Work} where
   run-queue stay = refl
   run-queue (then {v} {p} r g) = one-queue v p ∙ run-queue r
 
-  pub run-marks : {v : Work} → Marks (w .grid) → Run Good w v → Marks (v .grid)
+  run-marks : {v : Work} → Marks (w .grid) → Run Good w v → Marks (v .grid)
   run-marks m stay = m
   run-marks m (then {v} {p} r g) = one-marks v p (run-marks m r)
 

@@ -1,4 +1,4 @@
--- A board of places, and the two sets that document 01 calls the largest and the smallest typing ("Typings").
+-- A board of places and the two sets that the searches find on it, as the proofs take them; no part of a promise.
 -- A place stands for a pair of a card and a shape. A set of places is a test.
 --   Board     places below a size, a test of each, and which places a place needs
 --   Inside    what a place of the board needs is on the board
@@ -30,7 +30,7 @@ pub record Board : Type 1 where
 abbrev pub Inside : Board → Type 0
 Inside B = (p q : ℕ) → p < B .size → B .Dep p q → q < B .size
 
--- The paper's Proposition 8.1: a place is met under a set exactly if it is ok and the set has all that it needs.
+-- Proposition 8.1 of the paper: a place is met under a set exactly if it is ok and the set has all that it needs.
 pub record Lawful (B : Board) : Type 0 where
   -- needs stay on the board
   pub inside : Inside B

@@ -1,10 +1,12 @@
--- The work of a search: a grid of bytes, a queue of places and the queue's tail.
+-- The work of a search: a grid of bytes, a queue of places and the queue's tail; no part of a promise.
 -- A place is struck by a 0 in the grid and an entry in the queue.
 --   Work, work  the three together
 --   entry       what stands in a queue
 --   Queued      a place is among the first entries of a queue
 --   strikeOne   one place is struck, if it still stands
 --   Room        the queue has room for all that still stands
+--   Lent        a grid and a queue with room for all places
+--   Strikable   a place of the board, and room in the queue
 --   Run         strikes one after another, each of a good place
 --   Swept       a run after which no good place stands
 -- Assumes nothing.
@@ -13,6 +15,7 @@ use mathlib.Core.List.{List}
 use mathlib.Core.Bool.{false, cond}
 use Prim.Native.Nat.{ℕ, _+_, _≤_, _<_}
 use lib.ListN.{length, getD, set}
+use Rattle.words.specs.Limits.{maxGrid}
 use Rattle.board.specs.Grid.{on, tally}
 
 pub record Work : Type 0 where
@@ -43,6 +46,19 @@ strikeOne w p =
 -- The queue has room for all that still stands.
 abbrev pub Room : Work → Type 0
 Room w = w .tail + tally (on (w .grid)) (length (w .grid)) ≤ length (w .queue)
+
+-- A grid and a queue that are lent to a search: the queue has room for every place.
+pub record Lent (grid queue : List ℕ) : Type 0 where
+  -- a place is a word
+  pub few-places : length grid ≤ maxGrid
+  pub room : length grid ≤ length queue
+
+-- The place p can be struck: it is on the board, and the queue has room for it.
+pub record Strikable (w : Work) (p : ℕ) : Type 0 where
+  -- a place is a word
+  pub few-places : length (w .grid) ≤ maxGrid
+  pub on-board : p < length (w .grid)
+  pub room : Room w
 
 -- Strikes one after another, each of a good place, lead from w to the other work.
 pub data Run (Good : ℕ → Type 0) (w : Work) : Work → Type 0 where

@@ -1,15 +1,16 @@
 // A grid of bytes, 1 where a place is on, and a queue of places: what the searches for both typings do with them.
 ghost use mathlib.Core.Path.{_≡_};
-ghost use Prim.Native.Nat.{_<_, _≤_};
 ghost use lib.ListN.{length, replicate};
-ghost use Rattle.board.specs.Grid.{on, tally, Flipped, FirstMissing};
-ghost use Rattle.board.specs.Work.{work, strikeOne, Room};
+ghost use Rattle.board.specs.Grid.{on, tally};
+ghost use Rattle.board.specs.Machine.{Flipped, FirstMissing};
+ghost use Rattle.board.specs.Work.{work, strikeOne, Lent, Strikable};
 ghost use Rattle.board.specs.Listing.{Listed};
 
 // Strikes a place and queues it, if it still stands. Returns the queue's tail.
 pub fn strike_one(grid: &mut [u8], queue: &mut [u16], tail: usize, place: usize) -> usize
-    requires { ⌜ (place < length (now grid)) × (place < 65536) × Room (work (now grid) (now queue) tail) ⌝ }
-    ensures { λ r. ⌜ work (now (grid .exit)) (now (queue .exit)) r ≡ strikeOne (work (now (grid .entry)) (now (queue .entry)) tail) place ⌝ }
+    requires { ⌜ Strikable (work (now grid) (now queue) tail) place ⌝ }
+    ensures { λ r. ⌜ work (now (grid .exit)) (now (queue .exit)) r
+        ≡ strikeOne (work (now (grid .entry)) (now (queue .entry)) tail) place ⌝ }
 {
     if grid[place] == 1 {
         grid[place] = 0;
@@ -21,7 +22,7 @@ pub fn strike_one(grid: &mut [u8], queue: &mut [u16], tail: usize, place: usize)
 
 // Queues the places that are not on, and returns how many.
 pub fn list_off(grid: &[u8], queue: &mut [u16]) -> usize
-    requires { ⌜ (length (now grid) ≤ length (now queue)) × (length (now grid) ≤ 65535) ⌝ }
+    requires { ⌜ Lent (now grid) (now queue) ⌝ }
     ensures { λ r. ⌜ Listed (now (grid .entry)) (now (queue .exit)) r (length (now (grid .entry))) ⌝ }
 {
     let mut listed = 0;

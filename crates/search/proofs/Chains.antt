@@ -1,13 +1,11 @@
 -- Chains of numbers by a key: of the links by target, where the key of a link is the card that it leads to.
 -- last-here, last-other, last-le, last-is, last-none   the last number below another with a key
 -- chained-none, chained-more                           the chains of no numbers, and of one number more
--- walk, walk-exact                                     a walk visits exactly the numbers with its key
 -- Assumes nothing.
-use Prim.Native.Nat.{ℕ, zero, suc, _+_, _-_, _≤_, _<_}
+use Prim.Native.Nat.{ℕ, zero, suc, _+_, _≤_, _<_}
 use mathlib.Core.Path.{_≡_, refl, sym, ap, subst, _∙_}
-use mathlib.Core.Logic.{⊎-elim, _↔_}
-use mathlib.Core.List.{List, [], _∷_, List·Memᴰ, List·Memᴰ·head, List·Memᴰ·tail, List·Memᴰ·not-nil}
-use mathlib.Core.List.{List·Memᴰ·cases-cons}
+use mathlib.Core.Logic.{⊎-elim}
+use mathlib.Core.List.{List}
 use native.Mathlib.Omega.{arith}
 use native.Mathlib.Nat.{eq-or-lt-of-le, le-of-suc-le-suc, not-suc-le-zero}
 use native.Mathlib.Numerals.{add-one}
@@ -15,13 +13,13 @@ use lib.ListN.{length, getD, set, length-set}
 use lib.Seq.{getD-set-same, getD-set-other}
 use borrow.Author.Tests.{eq-eqb, ne-eqb}
 use Rattle.search.specs.Chain.{lastAt, Chained}
-use Rattle.words.proofs.Bools.{le-or-lt, eq-or-ne}
+use Rattle.words.proofs.Bools.{eq-or-ne}
 
-pub last-here : (key : ℕ → ℕ) (m k : ℕ) → key k ≡ m → lastAt key m (suc k) ≡ suc k
+last-here : (key : ℕ → ℕ) (m k : ℕ) → key k ≡ m → lastAt key m (suc k) ≡ suc k
 unfolding lastAt
 last-here key m k e = rw (eq-eqb (key k) m e) refl
 
-pub last-other : (key : ℕ → ℕ) (m k : ℕ) → (key k ≡ m → ⊥) → lastAt key m (suc k) ≡ lastAt key m k
+last-other : (key : ℕ → ℕ) (m k : ℕ) → (key k ≡ m → ⊥) → lastAt key m (suc k) ≡ lastAt key m k
 unfolding lastAt
 last-other key m k ne = rw (ne-eqb (key k) m ne) refl
 
@@ -91,54 +89,3 @@ module _ (key : ℕ → ℕ) (first next : List ℕ) (k m : ℕ)
 
     pub chained-more : Chained key (set first m (k + 1)) (set next k (getD first m 0)) (k + 1)
     chained-more = rw (add-one k) (record { heads = more-heads; nexts = more-nexts })
-
--- The numbers that a walk of at most so many steps visits: one more than a number leads to it, 0 ends the walk.
-abbrev pub walk : List ℕ → ℕ → ℕ → List ℕ
-walk next zero at = []
-walk next (suc steps) zero = []
-walk next (suc steps) (suc i) = i ∷ walk next steps (getD next i 0)
-
-module _ (key : ℕ → ℕ) (first next : List ℕ) (links : ℕ) (ch : Chained key first next links) (m : ℕ) where
-  -- A walk from the last number below k with the key.
-  abbrev Visits : ℕ → ℕ → Type 0
-  Visits steps k = (i : ℕ) → List·Memᴰ i (walk next steps (lastAt key m k)) ↔ ((i < k) × (key i ≡ m))
-
-  visits-none : (steps k : ℕ) → lastAt key m k ≡ 0 → Visits steps k
-  visits-none zero k e i =
-      (λ h. absurd (List·Memᴰ·not-nil h), λ (l, t). absurd (last-none key m k i (omega arith) l t))
-  visits-none (suc steps) k e i =
-      rw e (λ h. absurd (List·Memᴰ·not-nil h), λ (l, t). absurd (last-none key m k i (omega arith) l t))
-
-  visits-more : (steps k j : ℕ) → k ≤ links → lastAt key m k ≡ suc j → Visits steps j → Visits (suc steps) k
-  visits-more steps k j l e rest i =
-      let here : key j ≡ m = last-is key m k j e in
-      let jk : j < k = omega (arith, last-le key m k) in
-      let back : getD next j 0 ≡ lastAt key m j =
-      ch .nexts j (omega arith) ∙ ap (λ (x : ℕ). lastAt key x j) here in
-      rw (e, back) (
-        λ x.
-            ⊎-elim (λ q. (omega arith, ap (key) q ∙ here)) (λ d. let (a, t) = rest i .0 d in (omega arith, t))
-            (List·Memᴰ·cases-cons x),
-        λ (a, t).
-            ⊎-elim
-            (λ le.
-            List·Memᴰ·head
-            (⊎-elim (λ q. sym q) (λ gt. absurd (last-none key m k i (omega arith) a t)) (eq-or-lt-of-le le)))
-            (λ lt. List·Memᴰ·tail (rest i .1 (lt, t)))
-            (le-or-lt j i),
-      )
-
-  visits-at : (steps k at : ℕ) → lastAt key m k ≡ at → at ≤ suc steps → k ≤ links
-      → ((j : ℕ) → lastAt key m j ≤ steps → j ≤ links → Visits steps j) → Visits (suc steps) k
-  visits-at steps k zero e h l rest = visits-none (suc steps) k e
-  visits-at steps k (suc j) e h l rest =
-      visits-more steps k j l e
-      (rest j (omega (arith, last-le key m j)) (omega (arith, last-le key m k)))
-
-  visits : (steps k : ℕ) → lastAt key m k ≤ steps → k ≤ links → Visits steps k
-  visits zero k h l = visits-none zero k (omega arith)
-  visits (suc steps) k h l = visits-at steps k (lastAt key m k) refl h l (visits steps)
-
-  pub walk-exact : m < length first → (i : ℕ)
-      → List·Memᴰ i (walk next links (getD first m 0)) ↔ ((i < links) × (key i ≡ m))
-  walk-exact h i = rw (ch .heads m h) (visits links links (last-le key m links) (omega arith) i)

@@ -1,24 +1,24 @@
--- The closure of the bookings in a grid, and its judgement (document 01, "Smallest").
+-- The closure of the bookings in a grid, and its lowest pair that does not fit ("Smallest").
 --   closes      a flood from the marked pairs, turned round, is the closure of the bookings
---   unfit-at   the lowest pair that does not fit, by its card and its shape
+--   unfit-at    the lowest pair that does not fit, by its card and its shape
 -- Assumes nothing.
 use mathlib.Core.Path.{_≡_, sym, _∙_, subst}
 use mathlib.Core.List.{List}
 use Prim.Native.Nat.{ℕ, _+_, _*_, _/_, _%_, _<_}
 use native.Mathlib.Omega.{arith}
 use lib.ListN.{length, getD, replicate}
-use Rattle.board.specs.Grid.{Flipped, FirstMissing}
+use Rattle.board.specs.Machine.{Flipped, FirstMissing}
 use Rattle.board.proofs.Closure.{flooded-books}
 use Rattle.board.proofs.Flooding.{flood-flipped}
 use Rattle.typing.specs.Needs.{Ready}
-use Rattle.search.specs.Search.{Followed}
+use Rattle.search.specs.Follows.{Followed}
 use Rattle.words.proofs.Places.{shape-in, place-of}
 use Rattle.typing.proofs.Boards.{board-inside}
-use Rattle.search.specs.Closing.{Marked, Closes}
-use Rattle.search.proofs.Marks.{Inside, booked-in}
+use Rattle.search.specs.Closing.{BookingsIn, Marked, Closes}
+use Rattle.search.proofs.Marks.{booked-in}
 
 pub closes : {script names bookings before after grid : List ℕ} {shapes k found : ℕ}
-    → Ready script names shapes → Inside bookings (getD script 0 0) shapes k
+    → Ready script names shapes → BookingsIn bookings (getD script 0 0) shapes k
     → length before ≡ getD script 0 0 * shapes → Marked bookings shapes k before
     → Followed script names shapes before after found → Flipped after grid
     → Closes script names shapes bookings k grid found

@@ -7,27 +7,24 @@ use Prim.Native.Nat.{ℕ}
 use lib.ListN.{length}
 use Rattle.board.specs.Grid.{on}
 use Rattle.board.specs.Board.{Flooded}
-use Rattle.board.specs.Work.{entry, Queued}
-use Rattle.board.specs.Listing.{Listed}
-use Rattle.board.proofs.Closure.{closed-map}
+use Rattle.board.specs.Work.{Queued}
+use Rattle.board.specs.Listing.{Lists}
+use Rattle.board.proofs.Closure.{flooded-books}
 use Rattle.board.proofs.Flooding.{queued-inside}
 use Rattle.typing.specs.Needs.{boardOf}
-use Rattle.search.specs.Search.{Followed}
+use Rattle.search.specs.Follows.{Followed}
 
 -- The bookings that a queue lists are the places that are off.
-pub followed : {script names : List ℕ} {shapes : ℕ} {before after queue : List ℕ} {tail found : ℕ}
-    → Listed before queue tail (length before) → length after ≡ length before
+pub followed : {script names : List ℕ} {shapes : ℕ} {before after : List ℕ} {queue : ℕ → ℕ} {tail found : ℕ}
+    → Lists (on before) queue tail (length before) → length after ≡ length before
     → ((fits : List ℕ)
-    → Flooded (boardOf script names shapes fits) (Queued (entry queue) tail) (λ p. not (on after p)) found)
+    → Flooded (boardOf script names shapes fits) (Queued queue tail) (λ p. not (on after p)) found)
     → Followed script names shapes before after found
 followed {before = before} {queue = queue} {tail = tail} listed same f = record {
   full = same;
-  closure = λ fits. record {
-    has = λ p c. f fits .has p (closed-map (λ q o. listed .listed q (o .0) (o .1)) (λ a b d. d) c);
-    only = λ p l t. closed-map (λ q b. (queued-inside listed q b, is-off q b)) (λ a b d. d) (f fits .only p l t);
-    count = f fits .count;
-  };
+  closure = λ fits. flooded-books (λ q b. (queued-inside listed q b, is-off q b))
+      (λ q o. listed .listed q (o .0) (o .1)) (f fits);
 }
   where
-    is-off : (q : ℕ) → Queued (entry queue) tail q → on before q ≡ false
+    is-off : (q : ℕ) → Queued queue tail q → on before q ≡ false
     is-off q b = subst (λ (x : ℕ). on before x ≡ false) (b .2) (listed .queued (b .0) (b .1) .1)

@@ -1,7 +1,7 @@
 -- The pairs of the bookings, turned off one after another.
---   booked-in      a booked pair has a place in the grid
 --   card-word, shape-word   the words of a booking
 --   filled         every byte of a grid that is filled
+--   booked-in      a booked pair has a place in the grid
 --   marked-none    no booking: every pair is on
 --   marked-more    one booking more
 -- Assumes nothing.
@@ -19,7 +19,7 @@ use Rattle.words.proofs.Bools.{never-both, eq-or-ne, last-or-below}
 use Rattle.board.proofs.Grids.{on-yes, on-set-same, on-set-other}
 use Rattle.words.proofs.Places.{place-in}
 use Rattle.bookings.specs.Bookings.{cardAt, shapeAt}
-use Rattle.search.specs.Closing.{BookedAt, Marked}
+use Rattle.search.specs.Closing.{BookingsIn, BookedAt, Marked}
 
 pub card-word : (bookings : List ℕ) (i : ℕ) → cardAt bookings i ≡ getD bookings (1 + 2 * i) 0
 unfolding cardAt
@@ -34,12 +34,8 @@ pub filled : (grid : List ℕ) (n value : ℕ) → grid ≡ replicate n value
 filled grid n value e p l = ap (λ (g : List ℕ). getD g p 0) e
     ∙ getD-replicate n p value 0 (omega (arith, ap length e, length-replicate n value))
 
--- The first k bookings are of cards and shapes of the sheet.
-abbrev pub Inside : List ℕ → ℕ → ℕ → ℕ → Type 0
-Inside bookings cards shapes k = (i : ℕ) → i < k → (cardAt bookings i < cards) × (shapeAt bookings i < shapes)
-
 pub booked-in : {bookings : List ℕ} {cards shapes k p : ℕ}
-    → Inside bookings cards shapes k → BookedAt bookings shapes k p → p < cards * shapes
+    → BookingsIn bookings cards shapes k → BookedAt bookings shapes k p → p < cards * shapes
 booked-in {bookings} {cards} {shapes} {k} {p} inside b =
     let (card, shape) = inside (b .booking) (b .listed) in
     subst (λ (x : ℕ). x < cards * shapes) (sym (b .at))

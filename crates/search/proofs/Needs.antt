@@ -1,5 +1,5 @@
 -- What the searches strike, as needs of the board.
---   from-word, kind-word, to-word    the words of a link, by their places
+--   near-word, label-word, far-word  the ends and the label of a link, as words of the script
 --   needing-in                the pair that needs another is on the board
 --   target-exact              p needs q exactly if p is good for q's card and shape
 --   card-exact                p needs q exactly if q is good for the links of p's card and p's shape
@@ -14,27 +14,29 @@ use Prim.Native.Nat.{ℕ, suc, _+_, _-_, _*_, _/_, _%_, _≤_, _<_}
 use native.Mathlib.Nat.{eq-or-lt-of-le}
 use native.Mathlib.Omega.{arith}
 use lib.ListN.{length, getD}
-use Rattle.script.specs.Link.{fromAt, kindAt, toAt}
+use Rattle.script.specs.Link.{fromAt, kindAt, toAt, near, label, far}
 use Rattle.board.specs.Work.{Work, strikeOne, Swept}
 use Rattle.board.proofs.Worklist.{swept-none, swept-same, swept-one}
 use Rattle.typing.specs.Needs.{entryAt, Needs, Ready}
-use Rattle.search.specs.Search.{Starts, NamedGood, TargetGood, CardGood}
+use Rattle.search.specs.Indexes.{Starts}
+use Rattle.search.specs.Strikes.{NamedGood, TargetGood}
+use Rattle.search.specs.Follows.{CardGood}
 use Rattle.words.proofs.Places.{place-in, place-from, card-in, shape-in, place-of, card-of, shape-of}
 use Rattle.search.proofs.Walks.{Later}
 use Rattle.typing.proofs.Boards.{entry-shape}
 
 -- ---- the words of a link
-pub from-word : (script : List ℕ) (i : ℕ) → getD script (2 + 3 * i) 0 ≡ fromAt script i
+pub near-word : (script : List ℕ) (i : ℕ) → getD script (2 + 3 * i) 0 ≡ near script i
 unfolding fromAt
-from-word script i = refl
+near-word script i = refl
 
-pub kind-word : (script : List ℕ) (i : ℕ) → getD script (3 + 3 * i) 0 ≡ kindAt script i
+pub label-word : (script : List ℕ) (i : ℕ) → getD script (3 + 3 * i) 0 ≡ label script i
 unfolding kindAt
-kind-word script i = refl
+label-word script i = refl
 
-pub to-word : (script : List ℕ) (i : ℕ) → getD script (4 + 3 * i) 0 ≡ toAt script i
+pub far-word : (script : List ℕ) (i : ℕ) → getD script (4 + 3 * i) 0 ≡ far script i
 unfolding toAt
-to-word script i = refl
+far-word script i = refl
 
 module _ {script names : List ℕ} {shapes : ℕ} (ready : Ready script names shapes) where
   pub needing-in : (p q : ℕ) → Needs script names shapes p q → p < getD script 0 0 * shapes
@@ -51,10 +53,10 @@ module _ {script names : List ℕ} {shapes : ℕ} (ready : Ready script names sh
         link = i;
         below = g .below;
         starts = sym (ap (λ (x : ℕ). x / shapes) (g .good .at)
-            ∙ card-of shapes (ready .one-shape) (fromAt script i) t lt);
+            ∙ card-of shapes (ready .one-shape) (near script i) t lt);
         shape = q % shapes;
-        names-it = ap (λ (x : ℕ). entryAt names x (kindAt script i))
-            (ap (λ (x : ℕ). x % shapes) (g .good .at) ∙ shape-of shapes (ready .one-shape) (fromAt script i) t lt)
+        names-it = ap (λ (x : ℕ). entryAt names x (label script i))
+            (ap (λ (x : ℕ). x % shapes) (g .good .at) ∙ shape-of shapes (ready .one-shape) (near script i) t lt)
             ∙ g .good .names-it;
         leads = sym (place-of shapes (ready .one-shape) q) ∙ ap (λ (x : ℕ). x * shapes + q % shapes) (sym (g .goes));
       }
@@ -65,12 +67,12 @@ module _ {script names : List ℕ} {shapes : ℕ} (ready : Ready script names sh
       let lt = shape-in shapes (ready .one-shape) p in
       let lu = entry-shape ready (p % shapes) i (d .shape) lt (d .below) (d .names-it) in
       let eu = ap (λ (x : ℕ). x % shapes) (d .leads)
-      ∙ shape-of shapes (ready .one-shape) (toAt script i) (d .shape) lu in
+      ∙ shape-of shapes (ready .one-shape) (far script i) (d .shape) lu in
       record {
         link = i;
         below = d .below;
         goes = sym (ap (λ (x : ℕ). x / shapes) (d .leads)
-            ∙ card-of shapes (ready .one-shape) (toAt script i) (d .shape) lu);
+            ∙ card-of shapes (ready .one-shape) (far script i) (d .shape) lu);
         good = record {
           by = p % shapes;
           below = lt;
@@ -86,7 +88,7 @@ module _ {script names : List ℕ} {shapes : ℕ} (ready : Ready script names sh
   -- ---- forwards
   module _ {starts : List ℕ} (st : Starts script starts) (p q : ℕ) (lp : p < getD script 0 0 * shapes) where
     -- q is good for the links of p's card and p's shape
-    abbrev pub CardNeeds : Type 0
+    abbrev CardNeeds : Type 0
     CardNeeds =
         CardGood script names shapes (getD starts (p / shapes) 0) (getD starts (p / shapes + 1) 0) (p % shapes) q
 
@@ -123,22 +125,22 @@ module _ {script names : List ℕ} {shapes : ℕ} (ready : Ready script names sh
   card-in-grid {t = t} lt lh p g =
       let li : g .link < getD script 1 0 = omega (arith, g .high) in
       subst (λ (x : ℕ). x < getD script 0 0 * shapes) (sym (g .at))
-      (place-in (getD script 0 0) shapes (toAt script (g .link)) (g .shape) (ready .to-in (g .link) li)
+      (place-in (getD script 0 0) shapes (far script (g .link)) (g .shape) (ready .to-in (g .link) li)
       (entry-shape ready t (g .link) (g .shape) lt li (g .names-it)))
 
 -- ---- the links to a card, by their chain
 -- Link i makes good the pairs of its card whose shape names u for its kind.
 abbrev pub LinkGood : List ℕ → List ℕ → ℕ → ℕ → ℕ → ℕ → Type 0
-LinkGood script names shapes u i p = NamedGood names shapes (kindAt script i) (fromAt script i * shapes) u p
+LinkGood script names shapes u i p = NamedGood names shapes (label script i) (near script i * shapes) u p
 
 -- p is good by a link to m from link lo on.
-abbrev pub ToCard : List ℕ → List ℕ → ℕ → ℕ → ℕ → ℕ → ℕ → Type 0
-ToCard script names shapes m u lo p = Later (toAt script) m (getD script 1 0) (LinkGood script names shapes u) lo p
+abbrev ToCard : List ℕ → List ℕ → ℕ → ℕ → ℕ → ℕ → ℕ → Type 0
+ToCard script names shapes m u lo p = Later (far script) m (getD script 1 0) (LinkGood script names shapes u) lo p
 
 pub links-in-grid : {script names : List ℕ} {shapes : ℕ} → Ready script names shapes
     → {m u lo : ℕ} (p : ℕ) → ToCard script names shapes m u lo p → p < getD script 0 0 * shapes
 links-in-grid {script} {names} {shapes} ready p g = subst (λ (x : ℕ). x < getD script 0 0 * shapes) (sym (g .good .at))
-    (place-in (getD script 0 0) shapes (fromAt script (g .number)) (g .good .by)
+    (place-in (getD script 0 0) shapes (near script (g .number)) (g .good .by)
     (ready .from-in (g .number) (g .below)) (g .good .below))
 
 pub links-swept : (script names : List ℕ) (shapes m u : ℕ) {w v : Work}
@@ -181,23 +183,23 @@ module _ {script names : List ℕ} {shapes lo t : ℕ} where
 
     -- the entry of link i and what it says of a good place by that link
     last-entry : (q : ℕ) (g : CardGood script names shapes lo (i + 1) t q) → g .link ≡ i
-        → entryAt names t (kindAt script i) ≡ suc (g .shape)
-    last-entry q g e = ap (λ (x : ℕ). entryAt names t (kindAt script x)) (sym e) ∙ g .names-it
+        → entryAt names t (label script i) ≡ suc (g .shape)
+    last-entry q g e = ap (λ (x : ℕ). entryAt names t (label script x)) (sym e) ∙ g .names-it
 
-    pub card-hit : {w v : Work} (u : ℕ) → lo ≤ i → entryAt names t (kindAt script i) ≡ suc u
-        → toAt script i * shapes + u < length (w .grid)
+    pub card-hit : {w v : Work} (u : ℕ) → lo ≤ i → entryAt names t (label script i) ≡ suc u
+        → far script i * shapes + u < length (w .grid)
         → Swept (CardGood script names shapes lo i t) w v
-        → Swept (CardGood script names shapes lo (i + 1) t) w (strikeOne v (toAt script i * shapes + u))
-    card-hit u l n small s = swept-one (toAt script i * shapes + u) small card-wider
+        → Swept (CardGood script names shapes lo (i + 1) t) w (strikeOne v (far script i * shapes + u))
+    card-hit u l n small s = swept-one (far script i * shapes + u) small card-wider
         (record { link = i; low = l; high = omega arith; shape = u; names-it = n; at = refl })
         (λ q g. ⊎-elim
         (λ old. inl old)
-        (λ (e : g .link ≡ i). inr (g .at ∙ ap (λ (x : ℕ). toAt script x * shapes + g .shape) e
-        ∙ ap (λ (x : ℕ). toAt script i * shapes + x) (omega (arith, last-entry q g e, n))))
+        (λ (e : g .link ≡ i). inr (g .at ∙ ap (λ (x : ℕ). far script x * shapes + g .shape) e
+        ∙ ap (λ (x : ℕ). far script i * shapes + x) (omega (arith, last-entry q g e, n))))
         (card-split q g))
         s
 
-    pub card-miss : {w v : Work} → entryAt names t (kindAt script i) ≡ 0
+    pub card-miss : {w v : Work} → entryAt names t (label script i) ≡ 0
         → Swept (CardGood script names shapes lo i t) w v → Swept (CardGood script names shapes lo (i + 1) t) w v
     card-miss n s = swept-same card-wider
         (λ q g. ⊎-elim (λ old. old) (λ e. absurd (omega (arith, last-entry q g e, n))) (card-split q g)) s

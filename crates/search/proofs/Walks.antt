@@ -112,7 +112,7 @@ module _ {key : ℕ → ℕ} {m n : ℕ} {Good : ℕ → ℕ → Type 0} where
       one-on : at ≡ suc (at - 1)
       one-on = omega arith
 
-      pub walk-key : key (at - 1) ≡ m
+      walk-key : key (at - 1) ≡ m
       walk-key = last-is key m (s .before) (at - 1) (sym (s .last) ∙ one-on)
 
       module _ {next : ℕ} (e : next ≡ lastAt key (key (at - 1)) (at - 1)) where

@@ -1,4 +1,5 @@
--- Chains of numbers by a key, built in one pass with no sorting: the links that lead to each card are one.
+-- Chains of numbers by a key, built in one pass with no sorting: the links that lead to each card are one; no part of a
+-- promise.
 -- lastAt    one more than the last number below k with a key, or 0
 -- Chained   `first` has that for each key over all numbers, and `next` for each number's key over the numbers below it
 -- Assumes nothing.

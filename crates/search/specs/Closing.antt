@@ -1,20 +1,28 @@
--- What the steps of the calls leave behind; no part of a promise.
--- BookedAt         a booking is of the pair at a place
--- Marked           just the pairs that are booked are off in a grid
--- Closes           a grid is the closure of the bookings; UnfitFound: whether its pairs fit
+-- The closure of the bookings, and whether its pairs fit; no part of a promise.
+-- BookingsIn   the bookings are of cards and shapes of the sheet
+-- BookedAt     a booking is of the pair at a place
+-- MarkAsked, Marked       turning the booked pairs off: what that asks, and just these are off
+-- CloseAsked, Closes      a grid is the closure of the bookings
+-- UnfitAsked, UnfitFound  the lowest pair of the closure that does not fit, if there is one
 -- Assumes nothing.
-use Prim.Native.Nat.{ℕ, _+_, _*_, _<_}
+use Prim.Native.Nat.{ℕ, _+_, _*_, _≤_, _<_}
 use mathlib.Core.Path.{_≡_}
 use mathlib.Core.List.{List}
 use mathlib.Core.Bool.{false}
 use lib.ListN.{length, getD, replicate}
-use Rattle.board.specs.Grid.{on, Marks, FirstMissing}
+use Rattle.words.specs.Limits.{maxCards, maxShapes, maxGrid}
+use Rattle.board.specs.Grid.{on}
+use Rattle.board.specs.Machine.{Marks, FirstMissing}
 use Rattle.board.specs.Board.{Flooded}
-use Rattle.typing.specs.Needs.{boardOf}
+use Rattle.typing.specs.Needs.{boardOf, Ready}
 use Rattle.bookings.specs.Bookings.{cardAt, shapeAt}
-use Rattle.bookings.specs.declared.BookingRead.the-variants as list
+use Rattle.search.specs.Indexes.{Starts}
 use Rattle.search.specs.declared.Unfit.{Unfit}
 use Rattle.search.specs.declared.Unfit.the-variants as unfit
+
+-- The first k bookings are of cards and shapes of the sheet.
+abbrev pub BookingsIn : List ℕ → ℕ → ℕ → ℕ → Type 0
+BookingsIn bookings cards shapes k = (i : ℕ) → i < k → (cardAt bookings i < cards) × (shapeAt bookings i < shapes)
 
 -- One of the first k bookings is the pair at place p.
 pub record BookedAt (bookings : List ℕ) (shapes k p : ℕ) : Type 0 where
@@ -22,10 +30,30 @@ pub record BookedAt (bookings : List ℕ) (shapes k p : ℕ) : Type 0 where
   pub listed : booking < k
   pub at : p ≡ cardAt bookings booking * shapes + shapeAt bookings booking
 
+-- What turning the pairs of the bookings off asks: a grid that has every pair.
+pub record MarkAsked (bookings : List ℕ) (count cards shapes : ℕ) (grid : List ℕ) : Type 0 where
+  pub words : 1 + 2 * count ≤ length bookings
+  pub full : length grid ≡ cards * shapes
+  pub few-cards : cards ≤ maxCards
+  pub few-shapes : shapes ≤ maxShapes
+  pub booked-in : BookingsIn bookings cards shapes count
+  pub ones : (p : ℕ) → p < length grid → getD grid p 0 ≡ 1
+
 -- The pairs of the first k bookings are off in the grid, and no others.
 pub record Marked (bookings : List ℕ) (shapes k : ℕ) (grid : List ℕ) : Type 0 where
   pub only : (p : ℕ) → p < length grid → on grid p ≡ false → BookedAt bookings shapes k p
   pub each : (p : ℕ) → BookedAt bookings shapes k p → on grid p ≡ false
+
+-- What the closure asks: a script that is ready, bookings that are read, a byte for each pair, and room in the queue.
+pub record CloseAsked (script bookings : List ℕ) (count : ℕ) (names starts : List ℕ) (cards shapes : ℕ)
+    (grid queue : List ℕ) : Type 0 where
+  pub ready : Ready script names shapes
+  pub starting : Starts script starts
+  pub all-cards : cards ≡ getD script 0 0
+  pub words : 1 + 2 * count ≤ length bookings
+  pub booked-in : BookingsIn bookings cards shapes count
+  pub full : length grid ≡ cards * shapes
+  pub room : length grid ≤ length queue
 
 -- The grid has just the closure of the first k bookings, and so many pairs. Which pairs fit plays no part.
 pub record Closes (script names : List ℕ) (shapes : ℕ) (bookings : List ℕ) (k : ℕ) (grid : List ℕ) (found : ℕ)
@@ -35,9 +63,17 @@ pub record Closes (script names : List ℕ) (shapes : ℕ) (bookings : List ℕ)
   pub closure : (fits : List ℕ)
       → Flooded (boardOf script names shapes fits) (BookedAt bookings shapes k) (on grid) found
 
+-- What testing the closure asks: a grid of the same size for the pairs that fit.
+pub record UnfitAsked (closure fitting : List ℕ) (shapes : ℕ) : Type 0 where
+  pub full : length closure ≡ length fitting
+  pub one-shape : 0 < shapes
+  pub few-shapes : shapes ≤ maxShapes
+  pub few-places : length closure ≤ maxGrid
+
 -- All pairs of the closure fit and the grid stays; or the lowest that does not fit, and the grid is all 0.
 abbrev pub UnfitFound : List ℕ → List ℕ → ℕ → List ℕ → Unfit → Type 0
-UnfitFound closure fitting shapes after unfit.Nowhere = (after ≡ closure) × FirstMissing closure fitting (length closure)
+UnfitFound closure fitting shapes after unfit.Nowhere =
+    (after ≡ closure) × FirstMissing closure fitting (length closure)
 UnfitFound closure fitting shapes after (unfit.At card shape) =
     (after ≡ replicate (length closure) 0) × FirstMissing closure fitting (card .0 * shapes + shape .0)
     × (card .0 * shapes + shape .0 < length closure) × (shape .0 < shapes)

@@ -1,4 +1,8 @@
+-- Chain, Indexes: what the searches go by. Strikes, Tally: the search backwards. Follows: the one forwards.
+-- Closing: the closure of the bookings.
 pub mod Chain
-pub mod Search
+pub mod Indexes
+pub mod Strikes
 pub mod Tally
+pub mod Follows
 pub mod Closing

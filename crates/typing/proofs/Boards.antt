@@ -1,6 +1,7 @@
 -- The board of a script, a table of names and a grid of fits.
---   pairs-bound    it has at most 32,768 places
---   entries-bound  an entry of the table is at most 32
+--   pairs-bound    it has no more places than the greatest grid
+--   entries-bound  an entry of the table is at most the greatest number of shapes
+--   entry-shape    the shape that an entry names is a shape
 --   needs-in       what a pair needs is on the board
 --   board-lawful   its test is Proposition 8.1: the counts fit and the set has all that is needed
 -- Assumes nothing.
@@ -14,10 +15,11 @@ use native.Mathlib.Omega.{arith}
 use lib.Dec.{eqb}
 use lib.ListN.{getD}
 use borrow.Author.Tests.{eqb-true, eq-eqb}
-use Rattle.script.specs.Link.{fromAt, kindAt, toAt}
-use Rattle.board.specs.Grid.{on, all}
+use Rattle.script.specs.Link.{near, label, far}
+use Rattle.words.specs.Limits.{maxKinds, maxShapes, maxGrid}
+use Rattle.board.specs.Grid.{on}
+use Rattle.board.specs.Machine.{all}
 use Rattle.board.specs.Board.{Inside, Lawful}
-use Rattle.board.specs.Work.{entry}
 use Rattle.words.proofs.Bools.{never-both, true-or-false, is-false, and-first, and-second, and-both}
 use Rattle.board.proofs.Tally.{all-at, all-of, all-not}
 use Rattle.typing.specs.Needs.{entryAt, Needs, hasNamed, linkTest, metTest, boardOf, Ready}
@@ -53,28 +55,28 @@ pick-not false b h = never-both refl h
 -- ---- one link
 module _ (script names : List ℕ) (shapes : ℕ) (X : ℕ → Bool) (p : ℕ) where
   -- the test of the pair that link i leads to
-  abbrev far : ℕ → Bool
-  far i = hasNamed X (toAt script i * shapes) (entryAt names (p % shapes) (kindAt script i))
+  abbrev led-to : ℕ → Bool
+  led-to i = hasNamed X (far script i * shapes) (entryAt names (p % shapes) (label script i))
 
   link-at : (q : ℕ) (d : Needs script names shapes p q) → linkTest script names shapes X p (d .link) ≡ true → X q ≡ true
   unfolding linkTest
   link-at q d h =
       let i = d .link in
-      let here = eq-eqb (fromAt script i) (p / shapes) (d .starts) in
-      let there = pick-at (eqb (fromAt script i) (p / shapes)) (far i) h here in
+      let here = eq-eqb (near script i) (p / shapes) (d .starts) in
+      let there = pick-at (eqb (near script i) (p / shapes)) (led-to i) h here in
       subst (λ (x : ℕ). X x ≡ true) (sym (d .leads))
-      (named-at X (toAt script i * shapes) (entryAt names (p % shapes) (kindAt script i)) (d .shape) there
+      (named-at X (far script i * shapes) (entryAt names (p % shapes) (label script i)) (d .shape) there
       (d .names-it))
 
   link-of : (i : ℕ) → i < getD script 1 0 → ((q : ℕ) → Needs script names shapes p q → X q ≡ true)
       → linkTest script names shapes X p i ≡ true
   unfolding linkTest
-  link-of i l h = pick-of (eqb (fromAt script i) (p / shapes)) (far i) (λ e.
-      named-of X (toAt script i * shapes) (entryAt names (p % shapes) (kindAt script i)) (λ u n.
-      h (toAt script i * shapes + u) (record {
+  link-of i l h = pick-of (eqb (near script i) (p / shapes)) (led-to i) (λ e.
+      named-of X (far script i * shapes) (entryAt names (p % shapes) (label script i)) (λ u n.
+      h (far script i * shapes + u) (record {
         link = i;
         below = l;
-        starts = eqb-true (fromAt script i) (p / shapes) e;
+        starts = eqb-true (near script i) (p / shapes) e;
         shape = u;
         names-it = n;
         leads = refl;
@@ -84,13 +86,13 @@ module _ (script names : List ℕ) (shapes : ℕ) (X : ℕ → Bool) (p : ℕ) w
       → (q : ℕ) × Needs script names shapes p q × (X q ≡ false)
   unfolding linkTest
   link-not i l h =
-      let both = pick-not (eqb (fromAt script i) (p / shapes)) (far i) h in
-      let u = named-not X (toAt script i * shapes) (entryAt names (p % shapes) (kindAt script i)) (both .1) in (
-        toAt script i * shapes + u .0,
+      let both = pick-not (eqb (near script i) (p / shapes)) (led-to i) h in
+      let u = named-not X (far script i * shapes) (entryAt names (p % shapes) (label script i)) (both .1) in (
+        far script i * shapes + u .0,
         record {
           link = i;
           below = l;
-          starts = eqb-true (fromAt script i) (p / shapes) (both .0);
+          starts = eqb-true (near script i) (p / shapes) (both .0);
           shape = u .0;
           names-it = u .1;
           leads = refl;
@@ -100,23 +102,23 @@ module _ (script names : List ℕ) (shapes : ℕ) (X : ℕ → Bool) (p : ℕ) w
 
 -- ---- the board
 module _ {script names : List ℕ} {shapes : ℕ} (ready : Ready script names shapes) where
-  pub pairs-bound : getD script 0 0 * shapes ≤ 32768
+  pub pairs-bound : getD script 0 0 * shapes ≤ maxGrid
   pairs-bound = omega (arith, mul-le-mul (ready .few-cards) (ready .few-shapes))
 
-  pub entries-bound : (p : ℕ) → p < shapes * 64 → getD names p 0 ≤ 32
+  pub entries-bound : (p : ℕ) → p < shapes * maxKinds → getD names p 0 ≤ maxShapes
   entries-bound p l =
-      let row = card-in 64 (omega arith) shapes p l in
-      let here = ready .entry-in (p / 64) (p % 64) row (shape-in 64 (omega arith) p) in
-      omega (arith, here, ap (λ (x : ℕ). getD names x 0) (place-of 64 (omega arith) p), ready .few-shapes)
+      let some : 0 < maxKinds = omega arith in
+      let row = card-in maxKinds some shapes p l in
+      let here = ready .entry-in (p / maxKinds) (p % maxKinds) row (shape-in maxKinds some p) in
+      omega (arith, here, ap (λ (x : ℕ). getD names x 0) (place-of maxKinds some p), ready .few-shapes)
 
-  -- the shape that an entry names is a shape
-  pub entry-shape : (t i u : ℕ) → t < shapes → i < getD script 1 0 → entryAt names t (kindAt script i) ≡ suc u
+  pub entry-shape : (t i u : ℕ) → t < shapes → i < getD script 1 0 → entryAt names t (label script i) ≡ suc u
       → u < shapes
-  entry-shape t i u lt li e = omega (arith, ready .entry-in t (kindAt script i) lt (ready .kind-in i li), e)
+  entry-shape t i u lt li e = omega (arith, ready .entry-in t (label script i) lt (ready .kind-in i li), e)
 
   pub needs-in : (p q : ℕ) → Needs script names shapes p q → q < getD script 0 0 * shapes
   needs-in p q d = subst (λ (x : ℕ). x < getD script 0 0 * shapes) (sym (d .leads))
-      (place-in (getD script 0 0) shapes (toAt script (d .link)) (d .shape) (ready .to-in (d .link) (d .below))
+      (place-in (getD script 0 0) shapes (far script (d .link)) (d .shape) (ready .to-in (d .link) (d .below))
       (entry-shape (p % shapes) (d .link) (d .shape) (shape-in shapes (ready .one-shape) p) (d .below) (d .names-it)))
 
   module _ (fits : List ℕ) where

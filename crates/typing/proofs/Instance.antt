@@ -13,6 +13,7 @@ use mathlib.Core.Bool.{true}
 use mathlib.Core.List.{List, List·Memᴰ}
 use native.Mathlib.Omega.{arith}
 use lib.ListN.{length, getD, List·getD-eq-default}
+use Rattle.words.specs.Limits.{maxKinds}
 use Rattle.bags.specs.Part.{Names, Declares}
 use Rattle.bags.specs.Bag.{Fits}
 use Rattle.bags.specs.Interval.{count, fits}
@@ -22,7 +23,7 @@ use Rattle.bags.proofs.Exact.{fits-exact}
 use Rattle.bags.proofs.Decide.{list-decided}
 use Rattle.bags.proofs.Choosing.{met-exact}
 use Rattle.template.specs.Template.{Tabled}
-use Rattle.script.specs.Link.{kindAt, toAt, neighbours}
+use Rattle.script.specs.Link.{label, far, neighbours}
 use Rattle.script.proofs.Neighbours.{neighbours-exact}
 use Rattle.board.specs.Grid.{on}
 use Rattle.board.specs.Board.{Lawful}
@@ -53,13 +54,13 @@ module _ {words : List ℕ} {kinds : ℕ} {s : Sheet} (read : SheetAccepted word
       → CountsOf s n counts
   counts-all n counts room each k = ⊎-elim
       (λ l. List·getD-eq-default counts 0 l
-      ∙ sym (label-none (neighbours (s .script) n (s .links)) k (λ label far m e.
-      let (i, li, f, g, h) = neighbours-exact (s .script) n label far (s .links) .0 m in
+      ∙ sym (label-none (neighbours (s .script) n (s .links)) k (λ name card m e.
+      let (i, li, f, g, h) = neighbours-exact (s .script) n name card (s .links) .0 m in
       omega (arith, read .links .kind-below i li, g, e))))
       (λ l. each k l)
       (le-or-lt (length counts) k)
 
-  pub fits-counted : (n t : ℕ) (counts : List ℕ) → t < s .shapes → CountsOf s n counts
+  fits-counted : (n t : ℕ) (counts : List ℕ) → t < s .shapes → CountsOf s n counts
       → (fits (length counts) (partOf s t) (count counts) ≡ true)
       ↔ Fits (s .shapes) (partOf s t) (labelCount (neighboursOf s n t))
   fits-counted n t counts lt c =
@@ -80,20 +81,20 @@ module _ {words : List ℕ} {kinds : ℕ} {s : Sheet} (read : SheetAccepted word
       (λ e. exact .0 (sym here ∙ e), λ f. here ∙ exact .1 f)
 
   -- the counts fit, so the part names the label of each neighbour
-  neighbour-declared : (n t label far : ℕ) → t < s .shapes
+  neighbour-declared : (n t name card : ℕ) → t < s .shapes
       → Fits (s .shapes) (partOf s t) (labelCount (neighboursOf s n t))
-      → List·Memᴰ (to label far) (neighboursOf s n t) → (u : ℕ) × Declares (partOf s t) label u
-  neighbour-declared n t label far lt f m = by-name (names-dec (partOf s t) label)
+      → List·Memᴰ (to name card) (neighboursOf s n t) → (u : ℕ) × Declares (partOf s t) name u
+  neighbour-declared n t name card lt f m = by-name (names-dec (partOf s t) name)
     where
-      by-name : Dec (Names (partOf s t) label) → (u : ℕ) × Declares (partOf s t) label u
-      by-name (yes h) = names-declares (partOf s t) label h
+      by-name : Dec (Names (partOf s t) name) → (u : ℕ) × Declares (partOf s t) name u
+      by-name (yes h) = names-declares (partOf s t) name h
       by-name (no h) =
           let exact = fits-exact (s .shapes) (partOf s t) (labelCount (neighboursOf s n t))
           (read .shapes .single t lt) (read .shapes .shapes-below t lt) in
-          absurd (omega (arith, exact .0 f .1 label h, label-counted (neighboursOf s n t) label far m))
+          absurd (omega (arith, exact .0 f .1 name h, label-counted (neighboursOf s n t) name card m))
 
   -- ---- the table
-  kind-in : (i : ℕ) → i < s .links → kindAt (s .script) i < 64
+  kind-in : (i : ℕ) → i < s .links → label (s .script) i < maxKinds
   kind-in i l = omega (arith, read .links .kind-below i l, read .shapes .kinds-high)
 
   -- the script's own count of links
@@ -101,14 +102,14 @@ module _ {words : List ℕ} {kinds : ℕ} {s : Sheet} (read : SheetAccepted word
   links-below {i} l = subst (λ (x : ℕ). i < x) (sym (read .links .links)) l
 
   module _ (names : List ℕ) (table : Tabled (s .parts) names) where
-    pub entry-exact : (t k u : ℕ) → t < s .shapes → k < 64
+    entry-exact : (t k u : ℕ) → t < s .shapes → k < maxKinds
         → (entryAt names t k ≡ suc u) ↔ Declares (partOf s t) k u
     entry-exact t k u lt lk =
         let here = table t k (omega (arith, read .shapes .trees-length)) lk in
         let exact = named-exact (partOf s t) (read .shapes .single t lt) k u in
         (λ e. exact .0 (sym here ∙ e), λ d. here ∙ exact .1 d)
 
-    entry-in : (t k : ℕ) → t < s .shapes → k < 64 → entryAt names t k ≤ s .shapes
+    entry-in : (t k : ℕ) → t < s .shapes → k < maxKinds → entryAt names t k ≤ s .shapes
     entry-in t k lt lk = bounded (entryAt names t k) refl
       where
         bounded : (e : ℕ) → entryAt names t k ≡ e → e ≤ s .shapes
@@ -116,7 +117,7 @@ module _ {words : List ℕ} {kinds : ℕ} {s : Sheet} (read : SheetAccepted word
         bounded (suc u) e =
             declares-below (s .shapes) (partOf s t) (read .shapes .shapes-below t lt) k u (entry-exact t k u lt lk .0 e)
 
-    pub ready : s .shapes * 64 ≤ length names → Ready (s .script) names (s .shapes)
+    pub ready : s .shapes * maxKinds ≤ length names → Ready (s .script) names (s .shapes)
     ready room = record {
       one-shape = read .shapes .shapes-low;
       few-shapes = read .shapes .shapes-high;
@@ -139,8 +140,8 @@ module _ {words : List ℕ} {kinds : ℕ} {s : Sheet} (read : SheetAccepted word
           shape = d .shape;
           below = l;
           starts = d .starts ∙ card-of (s .shapes) (read .shapes .shapes-low) n t lt;
-          declares = entry-exact t (kindAt (s .script) (d .link)) (d .shape) lt (kind-in (d .link) l) .0
-              (ap (λ (x : ℕ). entryAt names x (kindAt (s .script) (d .link)))
+          declares = entry-exact t (label (s .script) (d .link)) (d .shape) lt (kind-in (d .link) l) .0
+              (ap (λ (x : ℕ). entryAt names x (label (s .script) (d .link)))
               (sym (shape-of (s .shapes) (read .shapes .shapes-low) n t lt)) ∙ d .names-it);
           leads = d .leads;
         }
@@ -151,14 +152,14 @@ module _ {words : List ℕ} {kinds : ℕ} {s : Sheet} (read : SheetAccepted word
       below = subst (λ (x : ℕ). f .link < x) (read .links .links) (f .below);
       starts = f .starts ∙ sym (card-of (s .shapes) (read .shapes .shapes-low) n t lt);
       shape = f .shape;
-      names-it = ap (λ (x : ℕ). entryAt names x (kindAt (s .script) (f .link)))
+      names-it = ap (λ (x : ℕ). entryAt names x (label (s .script) (f .link)))
           (shape-of (s .shapes) (read .shapes .shapes-low) n t lt)
-          ∙ entry-exact t (kindAt (s .script) (f .link)) (f .shape) lt (kind-in (f .link) (f .below)) .1 (f .declares);
+          ∙ entry-exact t (label (s .script) (f .link)) (f .shape) lt (kind-in (f .link) (f .below)) .1 (f .declares);
       leads = f .leads;
     }
 
     -- ---- Proposition 8.1 on the board
-    module _ (room : s .shapes * 64 ≤ length names) (grid : List ℕ) (right : FitsGrid s grid) where
+    module _ (room : s .shapes * maxKinds ≤ length names) (grid : List ℕ) (right : FitsGrid s grid) where
       abbrev law : Lawful (boardOf (s .script) names (s .shapes) grid)
       law = board-lawful (ready room) grid
 
@@ -169,18 +170,18 @@ module _ {words : List ℕ} {kinds : ℕ} {s : Sheet} (read : SheetAccepted word
           met-exact (s .shapes) (Has s X) (neighboursOf s n t) (partOf s t) (read .shapes .single t lt)
           (read .shapes .shapes-below t lt) .1 (
             f,
-            targets-of (Has s X) (partOf s t) (neighboursOf s n t) (λ label far m.
-                let (u, d) = neighbour-declared n t label far lt f m in
-                let (i, li, from, kind, far-is) = neighbours-exact (s .script) n label far (s .links) .0 m in (
+            targets-of (Has s X) (partOf s t) (neighboursOf s n t) (λ name card m.
+                let (u, d) = neighbour-declared n t name card lt f m in
+                let (i, li, from, kind, card-is) = neighbours-exact (s .script) n name card (s .links) .0 m in (
                   u,
                   d,
-                  law .met-dep X (place s n t) (place s far u) e (follows-needs n t (place s far u) lt (record {
+                  law .met-dep X (place s n t) (place s card u) e (follows-needs n t (place s card u) lt (record {
                     link = i;
                     shape = u;
                     below = li;
                     starts = from;
                     declares = subst (λ (k : ℕ). Declares (partOf s t) k u) (sym kind) d;
-                    leads = ap (λ (x : ℕ). place s x u) (sym far-is);
+                    leads = ap (λ (x : ℕ). place s x u) (sym card-is);
                   })),
                 )),
           )
@@ -192,12 +193,12 @@ module _ {words : List ℕ} {kinds : ℕ} {s : Sheet} (read : SheetAccepted word
           (read .shapes .single t lt) (read .shapes .shapes-below t lt) .0 m in
           law .met-of X (place s n t) (right n t ln lt .1 f) (λ q d.
           let w = needs-follows n t q lt d in
-          let k = kindAt (s .script) (w .link) in
-          let far = toAt (s .script) (w .link) in
-          let (u, declares, has) = targets-at (Has s X) (partOf s t) (neighboursOf s n t) targets k far
-          (neighbours-exact (s .script) n k far (s .links) .1 (w .link, w .below, w .starts, refl, refl)) in
+          let k = label (s .script) (w .link) in
+          let there = far (s .script) (w .link) in
+          let (u, declares, has) = targets-at (Has s X) (partOf s t) (neighboursOf s n t) targets k there
+          (neighbours-exact (s .script) n k there (s .links) .1 (w .link, w .below, w .starts, refl, refl)) in
           let same = declares-unique (partOf s t) (read .shapes .single t lt) k u (w .shape) declares (w .declares) in
-          subst (λ (x : ℕ). X x ≡ true) (ap (λ (x : ℕ). place s far x) same ∙ sym (w .leads)) has)
+          subst (λ (x : ℕ). X x ≡ true) (ap (λ (x : ℕ). place s there x) same ∙ sym (w .leads)) has)
 
       pub represents : Represents s (boardOf (s .script) names (s .shapes) grid)
       represents = record {

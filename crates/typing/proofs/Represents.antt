@@ -49,7 +49,7 @@ module _ {s : Sheet} {B : Board} (rep : Represents s B) where
   pub on-board : {p : ℕ} → p < size s → p < B .size
   on-board {p} l = subst (λ (x : ℕ). p < x) (sym (rep .sized)) l
 
-  pub off-board : {p : ℕ} → p < B .size → p < size s
+  off-board : {p : ℕ} → p < B .size → p < size s
   off-board {p} l = subst (λ (x : ℕ). p < x) (rep .sized) l
 
   pub pair-in : (n t : ℕ) → n < s .cards → t < s .shapes → place s n t < size s

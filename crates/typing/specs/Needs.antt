@@ -1,9 +1,10 @@
--- Which pairs a pair needs, by the script's words and the table of names; the board that they make with a grid of fits.
+-- Which pairs a pair needs, by the script's words and the table of names, and their board; no part of a promise.
 -- entryAt      a shape's entry for a label in the table of names: the shape named plus one, or 0
 -- Needs        the pair at place p needs the pair at place q: a link of p's card leads to q's card, and p's shape names
 --              q's shape for its kind
 -- metTest      the test of Proposition 8.1: the counts fit, and each link leads to a pair that is there
 -- boardOf      the board of a script, a table of names, and a grid that is 1 where the counts fit
+-- hasNamed, linkTest   a set has the pair that an entry asks for; that a link leads to
 -- Ready        a script and a table of names that fit together
 -- Assumes nothing.
 use Prim.Native.Nat.{ℕ, zero, suc, _+_, _*_, _/_, _%_, _≤_, _<_}
@@ -12,20 +13,24 @@ use mathlib.Core.List.{List}
 use mathlib.Core.Bool.{Bool, true, _&&_, cond}
 use lib.ListN.{length, getD}
 use lib.Dec.{eqb}
-use Rattle.board.specs.Grid.{on, all}
+use Rattle.words.specs.Limits.{maxKinds, maxShapes, maxCards, maxLinks}
+use Rattle.board.specs.Grid.{on}
+use Rattle.board.specs.Machine.{all}
 use Rattle.board.specs.Board.{Board}
-use Rattle.script.specs.Link.{fromAt, kindAt, toAt}
+use Rattle.script.specs.Link.{near, label, far}
 
+-- The entry of the shape t for the label k.
 abbrev pub entryAt : List ℕ → ℕ → ℕ → ℕ
-entryAt names t k = getD names (t * 64 + k) 0
+entryAt names t k = getD names (t * maxKinds + k) 0
 
+-- A link of p's card leads to q's card, and p's shape names q's shape for the link's kind.
 pub record Needs (script names : List ℕ) (shapes p q : ℕ) : Type 0 where
   pub link : ℕ
   pub below : link < getD script 1 0
-  pub starts : fromAt script link ≡ p / shapes
+  pub starts : near script link ≡ p / shapes
   pub shape : ℕ
-  pub names-it : entryAt names (p % shapes) (kindAt script link) ≡ suc shape
-  pub leads : q ≡ toAt script link * shapes + shape
+  pub names-it : entryAt names (p % shapes) (label script link) ≡ suc shape
+  pub leads : q ≡ far script link * shapes + shape
 
 -- The set has the far pair that an entry asks for; no entry asks for none.
 abbrev pub hasNamed : (ℕ → Bool) → ℕ → ℕ → Bool
@@ -35,13 +40,15 @@ hasNamed X base (suc u) = X (base + u)
 -- Link i does not start at p's card, or the set has the pair that it leads to.
 unfoldable pub linkTest : List ℕ → List ℕ → ℕ → (ℕ → Bool) → ℕ → ℕ → Bool
 linkTest script names shapes X p i =
-    cond (eqb (fromAt script i) (p / shapes))
-    (hasNamed X (toAt script i * shapes) (entryAt names (p % shapes) (kindAt script i)))
+    cond (eqb (near script i) (p / shapes))
+    (hasNamed X (far script i * shapes) (entryAt names (p % shapes) (label script i)))
     true
 
+-- The counts of the pair at p fit, and the set has the pair that each link of its card leads to.
 unfoldable pub metTest : List ℕ → List ℕ → ℕ → List ℕ → (ℕ → Bool) → ℕ → Bool
 metTest script names shapes fits X p = on fits p && all (linkTest script names shapes X p) (getD script 1 0)
 
+-- The pairs of the script's cards and so many shapes, which of them fit, and which pairs they need.
 abbrev pub boardOf : List ℕ → List ℕ → ℕ → List ℕ → Board
 boardOf script names shapes fits = record {
   size = getD script 0 0 * shapes;
@@ -53,12 +60,12 @@ boardOf script names shapes fits = record {
 -- A script and a table of names that fit together.
 pub record Ready (script names : List ℕ) (shapes : ℕ) : Type 0 where
   pub one-shape : 0 < shapes
-  pub few-shapes : shapes ≤ 32
-  pub few-cards : getD script 0 0 ≤ 1024
-  pub few-links : getD script 1 0 ≤ 8192
+  pub few-shapes : shapes ≤ maxShapes
+  pub few-cards : getD script 0 0 ≤ maxCards
+  pub few-links : getD script 1 0 ≤ maxLinks
   pub words : 2 + 3 * getD script 1 0 ≤ length script
-  pub from-in : (i : ℕ) → i < getD script 1 0 → fromAt script i < getD script 0 0
-  pub kind-in : (i : ℕ) → i < getD script 1 0 → kindAt script i < 64
-  pub to-in : (i : ℕ) → i < getD script 1 0 → toAt script i < getD script 0 0
-  pub table : shapes * 64 ≤ length names
-  pub entry-in : (t k : ℕ) → t < shapes → k < 64 → entryAt names t k ≤ shapes
+  pub from-in : (i : ℕ) → i < getD script 1 0 → near script i < getD script 0 0
+  pub kind-in : (i : ℕ) → i < getD script 1 0 → label script i < maxKinds
+  pub to-in : (i : ℕ) → i < getD script 1 0 → far script i < getD script 0 0
+  pub table : shapes * maxKinds ≤ length names
+  pub entry-in : (t k : ℕ) → t < shapes → k < maxKinds → entryAt names t k ≤ shapes

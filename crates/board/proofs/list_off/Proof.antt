@@ -54,13 +54,13 @@ loop-again c =
       omega arith,
       omega (arith, w .2),
       ap length (w .1) ∙ length-set queue (at-loop .loop .listed) place ∙ at-loop .loop .inv .2,
-      rw (w .1, w .2) (listed-add so-far (on-no grid place (w .0 .taken)) (omega arith)),
+      rw (w .1, w .2) (listed-add grid queue so-far (on-no grid place (w .0 .taken)) (omega arith)),
     ))
     (λ w. (
       omega arith,
       omega (arith, w .2),
       ap length (w .1) ∙ at-loop .loop .inv .2,
-      rw (w .1, w .2) (listed-skip so-far (on-yes grid place (w .0 .left))),
+      rw (w .1, w .2) (listed-skip grid queue so-far (on-yes grid place (w .0 .left))),
     ))
     (c .if1 .came)
 

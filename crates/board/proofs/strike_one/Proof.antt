@@ -28,7 +28,7 @@ slice-write-queue : tie.Need-slice-write-queue
 slice-write-queue c =
     let s = c .before .before in
     let stands = on-yes (now (s .args .grid)) (s .args .place) (c .if1 .taken) in
-    room-hit (entered s) (s .args .place) (s .pre .2) stands (s .pre .0)
+    room-hit (entered s) (s .args .place) (s .pre .room) stands (s .pre .on-board)
 
 add-result : tie.Need-add-result
 add-result c = search needs

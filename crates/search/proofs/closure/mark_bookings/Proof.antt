@@ -1,0 +1,157 @@
+-- `search::mark_bookings` turns the booked pairs off. The invariant: those of the first `i` bookings are off, and no
+-- others. Assumes nothing.
+use mathlib.Core.Path.{_∙_, _≡_, ap, refl, subst, sym}
+use Prim.Native.Nat.{_*_, _+_, _-_, _<_, _≤_, ℕ}
+use native.Mathlib.Nat.{mul-le-mul}
+use native.Mathlib.Omega.{arith}
+use lib.ListN.{length, length-set}
+use denote.Ref.{now}
+use borrow.Author.Needs.{needs}
+use Rattle.words.specs.Limits.{maxGrid}
+use Rattle.words.proofs.Places.{place-in}
+use Rattle.bookings.specs.Bookings.{cardAt, shapeAt}
+use Rattle.search.specs.Closing.{Marked}
+use Rattle.search.proofs.Marks.{card-word, marked-more, marked-none, shape-word}
+use Rattle.search.proofs.closure.mark_bookings.Statement.{statement}
+use Rattle.search.proofs.closure.mark_bookings.Tie as tie
+
+abbrev Inv-loop : tie.InvT-loop
+Inv-loop bookings count cards shapes grid₀ i₀ grid i =
+    (i ≤ count) × (length grid ≡ length grid₀) × Marked bookings shapes i grid
+
+abbrev μ-loop : tie.MeasureT-loop
+μ-loop bookings count cards shapes grid₀ i₀ grid i = count - i
+
+-- the loop's test and the function's entry, before the store
+abbrev Loop : tie.After-wide3 Inv-loop μ-loop → tie.At-loop Inv-loop μ-loop
+Loop a = a .before .before .before .before .before .before
+
+abbrev Start : tie.After-wide3 Inv-loop μ-loop → tie.Start Inv-loop μ-loop
+Start a = Loop a .before .before .before
+
+-- the card and the shape that are read are the booking's, and on the board
+card-here : (a : tie.After-wide3 Inv-loop μ-loop) →
+    a .before .before .wide2 .result ≡ cardAt (now (Start a .args .bookings)) (Loop a .loop .i)
+card-here a = a .before .before .wide2 .ensures .0 ∙ sym (card-word (now (Start a .args .bookings)) (Loop a .loop .i))
+
+shape-here : (a : tie.After-wide3 Inv-loop μ-loop) →
+    a .wide3 .result ≡ shapeAt (now (Start a .args .bookings)) (Loop a .loop .i)
+shape-here a = a .wide3 .ensures .0 ∙ sym (shape-word (now (Start a .args .bookings)) (Loop a .loop .i))
+
+place-here : (a : tie.After-wide3 Inv-loop μ-loop) → let s = Start a in
+    a .before .before .wide2 .result * s .args .shapes + a .wide3 .result < s .args .cards * s .args .shapes
+place-here a =
+    let s = Start a in
+    let (card, shape) = s .pre .booked-in (Loop a .loop .i) (omega arith) in
+    place-in (s .args .cards) (s .args .shapes) (a .before .before .wide2 .result) (a .wide3 .result)
+    (omega (arith, card, card-here a)) (omega (arith, shape, shape-here a))
+
+few-pairs : (s : tie.Start Inv-loop μ-loop) → s .args .cards * s .args .shapes ≤ maxGrid
+few-pairs s = omega (arith, mul-le-mul (s .pre .few-cards) (s .pre .few-shapes))
+
+loop-holds : tie.Need-loop-holds Inv-loop μ-loop
+loop-holds c =
+    let s = c .before .before in
+    (omega arith, refl, marked-none (now (s .args .bookings)) (s .args .shapes) (now (s .args .grid)) (s .pre .ones))
+
+wide-requires : tie.Need-wide-requires Inv-loop μ-loop
+wide-requires c κs = search needs
+
+mul-wide : tie.Need-mul-wide Inv-loop μ-loop
+mul-wide c = search needs
+
+add-wide : tie.Need-add-wide Inv-loop μ-loop
+add-wide c = search needs
+
+mul-wide-2 : tie.Need-mul-wide-2 Inv-loop μ-loop
+mul-wide-2 c = search needs
+
+shared-slice-read-wide : tie.Need-shared-slice-read-wide Inv-loop μ-loop
+shared-slice-read-wide c = search needs
+
+wide-requires-2 : tie.Need-wide-requires-2 Inv-loop μ-loop
+wide-requires-2 c κs = search needs
+
+mul-wide-3 : tie.Need-mul-wide-3 Inv-loop μ-loop
+mul-wide-3 c = search needs
+
+add-wide-2 : tie.Need-add-wide-2 Inv-loop μ-loop
+add-wide-2 c = search needs
+
+mul-wide-4 : tie.Need-mul-wide-4 Inv-loop μ-loop
+mul-wide-4 c = search needs
+
+shared-slice-read-wide-2 : tie.Need-shared-slice-read-wide-2 Inv-loop μ-loop
+shared-slice-read-wide-2 c = search needs
+
+wide-requires-3 : tie.Need-wide-requires-3 Inv-loop μ-loop
+wide-requires-3 c κs = search needs
+
+mul-grid : tie.Need-mul-grid Inv-loop μ-loop
+mul-grid c = omega (arith, place-here c, few-pairs (Start c))
+
+add-grid : tie.Need-add-grid Inv-loop μ-loop
+add-grid c = omega (arith, place-here c, few-pairs (Start c))
+
+slice-write-grid : tie.Need-slice-write-grid Inv-loop μ-loop
+slice-write-grid c = omega (arith, place-here c, Loop c .loop .inv .1, Start c .pre .full)
+
+add-i : tie.Need-add-i Inv-loop μ-loop
+add-i c = search needs
+
+loop-less : tie.Need-loop-less Inv-loop μ-loop
+loop-less c = search needs
+
+loop-again : tie.Need-loop-again Inv-loop μ-loop
+loop-again c =
+    let l = Loop c in
+    let s = Start c in
+    let card = c .before .before .wide2 .result in
+    let shape = c .wide3 .result in
+    let q = card * s .args .shapes + shape in
+    let i = l .loop .i in
+    let here =
+    ap (λ (x : ℕ). x * s .args .shapes + shape) (card-here c)
+    ∙ ap (λ (x : ℕ). cardAt (now (s .args .bookings)) i * s .args .shapes + x) (shape-here c) in (
+      omega arith,
+      length-set (l .loop .grid) q 0 ∙ l .loop .inv .1,
+      marked-more q (l .loop .inv .2) here (omega (arith, place-here c, l .loop .inv .1, s .pre .full)),
+    )
+
+same-length : tie.Need-same-length Inv-loop μ-loop
+same-length c = search needs
+
+returns : tie.Need-returns Inv-loop μ-loop
+returns c =
+    let l = c .before .before in
+    let s = l .before .before .before in
+    let all-bookings : l .loop .i ≡ s .args .count = omega arith in
+    let MarkedTo : ℕ → Type 0 = λ k. Marked (now (s .args .bookings)) (s .args .shapes) k (l .loop .grid) in
+    (subst MarkedTo all-bookings (l .loop .inv .2), l .loop .inv .1)
+
+pub mark-bookings-spec : {M : Type 1} → statement M
+mark-bookings-spec =
+    tie.close
+    (tie.spec
+    Inv-loop
+    μ-loop
+    loop-holds
+    wide-requires
+    mul-wide
+    add-wide
+    mul-wide-2
+    shared-slice-read-wide
+    wide-requires-2
+    mul-wide-3
+    add-wide-2
+    mul-wide-4
+    shared-slice-read-wide-2
+    wide-requires-3
+    mul-grid
+    add-grid
+    slice-write-grid
+    add-i
+    loop-less
+    loop-again
+    same-length
+    returns)

@@ -1,0 +1,66 @@
+// The closure of the bookings in a grid, and its lowest pair that does not fit.
+ghost use mathlib.Core.Path.{_≡_};
+ghost use lib.ListN.{length};
+ghost use Rattle.search.specs.Closing.{MarkAsked, Marked, CloseAsked, Closes, UnfitAsked, UnfitFound};
+use crate::Unfit;
+use crate::follow::flood;
+use board::fill;
+use board::first_missing;
+use board::flip;
+use board::list_off;
+use script::Card;
+use template::Shape;
+use words::wide;
+
+// Turns the pairs of the bookings off in a grid that has every pair.
+fn mark_bookings(bookings: &[u16], count: u16, cards: usize, shapes: usize, grid: &mut [u8])
+    requires { ⌜ MarkAsked (now bookings) count cards shapes (now grid) ⌝ }
+    ensures { λ _. ⌜ Marked (now (bookings .entry)) shapes count (now (grid .exit))
+        × (length (now (grid .exit)) ≡ length (now (grid .entry))) ⌝ }
+{
+    let mut i = 0;
+    while i < wide(count) {
+        let card = wide(bookings[1 + 2 * i]);
+        let shape = wide(bookings[2 + 2 * i]);
+        grid[card * shapes + shape] = 0;
+        i += 1;
+    }
+}
+
+// Writes the closure of the bookings into the grid, whatever it held, and returns its number of pairs.
+pub fn close(
+    script: &[u16],
+    bookings: &[u16],
+    count: u16,
+    names: &[u8],
+    starts: &[u16],
+    cards: usize,
+    shapes: usize,
+    grid: &mut [u8],
+    queue: &mut [u16],
+) -> usize
+    requires { ⌜ CloseAsked (now script) (now bookings) count (now names) (now starts) cards shapes
+        (now grid) (now queue) ⌝ }
+    ensures { λ r. ⌜ Closes (now (script .entry)) (now (names .entry)) shapes (now (bookings .entry)) count
+        (now (grid .exit)) r ⌝ }
+{
+    fill(grid, 1);
+    mark_bookings(bookings, count, cards, shapes, grid);
+    let booked = list_off(grid, queue);
+    let found = flood(script, starts, names, shapes, grid, queue, booked);
+    flip(grid);
+    found
+}
+
+// Finds the lowest pair of a closure that does not fit. The grid stays where there is none, and is else all 0.
+pub fn first_unfit(grid: &mut [u8], fitting: &[u8], shapes: usize) -> Unfit
+    requires { ⌜ UnfitAsked (now grid) (now fitting) shapes ⌝ }
+    ensures { λ r. ⌜ UnfitFound (now (grid .entry)) (now (fitting .entry)) shapes (now (grid .exit)) r ⌝ }
+{
+    let p = first_missing(grid, fitting);
+    if p < grid.len() {
+        fill(grid, 0);
+        return Unfit::At(Card((p / shapes) as u16), Shape((p % shapes) as u16));
+    }
+    Unfit::Nowhere
+}
