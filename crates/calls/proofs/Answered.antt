@@ -9,7 +9,9 @@ use mathlib.Core.List.{List, [], _∷_}
 use lib.ListN.{length}
 use borrow.Author.Tests.{eq-eqb, ne-eqb}
 use Rattle.words.specs.Said.{Said, refusal}
-use Rattle.sheet.specs.Sheet.{Sheet, size, ask, turnedDown, readSheet}
+use Rattle.words.specs.Reading.{accepted, turnedDown, then}
+use Rattle.sheet.specs.Sheet.{Sheet, size, readSheet}
+use Rattle.bookings.specs.Bookings.{Booked}
 use Rattle.typing.specs.Answer.{BothSaid}
 use Rattle.typing.specs.Calls.{withBookings, LargestFound, LargestSays, SmallestFound, SmallestSays, BothFound, Grids}
 use Rattle.typing.specs.Calls.{BothSays}
@@ -24,7 +26,7 @@ module _ (template script : List ℕ) where
       → LargestSays template script grid grid (refusal number (place ∷ []))
   largest-refused grid number place h = rw h (refl, refl)
 
-  module _ (s : Sheet) (h : readSheet template script ≡ ask s) where
+  module _ (s : Sheet) (h : readSheet template script ≡ accepted s) where
     pub largest-size : (grid : List ℕ) → (length grid ≡ size s → ⊥)
         → LargestSays template script grid grid (refusal 40 (0 ∷ []))
     largest-size grid ne = rw (h, ne-eqb (length grid) (size s) ne) (refl, refl)
@@ -34,7 +36,7 @@ module _ (template script : List ℕ) where
     largest-done before after said e same found = rw (same, h, eq-eqb (length before) (size s) e) found
 
   module _ (bookings : List ℕ) where
-    module _ (number place : ℕ) (h : withBookings bookings (readSheet template script) ≡ turnedDown number place) where
+    module _ (number place : ℕ) (h : then (readSheet template script) (withBookings bookings) ≡ turnedDown number place) where
       pub smallest-refused : (grid : List ℕ)
           → SmallestSays template script bookings grid grid (refusal number (place ∷ []))
       smallest-refused grid = rw h (refl, refl)
@@ -42,13 +44,13 @@ module _ (template script : List ℕ) where
       pub both-refused : (grids : Grids) → BothSays template script bookings grids grids (twice number place)
       both-refused grids = rw h (refl, refl)
 
-    module _ (s : Sheet) (h : withBookings bookings (readSheet template script) ≡ ask s) where
+    module _ (s : Sheet) (h : then (readSheet template script) (withBookings bookings) ≡ accepted s) where
       pub smallest-size : (grid : List ℕ) → (length grid ≡ size s → ⊥)
           → SmallestSays template script bookings grid grid (refusal 40 (0 ∷ []))
       smallest-size grid ne = rw (h, ne-eqb (length grid) (size s) ne) (refl, refl)
 
       pub smallest-done : (before after : List ℕ) (said : Said) {told : Said} → length before ≡ size s
-          → said ≡ told → SmallestFound s bookings after told → SmallestSays template script bookings before after said
+          → said ≡ told → SmallestFound s (Booked bookings) after told → SmallestSays template script bookings before after said
       smallest-done before after said e same found = rw (same, h, eq-eqb (length before) (size s) e) found
 
       pub both-small : (grids : Grids) → (length (grids .small) ≡ size s → ⊥)
@@ -62,7 +64,7 @@ module _ (template script : List ℕ) where
 
       pub both-done : (before after : Grids) (said : BothSaid) {told : BothSaid}
           → length (before .small) ≡ size s → length (before .large) ≡ size s
-          → said ≡ told → BothFound s bookings (after .small) (after .large) told
+          → said ≡ told → BothFound s (Booked bookings) (after .small) (after .large) told
           → BothSays template script bookings before after said
       both-done before after said e f same found =
           rw (same, h, eq-eqb (length (before .small)) (size s) e, eq-eqb (length (before .large)) (size s) f) found

@@ -12,40 +12,45 @@ use native.Mathlib.Nat.{mul-le-mul}
 use native.Mathlib.Omega.{arith}
 use lib.ListN.{length, getD}
 use Rattle.words.specs.Limits.{maxKinds, maxCards, maxGrid}
-use Rattle.template.specs.Template.{Tabled}
+use Rattle.words.specs.Reading.{accepted}
+use Rattle.words.proofs.Readings.{accepted-same}
+use Rattle.template.specs.Template.{Template, Tabled}
 use Rattle.script.specs.Link.{Ascending, below}
+use Rattle.script.specs.Script.{ScriptCounts, countsOf}
 use Rattle.script.specs.Steps.{StartsOf}
-use Rattle.sheet.specs.Sheet.{Sheet, ask, readSheet}
-use Rattle.sheet.specs.Opened.{Known}
+use Rattle.sheet.specs.Sheet.{Sheet, sheetOf, readSheet}
+use Rattle.sheet.specs.Opened.{templateAs, Known}
 use Rattle.sheet.specs.declared.Extent.{Extent}
-use Rattle.sheet.proofs.Accepted.{SheetAccepted, sheetOf, sheet-asked, sheet-made}
+use Rattle.sheet.proofs.Accepted.{SheetAccepted, sheet-asked, sheet-made}
 use Rattle.typing.specs.Needs.{Ready}
 use Rattle.typing.proofs.Instance as instance
-use Rattle.search.specs.Search.{Starts}
+use Rattle.search.specs.Indexes.{Starts}
 use Rattle.search.proofs.Indexes.{starts-of}
 
 module _ {template script names : List ℕ} {e : Extent} (k : Known template script names e) where
+  abbrev pub shaped : Template
+  shaped = templateAs (e .kinds) (e .shapes) (k .opened .parts)
+
+  abbrev counts : ScriptCounts
+  counts = countsOf (e .cards) (e .links)
+
   abbrev pub sheet : Sheet
-  sheet = sheetOf (e .shapes) (k .opened .parts) (e .cards) (e .links) script
+  sheet = sheetOf shaped counts script
 
-  pub asked : readSheet template script ≡ ask sheet
-  asked =
-      sheet-asked template script (e .kinds) (e .shapes) (k .opened .parts) (e .cards) (e .links)
-      (k .opened .template-read) (k .opened .script-read)
+  pub asked : readSheet template script ≡ accepted sheet
+  asked = sheet-asked template script shaped counts (k .opened .template-read) (k .opened .script-read)
 
-  pub same-sheet : (s : Sheet) → readSheet template script ≡ ask s → sheet ≡ s
-  same-sheet s q = let same : ask sheet ≡ ask s = sym asked ∙ q in cc
+  pub same-sheet : (s : Sheet) → readSheet template script ≡ accepted s → sheet ≡ s
+  same-sheet s q = accepted-same (sym asked ∙ q)
 
   pub read : SheetAccepted template (e .kinds) sheet
-  read =
-      sheet-made template script (e .kinds) (e .shapes) (k .opened .parts) (e .cards) (e .links)
-      (k .opened .template-read) (k .opened .script-read)
+  read = sheet-made template script shaped counts (k .opened .template-read) (k .opened .script-read)
 
   pub few-pairs : e .cards * e .shapes ≤ maxGrid
   few-pairs = mul-le-mul (read .links .cards-bound) (read .shapes .shapes-high)
 
   pub tabled : Tabled (k .opened .parts) names
-  tabled = k .table (e .kinds) (e .shapes) (k .opened .parts) (k .opened .template-read)
+  tabled = k .table shaped (k .opened .template-read)
 
   pub rows : e .shapes * maxKinds ≤ length names
   rows = omega (arith, read .shapes .shapes-high, k .room)

@@ -8,7 +8,8 @@ use mathlib.Core.Path.{_≡_, refl, sym, ap, _∙_, subst}
 use mathlib.Core.List.{List}
 use lib.ListN.{length}
 use Rattle.words.specs.Limits.{tableSize}
-use Rattle.sheet.specs.Sheet.{ask, turnedDown, readSheet}
+use Rattle.words.specs.Reading.{accepted, turnedDown, then}
+use Rattle.sheet.specs.Sheet.{readSheet}
 use Rattle.sheet.specs.Opened.{TableOf, ReadAs, Known}
 use Rattle.sheet.specs.declared.Extent.{Extent}
 use Rattle.sheet.specs.declared.SheetRead.{SheetRead}
@@ -32,14 +33,14 @@ module _ (template script : List ℕ) {r : SheetRead} (h : ReadAs template scrip
   refused-by q = subst (ReadAs template script) q h
 
   pub sheet-refused : (bookings : List ℕ) {number place : ℕ} → r ≡ read.Refused number place
-      → withBookings bookings (readSheet template script) ≡ turnedDown number place
+      → then (readSheet template script) (withBookings bookings) ≡ turnedDown number place
   sheet-refused bookings q = rw (refused-by q) refl
 
 -- The booking list of a sheet that is read, by what reading it found.
 module _ {template script names : List ℕ} {e : Extent} (k : Known template script names e) (bookings : List ℕ)
     {r : BookingRead} (h : bookingReading r ≡ readBookings (e .cards) (e .shapes) bookings) where
   pub list-refused : {number place : ℕ} → r ≡ list.Refused number place
-      → withBookings bookings (readSheet template script) ≡ turnedDown number place
+      → then (readSheet template script) (withBookings bookings) ≡ turnedDown number place
   list-refused q = rw (asked k, sym h ∙ ap bookingReading q) refl
 
   pub listed-by : {count : ℕ} → r ≡ list.Listed count → Listed template script names e bookings count
@@ -47,5 +48,5 @@ module _ {template script names : List ℕ} {e : Extent} (k : Known template scr
 
 pub listed-asked : {template script names : List ℕ} {e : Extent} {bookings : List ℕ} {count : ℕ}
     (l : Listed template script names e bookings count)
-    → withBookings bookings (readSheet template script) ≡ ask (sheet (l .known))
+    → then (readSheet template script) (withBookings bookings) ≡ accepted (sheet (l .known))
 listed-asked l = rw (asked (l .known), l .list) refl

@@ -9,14 +9,16 @@ use mathlib.Core.List.{List, [], _∷_}
 use native.Mathlib.Omega.{arith}
 use lib.ListN.{length, replicate}
 use Rattle.words.specs.Said.{values, refusal}
+use Rattle.words.specs.Reading.{accepted}
 use Rattle.template.specs.declared.Shape.{Shape}
 use Rattle.script.specs.declared.Card.{Card}
-use Rattle.board.specs.Grid.{on, FirstMissing}
+use Rattle.board.specs.Grid.{on}
+use Rattle.board.specs.Machine.{FirstMissing}
 use Rattle.board.specs.Board.{Flooded}
 use Rattle.board.proofs.Closure.{flooded-books}
 use Rattle.sheet.specs.Sheet.{Sheet, size}
 use Rattle.sheet.specs.declared.Extent.{Extent}
-use Rattle.bookings.specs.Bookings.{BookingReading, readBookings, cardAt, shapeAt, Booked}
+use Rattle.bookings.specs.Bookings.{readBookings, cardAt, shapeAt, Booked}
 use Rattle.bookings.proofs.Accepted.{bookings-in, bookings-count, bookings-size}
 use Rattle.typing.specs.Needs.{boardOf}
 use Rattle.typing.specs.Answer.{BothSaid}
@@ -26,12 +28,12 @@ use Rattle.typing.proofs.Demand.{both-found}
 use Rattle.search.specs.declared.Unfit.{Unfit}
 use Rattle.search.specs.declared.Unfit.the-variants as unfit
 use Rattle.search.specs.Closing.{BookedAt, Closes, UnfitFound}
-use Rattle.calls.specs.Steps.{Tested}
+use Rattle.calls.specs.Steps.{SheetTested}
 use Rattle.calls.proofs.Known.{read}
 use Rattle.calls.proofs.Tested.{cards-same, shapes-same, full, stands}
 
 module _ (cards shapes : ℕ) (bookings : List ℕ) {count : ℕ}
-    (list : readBookings cards shapes bookings ≡ BookingReading.accepted count) where
+    (list : readBookings cards shapes bookings ≡ accepted count) where
   pub listed-room : 1 + 2 * count ≤ length bookings
   listed-room =
       omega (
@@ -49,11 +51,11 @@ module _ (cards shapes : ℕ) (bookings : List ℕ) {count : ℕ}
         shape = refl;
       })
 
-module _ {s : Sheet} {script names : List ℕ} {e : Extent} {grid : List ℕ} (t : Tested s script names e grid)
+module _ {s : Sheet} {script names : List ℕ} {e : Extent} {grid : List ℕ} (t : SheetTested s script names e grid)
     (bookings : List ℕ) {count : ℕ}
-    (list : readBookings (e .cards) (e .shapes) bookings ≡ BookingReading.accepted count)
+    (list : readBookings (e .cards) (e .shapes) bookings ≡ accepted count)
   where
-    listed : readBookings (s .cards) (s .shapes) bookings ≡ BookingReading.accepted count
+    listed : readBookings (s .cards) (s .shapes) bookings ≡ accepted count
     listed = rw (cards-same t, shapes-same t) list
 
     booked-in : BookedIn s (Booked bookings)
@@ -84,8 +86,8 @@ module _ {s : Sheet} {script names : List ℕ} {e : Extent} {grid : List ℕ} (t
 
     -- both answers
     pub both-of-found : {small large : List ℕ} {said : BothSaid}
-        → LargestFound s large (said .largest) → SmallestFound s bookings small (said .smallest)
-        → BothFound s bookings small large said
+        → LargestFound s large (said .largest) → SmallestFound s (Booked bookings) small (said .smallest)
+        → BothFound s (Booked bookings) small large said
     both-of-found l m = both-found (stands t) booked-in l m
 
     module _ {closure : List ℕ} {found : ℕ}
@@ -100,7 +102,7 @@ module _ {s : Sheet} {script names : List ℕ} {e : Extent} {grid : List ℕ} (t
       sized = rw (cards-same t, shapes-same t) closure-full
 
       -- every pair of the closure fits: it is the smallest typing
-      pairs-by : FirstMissing closure grid (length closure) → SmallestFound s bookings closure (values (found ∷ []))
+      pairs-by : FirstMissing closure grid (length closure) → SmallestFound s (Booked bookings) closure (values (found ∷ []))
       pairs-by none =
           pairs-found (stands t) booked-in flooded closure
           (record { full = sized; bytes = λ p l. closes .marks p (omega (arith, sized)) })
@@ -109,7 +111,7 @@ module _ {s : Sheet} {script names : List ℕ} {e : Extent} {grid : List ℕ} (t
       -- the lowest that does not fit is 50's
       not-met-by : (n u : ℕ) → u < s .shapes → n * s .shapes + u < length closure
           → FirstMissing closure grid (n * s .shapes + u)
-          → SmallestFound s bookings (replicate (length closure) 0) (refusal 50 (n ∷ u ∷ []))
+          → SmallestFound s (Booked bookings) (replicate (length closure) 0) (refusal 50 (n ∷ u ∷ []))
       not-met-by n u lu l first =
           let (here, off) = first .missing l in
           rw sized (not-met-found (stands t) booked-in flooded n u lu (omega (arith, sized)) here off
@@ -117,15 +119,15 @@ module _ {s : Sheet} {script names : List ℕ} {e : Extent} {grid : List ℕ} (t
 
       -- the answer by the verdict on the closure's pairs
       module _ {after : List ℕ} {v : Unfit} (judged : UnfitFound closure grid (e .shapes) after v) where
-        pub met-found : v ≡ unfit.Nowhere → SmallestFound s bookings after (values (found ∷ []))
+        pub met-found : v ≡ unfit.Nowhere → SmallestFound s (Booked bookings) after (values (found ∷ []))
         met-found h =
             let (same, none) = subst (UnfitFound closure grid (e .shapes) after) h judged in
-            subst (λ (g : List ℕ). SmallestFound s bookings g (values (found ∷ []))) (sym same) (pairs-by none)
+            subst (λ (g : List ℕ). SmallestFound s (Booked bookings) g (values (found ∷ []))) (sym same) (pairs-by none)
 
         pub unmet-found : {card : Card} {shape : Shape} → v ≡ unfit.At card shape
-            → SmallestFound s bookings after (refusal 50 (card .0 ∷ shape .0 ∷ []))
+            → SmallestFound s (Booked bookings) after (refusal 50 (card .0 ∷ shape .0 ∷ []))
         unmet-found {card} {shape} h =
             let (same, first, inside, small) =
             rw (sym (shapes-same t)) at (subst (UnfitFound closure grid (e .shapes) after) h judged) in
-            subst (λ (g : List ℕ). SmallestFound s bookings g (refusal 50 (card .0 ∷ shape .0 ∷ []))) (sym same)
+            subst (λ (g : List ℕ). SmallestFound s (Booked bookings) g (refusal 50 (card .0 ∷ shape .0 ∷ []))) (sym same)
             (not-met-by (card .0) (shape .0) small inside first)

@@ -7,19 +7,20 @@ use mathlib.Core.List.{List, [], _∷_}
 use native.Mathlib.Omega.{arith}
 use lib.ListN.{length}
 use Rattle.words.specs.Said.{values}
-use Rattle.board.specs.Grid.{on, Marks}
+use Rattle.board.specs.Grid.{on}
+use Rattle.board.specs.Machine.{Marks}
 use Rattle.sheet.specs.Sheet.{Sheet}
 use Rattle.sheet.specs.declared.Extent.{Extent}
 use Rattle.typing.specs.Needs.{boardOf}
 use Rattle.typing.specs.Largest.{bareCards}
 use Rattle.typing.specs.Calls.{LargestFound}
 use Rattle.typing.proofs.Largest.{largest-found}
-use Rattle.search.specs.Search.{Searched}
-use Rattle.calls.specs.Steps.{Tested}
+use Rattle.search.specs.Strikes.{Searched}
+use Rattle.calls.specs.Steps.{SheetTested}
 use Rattle.calls.proofs.Tested.{full, marks, stands}
 
 pub struck-found : {s : Sheet} {script names : List ℕ} {e : Extent} {grid after : List ℕ} {rounds struck bare : ℕ}
-    → Tested s script names e grid
+    → SheetTested s script names e grid
     → Searched (boardOf script names (e .shapes) grid) (on after) rounds struck
     → length after ≡ length grid → (Marks grid → Marks after) → bare ≡ bareCards s (on after)
     → LargestFound s after (values (rounds ∷ struck ∷ bare ∷ []))

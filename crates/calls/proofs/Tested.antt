@@ -13,26 +13,28 @@ use mathlib.Core.List.{List}
 use native.Mathlib.Omega.{arith}
 use lib.ListN.{length, getD}
 use Rattle.bags.specs.Part.{Part}
-use Rattle.bags.specs.Interval.{fits}
+use Rattle.bags.specs.Interval.{count, fits}
 use Rattle.words.specs.Limits.{maxGrid}
+use Rattle.words.specs.Reading.{accepted}
 use Rattle.words.proofs.Places.{card-in, shape-in, place-of}
-use Rattle.board.specs.Grid.{on, Marks}
+use Rattle.board.specs.Grid.{on}
+use Rattle.board.specs.Machine.{Marks}
 use Rattle.board.proofs.Grids.{on-yes, on-no}
-use Rattle.template.specs.Template.{TemplateReading, readTemplate}
+use Rattle.template.specs.Template.{readTemplate}
 use Rattle.script.specs.Steps.{StartsOf}
 use Rattle.sheet.specs.Sheet.{Sheet, size}
-use Rattle.sheet.specs.Opened.{Known}
+use Rattle.sheet.specs.Opened.{templateAs, Known}
 use Rattle.sheet.specs.declared.Extent.{Extent}
 use Rattle.typing.specs.Needs.{boardOf}
 use Rattle.typing.proofs.Represents.{Represents}
 use Rattle.typing.proofs.Instance.{FitsGrid, fits-grid, represents}
 use Rattle.fits.specs.Fitting.{Fitted}
-use Rattle.calls.specs.Steps.{Tested, PairsTested}
+use Rattle.calls.specs.Steps.{SheetTested, PairsTested}
 use Rattle.calls.proofs.Known.{sheet, same-sheet, read, few-pairs, tabled, rows}
 
 pub pairs-tested : {template script names : List ℕ} {e : Extent} {starts fitting : List ℕ}
     (k : Known template script names e) → StartsOf script starts (e .cards) (e .links)
-    → ((kinds : ℕ) (parts : List Part) → readTemplate template ≡ TemplateReading.accepted kinds (e .shapes) parts
+    → ((kinds : ℕ) (parts : List Part) → readTemplate template ≡ accepted (templateAs kinds (e .shapes) parts)
     → Fitted script (e .links) (e .cards) (e .shapes) parts fitting)
     → PairsTested template script names e starts fitting
 pairs-tested {template} {script} {names} {e} {starts} {fitting} k links fit = record {
@@ -55,7 +57,7 @@ byte-one : {x : ℕ} (b : Bool) → x ≡ cond b 1 0 → (x ≡ 0) ⊎ (x ≡ 1)
 byte-one true h = inr h
 byte-one false h = inl h
 
-module _ {s : Sheet} {script names : List ℕ} {e : Extent} {grid : List ℕ} (t : Tested s script names e grid) where
+module _ {s : Sheet} {script names : List ℕ} {e : Extent} {grid : List ℕ} (t : SheetTested s script names e grid) where
   same : sheet (t .known) ≡ s
   same = same-sheet (t .known) s (t .asked)
 
@@ -84,7 +86,7 @@ module _ {s : Sheet} {script names : List ℕ} {e : Extent} {grid : List ℕ} (t
       let b = t .fits .each (p / e .shapes) (p % e .shapes) (card-in (e .shapes) one (e .cards) p inside)
       (shape-in (e .shapes) one p) in
       subst (λ (x : ℕ). (getD grid x 0 ≡ 0) ⊎ (getD grid x 0 ≡ 1)) (place-of (e .shapes) one p)
-      (byte-one (fits (getD (s .parts) (p % e .shapes) Part.nothing) (b .counts)) (b .test))
+      (byte-one (fits (length (b .counts)) (getD (s .parts) (p % e .shapes) Part.nothing) (count (b .counts))) (b .test))
 
   fits-right : FitsGrid (sheet (t .known)) grid
   fits-right = fits-grid (read (t .known)) grid (λ n u ln lu.

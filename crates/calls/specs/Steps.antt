@@ -1,5 +1,5 @@
 -- What the steps of a call ask for and leave behind; no part of a promise.
--- Tested        a sheet that is read, its table of names, and the grid of the pairs that fit by counts
+-- SheetTested   a sheet that is read, its table of names, and the grid of the pairs that fit by counts
 -- PairsTested   each sheet that the readings ask for is; and where each card's links start
 -- Listed        a sheet with its table of names and a booking list, all read; BookedAs: what reading them finds
 -- Sized, Lent   what is read, with a grid or two grids of the sheet's size
@@ -11,11 +11,12 @@ use mathlib.Core.Path.{_≡_}
 use mathlib.Core.List.{List, [], _∷_}
 use lib.ListN.{length}
 use Rattle.words.specs.Said.{Said, values, refusal}
+use Rattle.words.specs.Reading.{accepted, turnedDown, then}
 use Rattle.script.specs.Steps.{StartsOf}
-use Rattle.sheet.specs.Sheet.{Sheet, ask, turnedDown, readSheet}
+use Rattle.sheet.specs.Sheet.{Sheet, readSheet}
 use Rattle.sheet.specs.Opened.{Known}
 use Rattle.sheet.specs.declared.Extent.{Extent}
-use Rattle.bookings.specs.Bookings.{BookingReading, readBookings}
+use Rattle.bookings.specs.Bookings.{readBookings}
 use Rattle.typing.specs.Answer.{BothSaid}
 use Rattle.typing.specs.Calls.{withBookings}
 use Rattle.fits.specs.Fitting.{Fitted}
@@ -27,27 +28,27 @@ use Rattle.calls.specs.declared.BookedRead.{BookedRead}
 use Rattle.calls.specs.declared.BookedRead.the-variants as read
 
 -- The sheet s is read from some template and the script, and the grid is 1 where the counts of a pair fit, else 0.
-pub record Tested (s : Sheet) (script names : List ℕ) (e : Extent) (fitting : List ℕ) : Type 0 where
+pub record SheetTested (s : Sheet) (script names : List ℕ) (e : Extent) (fitting : List ℕ) : Type 0 where
   pub template : List ℕ
   pub known : Known template script names e
-  pub asked : readSheet template script ≡ ask s
+  pub asked : readSheet template script ≡ accepted s
   pub fits : Fitted script (e .links) (e .cards) (e .shapes) (s .parts) fitting
 
 -- What testing the pairs leaves: where each card's links start, and which pairs fit.
 pub record PairsTested (template script names : List ℕ) (e : Extent) (starts fitting : List ℕ) : Type 0 where
   pub links : StartsOf script starts (e .cards) (e .links)
-  pub tested : (s : Sheet) → readSheet template script ≡ ask s → Tested s script names e fitting
+  pub tested : (s : Sheet) → readSheet template script ≡ accepted s → SheetTested s script names e fitting
 
 -- A sheet with its table of names, and a booking list of so many bookings for it.
 pub record Listed (template script names : List ℕ) (e : Extent) (bookings : List ℕ) (count : ℕ) : Type 0 where
   pub known : Known template script names e
-  pub list : readBookings (e .cards) (e .shapes) bookings ≡ BookingReading.accepted count
+  pub list : readBookings (e .cards) (e .shapes) bookings ≡ accepted count
 
 -- What reading template, script and bookings finds, in this order.
 abbrev pub BookedAs : List ℕ → List ℕ → List ℕ → List ℕ → BookedRead → Type 0
 BookedAs template script names bookings (read.Sheet e count) = Listed template script names e bookings count
 BookedAs template script names bookings (read.Refused number place) =
-    withBookings bookings (readSheet template script) ≡ turnedDown number place
+    then (readSheet template script) (withBookings bookings) ≡ turnedDown number place
 
 -- A sheet with its table of names, and a grid of its size.
 pub record Sized (template script names : List ℕ) (e : Extent) (grid : List ℕ) : Type 0 where
@@ -65,8 +66,8 @@ pub record Lent (template script names : List ℕ) (e : Extent) (bookings : List
 pub record Settling (script names : List ℕ) (e : Extent) (fitting bookings : List ℕ) (count : ℕ) (starts grid : List ℕ)
     : Type 0 where
   pub sheet : Sheet
-  pub tested : Tested sheet script names e fitting
-  pub list : readBookings (e .cards) (e .shapes) bookings ≡ BookingReading.accepted count
+  pub tested : SheetTested sheet script names e fitting
+  pub list : readBookings (e .cards) (e .shapes) bookings ≡ accepted count
   pub links : StartsOf script starts (e .cards) (e .links)
   pub size : length grid ≡ e .cards * e .shapes
 

@@ -5,12 +5,14 @@ ghost use mathlib.Core.Path.{_≡_};
 ghost use Prim.Native.Nat.{_*_, _≤_};
 ghost use lib.ListN.{length, replicate};
 ghost use Rattle.words.specs.Limits.{maxCards, maxShapes, tableSize};
+ghost use Rattle.words.specs.Reading.{accepted};
 ghost use Rattle.board.specs.Grid.{on};
-ghost use Rattle.sheet.specs.Sheet.{Sheet, ask, readSheet};
+ghost use Rattle.sheet.specs.Sheet.{Sheet, readSheet};
+ghost use Rattle.bookings.specs.Bookings.{Booked};
 ghost use Rattle.typing.specs.Answer.{largestSaid, smallestSaid, bothSaid};
 ghost use Rattle.typing.specs.Largest.{bareCards};
 ghost use Rattle.typing.specs.Calls.{LargestFound, LargestSays, SmallestFound, SmallestSays, BothFound, BothSays};
-ghost use Rattle.calls.specs.Steps.{Tested, PairsTested, BookedAs, Sized, Lent, Settling};
+ghost use Rattle.calls.specs.Steps.{SheetTested, PairsTested, BookedAs, Sized, Lent, Settling};
 ghost use Rattle.calls.specs.Steps.{struckSaid, settledSaid, bothOf};
 use board::count_on;
 use bookings::BookingRead;
@@ -63,7 +65,7 @@ pub enum BookedRead {
 }
 
 // The number of pairs of a sheet: the bytes of its grid.
-fn grid_size(e: Extent) -> usize
+pub fn grid_size(e: Extent) -> usize
     ensures { λ r. ⌜ r ≡ e .cards * e .shapes ⌝ }
 {
     (e.cards as usize) * (e.shapes as usize)
@@ -137,8 +139,8 @@ fn strike(
     grid: &mut [u8],
     queue: &mut [u16; MAX_GRID],
 ) -> Struck
-    requires { ⌜ ((s : Sheet) × Tested s (now script) (now names) e (now grid)) ⌝ }
-    ensures { λ r. ⌜ ((s : Sheet) → Tested s (now (script .entry)) (now (names .entry)) e (now (grid .entry))
+    requires { ⌜ ((s : Sheet) × SheetTested s (now script) (now names) e (now grid)) ⌝ }
+    ensures { λ r. ⌜ ((s : Sheet) → SheetTested s (now (script .entry)) (now (names .entry)) e (now (grid .entry))
         → LargestFound s (now (grid .exit)) (struckSaid r)) ⌝ }
 {
     let shapes = e.shapes as usize;
@@ -165,8 +167,8 @@ fn settle(
     queue: &mut [u16; MAX_GRID],
 ) -> Settled
     requires { ⌜ Settling (now script) (now names) e (now fitting) (now bookings) count (now starts) (now grid) ⌝ }
-    ensures { λ r. ⌜ ((s : Sheet) → Tested s (now (script .entry)) (now (names .entry)) e (now (fitting .entry))
-        → SmallestFound s (now (bookings .entry)) (now (grid .exit)) (settledSaid r)) ⌝ }
+    ensures { λ r. ⌜ ((s : Sheet) → SheetTested s (now (script .entry)) (now (names .entry)) e (now (fitting .entry))
+        → SmallestFound s (Booked (now (bookings .entry))) (now (grid .exit)) (settledSaid r)) ⌝ }
 {
     let shapes = e.shapes as usize;
     let found = close(
@@ -190,7 +192,7 @@ fn settle(
 // The largest typing of a sheet that is read, in a grid of its size.
 fn largest_of(template: &[u16], script: &[u16], names: &[u8], e: Extent, grid: &mut [u8]) -> Struck
     requires { ⌜ Sized (now template) (now script) (now names) e (now grid) ⌝ }
-    ensures { λ r. ⌜ ((s : Sheet) → readSheet (now (template .entry)) (now (script .entry)) ≡ ask s
+    ensures { λ r. ⌜ ((s : Sheet) → readSheet (now (template .entry)) (now (script .entry)) ≡ accepted s
         → LargestFound s (now (grid .exit)) (struckSaid r)) ⌝ }
 {
     let mut starts = [0u16; STARTS];
@@ -212,8 +214,8 @@ fn smallest_of(
     grid: &mut [u8],
 ) -> Settled
     requires { ⌜ Lent (now template) (now script) (now names) e (now bookings) count (now grid) (now fitting) ⌝ }
-    ensures { λ r. ⌜ ((s : Sheet) → readSheet (now (template .entry)) (now (script .entry)) ≡ ask s
-        → SmallestFound s (now (bookings .entry)) (now (grid .exit)) (settledSaid r)) ⌝ }
+    ensures { λ r. ⌜ ((s : Sheet) → readSheet (now (template .entry)) (now (script .entry)) ≡ accepted s
+        → SmallestFound s (Booked (now (bookings .entry))) (now (grid .exit)) (settledSaid r)) ⌝ }
 {
     let mut starts = [0u16; STARTS];
     test_pairs(template, script, names, e, &mut starts, fitting);
@@ -243,8 +245,8 @@ pub fn both_of(
     large: &mut [u8],
 ) -> Both
     requires { ⌜ Lent (now template) (now script) (now names) e (now bookings) count (now small) (now large) ⌝ }
-    ensures { λ r. ⌜ ((s : Sheet) → readSheet (now (template .entry)) (now (script .entry)) ≡ ask s
-        → BothFound s (now (bookings .entry)) (now (small .exit)) (now (large .exit)) (bothOf r)) ⌝ }
+    ensures { λ r. ⌜ ((s : Sheet) → readSheet (now (template .entry)) (now (script .entry)) ≡ accepted s
+        → BothFound s (Booked (now (bookings .entry))) (now (small .exit)) (now (large .exit)) (bothOf r)) ⌝ }
 {
     let mut starts = [0u16; STARTS];
     test_pairs(template, script, names, e, &mut starts, large);

@@ -33,27 +33,29 @@ close-requires c κs =
     let s = start c in
     let k = s .pre .tested .known in
     let bookings = now (s .args .bookings) in
-    let e = s .args .e in (
-      ready k,
-      card-starts k _ (s .pre .links),
-      read k .links .cards,
-      listed-room (e .cards) (e .shapes) bookings (s .pre .list),
-      listed-in (e .cards) (e .shapes) bookings (s .pre .list),
-      s .pre .size,
-      omega (arith, few-pairs k),
-    )
+    let e = s .args .e in
+    record {
+      ready = ready k;
+      starting = card-starts k _ (s .pre .links);
+      all-cards = read k .links .cards;
+      words = listed-room (e .cards) (e .shapes) bookings (s .pre .list);
+      booked-in = listed-in (e .cards) (e .shapes) bookings (s .pre .list);
+      full = s .pre .size;
+      room = omega (arith, few-pairs k);
+    }
 
 first-unfit-requires : tie.Need-first-unfit-requires
 first-unfit-requires c κs =
     let s = start (closed c .before) in
     let t = s .pre .tested in
     let accepted = read (t .known) in
-    let full = closure-full t (now (s .args .bookings)) (s .pre .list) (closed c .close .ensures) in (
-      full ∙ sym (t .fits .full),
-      accepted .shapes .shapes-low,
-      accepted .shapes .shapes-high,
-      omega (arith, full, few-pairs (t .known)),
-    )
+    let size = closure-full t (now (s .args .bookings)) (s .pre .list) (closed c .close .ensures) in
+    record {
+      full = size ∙ sym (t .fits .full);
+      one-shape = accepted .shapes .shapes-low;
+      few-shapes = accepted .shapes .shapes-high;
+      few-places = omega (arith, size, few-pairs (t .known));
+    }
 
 enum-told : tie.Need-enum-told
 enum-told c = search needs

@@ -24,7 +24,12 @@ cast-strike-all c = search needs
 strike-all-requires : tie.Need-strike-all-requires
 strike-all-requires c κs =
     let t = start c .pre .1 in
-    (ready (t .known), read (t .known) .links .links, t .known .room, full-words t, omega (arith, few t))
+    record {
+      ready = ready (t .known);
+      all-links = read (t .known) .links .links;
+      full = full-words t;
+      room = omega (arith, few t);
+    }
 
 cast-count-bare : tie.Need-cast-count-bare
 cast-count-bare c = search needs

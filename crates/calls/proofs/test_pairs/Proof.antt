@@ -27,9 +27,10 @@ link-starts-requires c κs =
 fit-grid-requires : tie.Need-fit-grid-requires
 fit-grid-requires c κs =
     let sized = start (found c .before) .pre in
-    let k = sized .known in
-    let links = found c .link-starts .ensures in
-    (k .opened, k .table, k .room, starts-found k (omega (arith, links .1)) (links .0), sized .size)
+    let links = found c .link-starts .ensures in (
+      record { known = sized .known; links = starts-found (sized .known) (omega (arith, links .1)) (links .0) },
+      sized .size,
+    )
 
 same-length : tie.Need-same-length
 same-length c = search needs
