@@ -1,7 +1,7 @@
--- What each way out of a call answers, in document 01's order of refusals.
---   largest-refused, largest-size, largest-done              of the call for the largest
---   smallest-refused, smallest-list, smallest-size, smallest-done   of the call for the smallest
---   both-refused, both-list, both-small, both-large, both-done      of the call for both
+-- What each way out of a call answers, in the format's order of refusals (docs/FORMAT.md, "Operations").
+--   largest-refused, largest-size, largest-done             of the call for the largest
+--   smallest-refused, smallest-size, smallest-done          of the call for the smallest
+--   both-refused, both-small, both-large, both-done         of the call for both
 -- Assumes nothing.
 use Prim.Native.Nat.{ℕ}
 use mathlib.Core.Path.{_≡_, refl}
@@ -9,10 +9,12 @@ use mathlib.Core.List.{List, [], _∷_}
 use lib.ListN.{length}
 use borrow.Author.Tests.{eq-eqb, ne-eqb}
 use Rattle.words.specs.Said.{Said, refusal}
-use Rattle.sheet.specs.Sheet.{Sheet, size, ask, turnedDown, readSheet}
-use Rattle.bookings.specs.Bookings.{BookingReading, readBookings}
+use Rattle.words.specs.Reading.{accepted, turnedDown, then}
+use Rattle.sheet.specs.Sheet.{Sheet, size, readSheet}
+use Rattle.bookings.specs.Bookings.{Booked}
 use Rattle.typing.specs.Answer.{BothSaid}
-use Rattle.typing.specs.Calls.{LargestFound, LargestSays, SmallestFound, SmallestSays, BothFound, Grids, BothSays}
+use Rattle.typing.specs.Calls.{withBookings, LargestFound, LargestSays, SmallestFound, SmallestSays, BothFound, Grids}
+use Rattle.typing.specs.Calls.{BothSays}
 
 -- One refusal for both calls.
 abbrev twice : ℕ → ℕ → BothSaid
@@ -20,61 +22,49 @@ twice number place =
     record { largest = refusal number (place ∷ []); smallest = refusal number (place ∷ []) }
 
 module _ (template script : List ℕ) where
-  module _ (grid : List ℕ) where
-    pub largest-refused : (number place : ℕ) → readSheet template script ≡ turnedDown number place
-        → LargestSays template script grid grid (refusal number (place ∷ []))
-    largest-refused number place h = rw h (refl, refl)
+  pub largest-refused : (grid : List ℕ) (number place : ℕ) → readSheet template script ≡ turnedDown number place
+      → LargestSays template script grid grid (refusal number (place ∷ []))
+  largest-refused grid number place h = rw h (refl, refl)
 
-    pub smallest-refused : (bookings : List ℕ) (number place : ℕ) → readSheet template script ≡ turnedDown number place
-        → SmallestSays template script bookings grid grid (refusal number (place ∷ []))
-    smallest-refused bookings number place h = rw h (refl, refl)
-
-  pub both-refused : (bookings : List ℕ) (grids : Grids) (number place : ℕ)
-      → readSheet template script ≡ turnedDown number place
-      → BothSays template script bookings grids grids (twice number place)
-  both-refused bookings grids number place h = rw h (refl, refl)
-
-  module _ (s : Sheet) (h : readSheet template script ≡ ask s) where
+  module _ (s : Sheet) (h : readSheet template script ≡ accepted s) where
     pub largest-size : (grid : List ℕ) → (length grid ≡ size s → ⊥)
         → LargestSays template script grid grid (refusal 40 (0 ∷ []))
     largest-size grid ne = rw (h, ne-eqb (length grid) (size s) ne) (refl, refl)
 
-    pub largest-done : (before after : List ℕ) (said : Said) → length before ≡ size s
-        → LargestFound s after said → LargestSays template script before after said
-    largest-done before after said e found = rw (h, eq-eqb (length before) (size s) e) found
+    pub largest-done : (before after : List ℕ) (said : Said) {told : Said} → length before ≡ size s
+        → said ≡ told → LargestFound s after told → LargestSays template script before after said
+    largest-done before after said e same found = rw (same, h, eq-eqb (length before) (size s) e) found
 
-    module _ (bookings : List ℕ) where
-      module _ (number place : ℕ)
-          (l : readBookings (s .cards) (s .shapes) bookings ≡ BookingReading.turnedDown number place) where
-        pub smallest-list : (grid : List ℕ)
-            → SmallestSays template script bookings grid grid (refusal number (place ∷ []))
-        smallest-list grid = rw (h, l) (refl, refl)
+  module _ (bookings : List ℕ) where
+    module _ (number place : ℕ) (h : then (readSheet template script) (withBookings bookings) ≡ turnedDown number place) where
+      pub smallest-refused : (grid : List ℕ)
+          → SmallestSays template script bookings grid grid (refusal number (place ∷ []))
+      smallest-refused grid = rw h (refl, refl)
 
-        pub both-list : (grids : Grids) → BothSays template script bookings grids grids (twice number place)
-        both-list grids = rw (h, l) (refl, refl)
+      pub both-refused : (grids : Grids) → BothSays template script bookings grids grids (twice number place)
+      both-refused grids = rw h (refl, refl)
 
-      module _ (count : ℕ)
-          (l : readBookings (s .cards) (s .shapes) bookings ≡ BookingReading.accepted count) where
-        pub smallest-size : (grid : List ℕ) → (length grid ≡ size s → ⊥)
-            → SmallestSays template script bookings grid grid (refusal 40 (0 ∷ []))
-        smallest-size grid ne = rw (h, l, ne-eqb (length grid) (size s) ne) (refl, refl)
+    module _ (s : Sheet) (h : then (readSheet template script) (withBookings bookings) ≡ accepted s) where
+      pub smallest-size : (grid : List ℕ) → (length grid ≡ size s → ⊥)
+          → SmallestSays template script bookings grid grid (refusal 40 (0 ∷ []))
+      smallest-size grid ne = rw (h, ne-eqb (length grid) (size s) ne) (refl, refl)
 
-        pub smallest-done : (before after : List ℕ) (said : Said) → length before ≡ size s
-            → SmallestFound s bookings after said → SmallestSays template script bookings before after said
-        smallest-done before after said e found = rw (h, l, eq-eqb (length before) (size s) e) found
+      pub smallest-done : (before after : List ℕ) (said : Said) {told : Said} → length before ≡ size s
+          → said ≡ told → SmallestFound s (Booked bookings) after told → SmallestSays template script bookings before after said
+      smallest-done before after said e same found = rw (same, h, eq-eqb (length before) (size s) e) found
 
-        pub both-small : (grids : Grids) → (length (grids .small) ≡ size s → ⊥)
-            → BothSays template script bookings grids grids (twice 40 0)
-        both-small grids ne = rw (h, l, ne-eqb (length (grids .small)) (size s) ne) (refl, refl)
+      pub both-small : (grids : Grids) → (length (grids .small) ≡ size s → ⊥)
+          → BothSays template script bookings grids grids (twice 40 0)
+      both-small grids ne = rw (h, ne-eqb (length (grids .small)) (size s) ne) (refl, refl)
 
-        pub both-large : (grids : Grids) → length (grids .small) ≡ size s → (length (grids .large) ≡ size s → ⊥)
-            → BothSays template script bookings grids grids (twice 40 0)
-        both-large grids e ne =
-            rw (h, l, eq-eqb (length (grids .small)) (size s) e, ne-eqb (length (grids .large)) (size s) ne) (refl, refl)
+      pub both-large : (grids : Grids) → length (grids .small) ≡ size s → (length (grids .large) ≡ size s → ⊥)
+          → BothSays template script bookings grids grids (twice 40 0)
+      both-large grids e ne =
+          rw (h, eq-eqb (length (grids .small)) (size s) e, ne-eqb (length (grids .large)) (size s) ne) (refl, refl)
 
-        pub both-done : (before after : Grids) (said : BothSaid)
-            → length (before .small) ≡ size s → length (before .large) ≡ size s
-            → BothFound s bookings (after .small) (after .large) said
-            → BothSays template script bookings before after said
-        both-done before after said e f found =
-            rw (h, l, eq-eqb (length (before .small)) (size s) e, eq-eqb (length (before .large)) (size s) f) found
+      pub both-done : (before after : Grids) (said : BothSaid) {told : BothSaid}
+          → length (before .small) ≡ size s → length (before .large) ≡ size s
+          → said ≡ told → BothFound s (Booked bookings) (after .small) (after .large) told
+          → BothSays template script bookings before after said
+      both-done before after said e f same found =
+          rw (same, h, eq-eqb (length (before .small)) (size s) e, eq-eqb (length (before .large)) (size s) f) found

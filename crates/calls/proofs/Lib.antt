@@ -1,4 +1,10 @@
--- Found: what the steps of a call leave is what it has to answer. Answered: what each way out of a call answers.
-pub mod Found
-pub mod Answered
+-- Known: what a sheet that is read has. Tested: the grid of its pairs that fit stands for it. Rows: the cards with no
+-- shape. Striking, Settling: what the two searches leave is what they have to say. Readings: what reading finds.
+-- Answered: what each way out of a call answers.
+pub mod Known
+pub mod Tested
 pub mod Rows
+pub mod Striking
+pub mod Settling
+pub mod Readings
+pub mod Answered

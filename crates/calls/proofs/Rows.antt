@@ -2,8 +2,9 @@
 --   row-tally            a row as a list of its own has as many places on as the grid has there
 --   isBare               a card has no shape
 --   bare-hit, bare-miss  one card more, that has no shape or some
+--   bare-counted         the cards with no shape of a sheet
 -- Assumes nothing.
-use mathlib.Core.Path.{_≡_, ap, _∙_}
+use mathlib.Core.Path.{_≡_, refl, sym, ap, _∙_}
 use mathlib.Core.List.{List}
 use mathlib.Core.Bool.{Bool}
 use Prim.Native.Nat.{ℕ, _+_, _-_, _*_, _≤_}
@@ -14,6 +15,8 @@ use lib.Seq.{getD-drop, getD-take}
 use borrow.Author.Tests.{eq-eqb, ne-eqb}
 use Rattle.board.specs.Grid.{on, tally}
 use Rattle.board.proofs.Tally.{tally-ext, tally-hit, tally-miss}
+use Rattle.sheet.specs.Sheet.{Sheet}
+use Rattle.typing.specs.Largest.{bare, bareCards}
 
 -- bytes that are the same are tested the same
 byte-same : (g h : List ℕ) (p q : ℕ) → getD g p 0 ≡ getD h q 0 → on g p ≡ on h q
@@ -49,3 +52,8 @@ module _ (grid : List ℕ) (shapes n : ℕ) where
   pub bare-miss : (tally (λ t. on grid (n * shapes + t)) shapes ≡ 0 → ⊥)
       → tally (isBare grid shapes) (n + 1) ≡ tally (isBare grid shapes) n
   bare-miss ne = tally-miss (isBare grid shapes) n (ne-eqb (tally (λ t. on grid (n * shapes + t)) shapes) 0 ne)
+
+pub bare-counted : (grid : List ℕ) (cards shapes : ℕ) (s : Sheet) → s .cards ≡ cards → s .shapes ≡ shapes
+    → tally (isBare grid shapes) cards ≡ bareCards s (on grid)
+unfolding bareCards bare
+bare-counted grid cards shapes s e f = rw (sym e, sym f) refl

@@ -1,16 +1,24 @@
 // The calls for the two typings of a script: the largest that it allows, and the smallest that holds the bookings.
+// A call reads what it is lent, and takes a few steps on the sheet that is read: test the pairs, strike rounds, settle
+// the bookings.
 ghost use mathlib.Core.Path.{_≡_};
-ghost use Prim.Native.Nat.{_*_, _+_, _≤_, _<_};
-ghost use lib.ListN.{length};
-ghost use Rattle.sheet.specs.Sheet.{Sheet, ask, readSheet};
+ghost use Prim.Native.Nat.{_*_, _≤_};
+ghost use lib.ListN.{length, replicate};
+ghost use Rattle.words.specs.Limits.{maxCards, maxShapes, tableSize};
+ghost use Rattle.words.specs.Reading.{accepted};
+ghost use Rattle.board.specs.Grid.{on};
+ghost use Rattle.sheet.specs.Sheet.{Sheet, readSheet};
+ghost use Rattle.bookings.specs.Bookings.{Booked};
 ghost use Rattle.typing.specs.Answer.{largestSaid, smallestSaid, bothSaid};
-ghost use Rattle.bookings.specs.Bookings.{BookingReading, readBookings};
+ghost use Rattle.typing.specs.Largest.{bareCards};
 ghost use Rattle.typing.specs.Calls.{LargestFound, LargestSays, SmallestFound, SmallestSays, BothFound, BothSays};
-ghost use Rattle.sheet.specs.Opened.{Opened, TableOf};
+ghost use Rattle.calls.specs.Steps.{SheetTested, PairsTested, BookedAs, Sized, Lent, Settling};
+ghost use Rattle.calls.specs.Steps.{struckSaid, settledSaid, bothOf};
 use board::count_on;
 use bookings::BookingRead;
 use bookings::read_bookings;
 use fits::fit_grid;
+use script::Card;
 use search::Unfit;
 use search::close;
 use search::first_unfit;
@@ -19,16 +27,96 @@ use search::strike_all;
 use sheet::Extent;
 use sheet::SheetRead;
 use sheet::read_sheet;
+use template::Shape;
 use typing::BothAnswer;
 use typing::LargestAnswer;
 use typing::SmallestAnswer;
-ghost use lib.Dec.{eqb};
-ghost use Rattle.board.specs.Grid.{on, tally};
+use words::MAX_CARDS;
+use words::MAX_GRID;
+use words::TABLE_SIZE;
+
+// Where the links of each card start, and where those of the last end.
+const STARTS: usize = MAX_CARDS + 1;
+
+// What striking rounds found: rounds, pairs struck, cards with no shape.
+pub struct Struck {
+    pub rounds: usize,
+    pub struck: usize,
+    pub bare: usize,
+}
+
+// How bookings fared: the number of pairs that follow from them, or the lowest of these that is not met.
+pub enum Settled {
+    Pairs(usize),
+    NotMet(Card, Shape),
+}
+
+// What was found of both typings.
+pub struct Both {
+    pub largest: Struck,
+    pub smallest: Settled,
+}
+
+// What reading a template, a script and a booking list finds: the sheet's counts and that of the bookings, or number
+// and place.
+pub enum BookedRead {
+    Sheet(Extent, u16),
+    Refused(u16, usize),
+}
+
+// The number of pairs of a sheet: the bytes of its grid.
+pub fn grid_size(e: Extent) -> usize
+    ensures { λ r. ⌜ r ≡ e .cards * e .shapes ⌝ }
+{
+    (e.cards as usize) * (e.shapes as usize)
+}
+
+// Reads a template, a script and a booking list, and fills the table of names, which is all 0 before.
+pub fn read_booked(
+    template: &[u16],
+    script: &[u16],
+    bookings: &[u16],
+    names: &mut [u8],
+) -> BookedRead
+    requires { ⌜ now names ≡ replicate tableSize 0 ⌝ }
+    ensures { λ r. ⌜ BookedAs (now (template .entry)) (now (script .entry)) (now (names .exit))
+        (now (bookings .entry)) r ⌝ }
+{
+    let read = read_sheet(template, script, names);
+    match read {
+        SheetRead::Refused(number, place) => BookedRead::Refused(number, place),
+        SheetRead::Sheet(e) => {
+            let list = read_bookings(e.cards, e.shapes, bookings);
+            match list {
+                BookingRead::Refused(number, place) => BookedRead::Refused(number, place),
+                BookingRead::Listed(count) => BookedRead::Sheet(e, count),
+            }
+        }
+    }
+}
+
+// Finds where each card's links start, and tests each shape on each card: the grid has 1 where the counts fit, else 0.
+fn test_pairs(
+    template: &[u16],
+    script: &[u16],
+    names: &[u8],
+    e: Extent,
+    starts: &mut [u16; STARTS],
+    fitting: &mut [u8],
+)
+    requires { ⌜ Sized (now template) (now script) (now names) e (now fitting) ⌝ }
+    ensures { λ _. ⌜ PairsTested (now (template .entry)) (now (script .entry)) (now (names .entry)) e
+        (now (starts .exit)) (now (fitting .exit)) ⌝ }
+{
+    link_starts(script, e.links as usize, e.cards as usize, starts);
+    fit_grid(template, script, names, starts, e, fitting);
+}
 
 // Counts the cards with no shape.
-pub fn count_bare(grid: &[u8], cards: usize, shapes: usize) -> usize
-    requires { ⌜ (length (now grid) ≡ cards * shapes) × (cards ≤ 1024) × (shapes ≤ 32) ⌝ }
-    ensures { λ r. ⌜ r ≡ tally (λ n. eqb (tally (λ t. on (now (grid .entry)) (n * shapes + t)) shapes) 0) cards ⌝ }
+fn count_bare(grid: &[u8], cards: usize, shapes: usize) -> usize
+    requires { ⌜ (length (now grid) ≡ cards * shapes) × (cards ≤ maxCards) × (shapes ≤ maxShapes) ⌝ }
+    ensures { λ r. ⌜ ((s : Sheet) → s .cards ≡ cards → s .shapes ≡ shapes
+        → r ≡ bareCards s (on (now (grid .entry)))) ⌝ }
 {
     let mut bare = 0;
     let mut n = 0;
@@ -43,52 +131,78 @@ pub fn count_bare(grid: &[u8], cards: usize, shapes: usize) -> usize
     bare
 }
 
-// The largest typing of a sheet that is read, in a grid of its size.
-fn largest_of(
-    template: &[u16],
+// Strikes rounds from a grid that has the pairs whose counts fit: it then has the largest typing.
+fn strike(
     script: &[u16],
     names: &[u8],
     e: Extent,
     grid: &mut [u8],
-) -> LargestAnswer
-    requires { ⌜ Opened (now template) (now script) e × TableOf (now template) (now names) × (length (now names) ≡ 2048) × (length (now grid) ≡ e .cards * e .shapes) ⌝ }
-    ensures { λ r. ⌜ ((s : Sheet) → readSheet (now (template .entry)) (now (script .entry)) ≡ ask s → LargestFound s (now (grid .exit)) (largestSaid r)) ⌝ }
+    queue: &mut [u16; MAX_GRID],
+) -> Struck
+    requires { ⌜ ((s : Sheet) × SheetTested s (now script) (now names) e (now grid)) ⌝ }
+    ensures { λ r. ⌜ ((s : Sheet) → SheetTested s (now (script .entry)) (now (names .entry)) e (now (grid .entry))
+        → LargestFound s (now (grid .exit)) (struckSaid r)) ⌝ }
 {
-    let mut starts = [0u16; 1025];
-    link_starts(script, e.links as usize, e.cards as usize, &mut starts);
-    fit_grid(template, script, names, &starts, e, grid);
-    let mut queue = [0u16; 32768];
-    let tally = strike_all(
-        script,
-        names,
-        e.links as usize,
-        e.shapes as usize,
-        grid,
-        &mut queue,
-    );
-    let bare = count_bare(grid, e.cards as usize, e.shapes as usize);
-    LargestAnswer::Typed(tally.rounds, tally.struck, bare)
-}
-
-// Largest: rounds, pairs struck and cards with no shape, and the typing in the grid.
-pub fn largest(template: &[u16], script: &[u16], grid: &mut [u8]) -> LargestAnswer
-    ensures { λ r. ⌜ LargestSays (now (template .entry)) (now (script .entry)) (now (grid .entry)) (now (grid .exit)) (largestSaid r) ⌝ }
-{
-    let mut names = [0u8; 2048];
-    let read = read_sheet(template, script, &mut names);
-    match read {
-        SheetRead::Refused(number, place) => LargestAnswer::Refused(number, place),
-        SheetRead::Sheet(e) => {
-            if grid.len() != (e.cards as usize) * (e.shapes as usize) {
-                return LargestAnswer::Refused(40, 0);
-            }
-            largest_of(template, script, &names, e, grid)
-        }
+    let shapes = e.shapes as usize;
+    let tally = strike_all(script, names, e.links as usize, shapes, grid, queue);
+    let bare = count_bare(grid, e.cards as usize, shapes);
+    Struck {
+        rounds: tally.rounds,
+        struck: tally.struck,
+        bare,
     }
 }
 
-// The smallest typing of a sheet and bookings that are read, in a grid of its size. The other grid of its size then has the
-// pairs whose counts fit.
+// Writes into the grid what follows from the bookings, whatever it held, and tests whether each pair of it fits: the
+// grid then has the smallest typing, or is all 0.
+fn settle(
+    script: &[u16],
+    bookings: &[u16],
+    count: u16,
+    names: &[u8],
+    starts: &[u16; STARTS],
+    e: Extent,
+    fitting: &[u8],
+    grid: &mut [u8],
+    queue: &mut [u16; MAX_GRID],
+) -> Settled
+    requires { ⌜ Settling (now script) (now names) e (now fitting) (now bookings) count (now starts) (now grid) ⌝ }
+    ensures { λ r. ⌜ ((s : Sheet) → SheetTested s (now (script .entry)) (now (names .entry)) e (now (fitting .entry))
+        → SmallestFound s (Booked (now (bookings .entry))) (now (grid .exit)) (settledSaid r)) ⌝ }
+{
+    let shapes = e.shapes as usize;
+    let found = close(
+        script,
+        bookings,
+        count,
+        names,
+        starts,
+        e.cards as usize,
+        shapes,
+        grid,
+        queue,
+    );
+    let unfit = first_unfit(grid, fitting, shapes);
+    match unfit {
+        Unfit::Nowhere => Settled::Pairs(found),
+        Unfit::At(card, shape) => Settled::NotMet(card, shape),
+    }
+}
+
+// The largest typing of a sheet that is read, in a grid of its size.
+fn largest_of(template: &[u16], script: &[u16], names: &[u8], e: Extent, grid: &mut [u8]) -> Struck
+    requires { ⌜ Sized (now template) (now script) (now names) e (now grid) ⌝ }
+    ensures { λ r. ⌜ ((s : Sheet) → readSheet (now (template .entry)) (now (script .entry)) ≡ accepted s
+        → LargestFound s (now (grid .exit)) (struckSaid r)) ⌝ }
+{
+    let mut starts = [0u16; STARTS];
+    test_pairs(template, script, names, e, &mut starts, grid);
+    let mut queue = [0u16; MAX_GRID];
+    strike(script, names, e, grid, &mut queue)
+}
+
+// The smallest typing of a sheet and bookings that are read, in a grid of its size. The other grid of its size then has
+// the pairs whose counts fit.
 fn smallest_of(
     template: &[u16],
     script: &[u16],
@@ -98,29 +212,106 @@ fn smallest_of(
     e: Extent,
     fitting: &mut [u8],
     grid: &mut [u8],
-) -> SmallestAnswer
-    requires { ⌜ Opened (now template) (now script) e × TableOf (now template) (now names) × (length (now names) ≡ 2048) × (readBookings (e .cards) (e .shapes) (now bookings) ≡ BookingReading.accepted count) × (length (now fitting) ≡ e .cards * e .shapes) × (length (now grid) ≡ e .cards * e .shapes) ⌝ }
-    ensures { λ r. ⌜ ((s : Sheet) → readSheet (now (template .entry)) (now (script .entry)) ≡ ask s → SmallestFound s (now (bookings .entry)) (now (grid .exit)) (smallestSaid r)) ⌝ }
+) -> Settled
+    requires { ⌜ Lent (now template) (now script) (now names) e (now bookings) count (now grid) (now fitting) ⌝ }
+    ensures { λ r. ⌜ ((s : Sheet) → readSheet (now (template .entry)) (now (script .entry)) ≡ accepted s
+        → SmallestFound s (Booked (now (bookings .entry))) (now (grid .exit)) (settledSaid r)) ⌝ }
 {
-    let mut starts = [0u16; 1025];
-    link_starts(script, e.links as usize, e.cards as usize, &mut starts);
-    fit_grid(template, script, names, &starts, e, fitting);
-    let mut queue = [0u16; 32768];
-    let found = close(
+    let mut starts = [0u16; STARTS];
+    test_pairs(template, script, names, e, &mut starts, fitting);
+    let mut queue = [0u16; MAX_GRID];
+    settle(
         script,
         bookings,
         count,
         names,
         &starts,
-        e.cards as usize,
-        e.shapes as usize,
+        e,
+        fitting,
         grid,
         &mut queue,
+    )
+}
+
+// Both typings of a sheet and bookings that are read, in grids of its size. Each pair's counts are tested once.
+pub fn both_of(
+    template: &[u16],
+    script: &[u16],
+    bookings: &[u16],
+    count: u16,
+    names: &[u8],
+    e: Extent,
+    small: &mut [u8],
+    large: &mut [u8],
+) -> Both
+    requires { ⌜ Lent (now template) (now script) (now names) e (now bookings) count (now small) (now large) ⌝ }
+    ensures { λ r. ⌜ ((s : Sheet) → readSheet (now (template .entry)) (now (script .entry)) ≡ accepted s
+        → BothFound s (Booked (now (bookings .entry))) (now (small .exit)) (now (large .exit)) (bothOf r)) ⌝ }
+{
+    let mut starts = [0u16; STARTS];
+    test_pairs(template, script, names, e, &mut starts, large);
+    let mut queue = [0u16; MAX_GRID];
+    let smallest = settle(
+        script,
+        bookings,
+        count,
+        names,
+        &starts,
+        e,
+        large,
+        small,
+        &mut queue,
     );
-    let unfit = first_unfit(grid, fitting, e.shapes as usize);
-    match unfit {
-        Unfit::Nowhere => SmallestAnswer::Pairs(found),
-        Unfit::At(card, shape) => SmallestAnswer::NotMet(card, shape),
+    let largest = strike(script, names, e, large, &mut queue);
+    Both { largest, smallest }
+}
+
+// The answer of the call for the largest.
+fn struck_answer(found: Struck) -> LargestAnswer
+    ensures { λ r. ⌜ largestSaid r ≡ struckSaid found ⌝ }
+{
+    LargestAnswer::Typed(found.rounds, found.struck, found.bare)
+}
+
+// The answer of the call for the smallest.
+fn settled_answer(found: Settled) -> SmallestAnswer
+    ensures { λ r. ⌜ smallestSaid r ≡ settledSaid found ⌝ }
+{
+    match found {
+        Settled::Pairs(pairs) => SmallestAnswer::Pairs(pairs),
+        Settled::NotMet(card, shape) => SmallestAnswer::NotMet(card, shape),
+    }
+}
+
+// The answer of the call for both.
+fn both_answer(found: Both) -> BothAnswer
+    ensures { λ r. ⌜ bothSaid r ≡ bothOf found ⌝ }
+{
+    let large = found.largest;
+    let small = found.smallest;
+    match small {
+        Settled::Pairs(pairs) => BothAnswer::Typed(large.rounds, large.struck, large.bare, pairs),
+        Settled::NotMet(card, shape) => {
+            BothAnswer::NotMet(large.rounds, large.struck, large.bare, card, shape)
+        }
+    }
+}
+
+// Largest: rounds, pairs struck and cards with no shape, and the typing in the grid.
+pub fn largest(template: &[u16], script: &[u16], grid: &mut [u8]) -> LargestAnswer
+    ensures { λ r. ⌜ LargestSays (now (template .entry)) (now (script .entry)) (now (grid .entry)) (now (grid .exit))
+        (largestSaid r) ⌝ }
+{
+    let mut names = [0u8; TABLE_SIZE];
+    let read = read_sheet(template, script, &mut names);
+    match read {
+        SheetRead::Refused(number, place) => LargestAnswer::Refused(number, place),
+        SheetRead::Sheet(e) => {
+            if grid.len() != grid_size(e) {
+                return LargestAnswer::Refused(40, 0);
+            }
+            struck_answer(largest_of(template, script, &names, e, grid))
+        }
     }
 }
 
@@ -131,84 +322,26 @@ pub fn smallest(
     bookings: &[u16],
     grid: &mut [u8],
 ) -> SmallestAnswer
-    ensures { λ r. ⌜ SmallestSays (now (template .entry)) (now (script .entry)) (now (bookings .entry)) (now (grid .entry)) (now (grid .exit)) (smallestSaid r) ⌝ }
+    ensures { λ r. ⌜ SmallestSays (now (template .entry)) (now (script .entry)) (now (bookings .entry))
+        (now (grid .entry)) (now (grid .exit)) (smallestSaid r) ⌝ }
 {
-    let mut names = [0u8; 2048];
-    let read = read_sheet(template, script, &mut names);
+    let mut names = [0u8; TABLE_SIZE];
+    let read = read_booked(template, script, bookings, &mut names);
     match read {
-        SheetRead::Refused(number, place) => SmallestAnswer::Refused(number, place),
-        SheetRead::Sheet(e) => {
-            let list = read_bookings(e.cards, e.shapes, bookings);
-            match list {
-                BookingRead::Refused(number, place) => SmallestAnswer::Refused(number, place),
-                BookingRead::Listed(count) => {
-                    let size = (e.cards as usize) * (e.shapes as usize);
-                    if grid.len() != size {
-                        return SmallestAnswer::Refused(40, 0);
-                    }
-                    let mut fitting = [0u8; 32768];
-                    smallest_of(
-                        template,
-                        script,
-                        bookings,
-                        count,
-                        &names,
-                        e,
-                        &mut fitting[0..size],
-                        grid,
-                    )
-                }
+        BookedRead::Refused(number, place) => SmallestAnswer::Refused(number, place),
+        BookedRead::Sheet(e, count) => {
+            let size = grid_size(e);
+            if grid.len() != size {
+                return SmallestAnswer::Refused(40, 0);
             }
+            let mut fitting = [0u8; MAX_GRID];
+            let pairs = &mut fitting[0..size];
+            settled_answer(smallest_of(template, script, bookings, count, &names, e, pairs, grid))
         }
     }
 }
 
-// Both typings of a sheet and bookings that are read, in grids of its size. Each pair's counts are tested once.
-fn both_of(
-    template: &[u16],
-    script: &[u16],
-    bookings: &[u16],
-    count: u16,
-    names: &[u8],
-    e: Extent,
-    small: &mut [u8],
-    large: &mut [u8],
-) -> BothAnswer
-    requires { ⌜ Opened (now template) (now script) e × TableOf (now template) (now names) × (length (now names) ≡ 2048) × (readBookings (e .cards) (e .shapes) (now bookings) ≡ BookingReading.accepted count) × (length (now small) ≡ e .cards * e .shapes) × (length (now large) ≡ e .cards * e .shapes) ⌝ }
-    ensures { λ r. ⌜ ((s : Sheet) → readSheet (now (template .entry)) (now (script .entry)) ≡ ask s → BothFound s (now (bookings .entry)) (now (small .exit)) (now (large .exit)) (bothSaid r)) ⌝ }
-{
-    let mut starts = [0u16; 1025];
-    link_starts(script, e.links as usize, e.cards as usize, &mut starts);
-    fit_grid(template, script, names, &starts, e, large);
-    let mut queue = [0u16; 32768];
-    let found = close(
-        script,
-        bookings,
-        count,
-        names,
-        &starts,
-        e.cards as usize,
-        e.shapes as usize,
-        small,
-        &mut queue,
-    );
-    let unfit = first_unfit(small, large, e.shapes as usize);
-    let tally = strike_all(
-        script,
-        names,
-        e.links as usize,
-        e.shapes as usize,
-        large,
-        &mut queue,
-    );
-    let bare = count_bare(large, e.cards as usize, e.shapes as usize);
-    match unfit {
-        Unfit::Nowhere => BothAnswer::Typed(tally.rounds, tally.struck, bare, found),
-        Unfit::At(card, shape) => BothAnswer::NotMet(tally.rounds, tally.struck, bare, card, shape),
-    }
-}
-
-// Both typings in one call: each as its own call gives it, and demand 3 of the two together.
+// Both typings in one call: each as its own call gives it, and what holds of the two together.
 pub fn both_typings(
     template: &[u16],
     script: &[u16],
@@ -216,27 +349,23 @@ pub fn both_typings(
     small: &mut [u8],
     large: &mut [u8],
 ) -> BothAnswer
-    ensures { λ r. ⌜ BothSays (now (template .entry)) (now (script .entry)) (now (bookings .entry)) (record { small = now (small .entry); large = now (large .entry) }) (record { small = now (small .exit); large = now (large .exit) }) (bothSaid r) ⌝ }
+    ensures { λ r. ⌜ BothSays (now (template .entry)) (now (script .entry)) (now (bookings .entry))
+        (record { small = now (small .entry); large = now (large .entry) })
+        (record { small = now (small .exit); large = now (large .exit) }) (bothSaid r) ⌝ }
 {
-    let mut names = [0u8; 2048];
-    let read = read_sheet(template, script, &mut names);
+    let mut names = [0u8; TABLE_SIZE];
+    let read = read_booked(template, script, bookings, &mut names);
     match read {
-        SheetRead::Refused(number, place) => BothAnswer::Refused(number, place),
-        SheetRead::Sheet(e) => {
-            let list = read_bookings(e.cards, e.shapes, bookings);
-            match list {
-                BookingRead::Refused(number, place) => BothAnswer::Refused(number, place),
-                BookingRead::Listed(count) => {
-                    let size = (e.cards as usize) * (e.shapes as usize);
-                    if small.len() != size {
-                        return BothAnswer::Refused(40, 0);
-                    }
-                    if large.len() != size {
-                        return BothAnswer::Refused(40, 0);
-                    }
-                    both_of(template, script, bookings, count, &names, e, small, large)
-                }
+        BookedRead::Refused(number, place) => BothAnswer::Refused(number, place),
+        BookedRead::Sheet(e, count) => {
+            let size = grid_size(e);
+            if small.len() != size {
+                return BothAnswer::Refused(40, 0);
             }
+            if large.len() != size {
+                return BothAnswer::Refused(40, 0);
+            }
+            both_answer(both_of(template, script, bookings, count, &names, e, small, large))
         }
     }
 }

@@ -1,20 +1,40 @@
--- `calls::both_typings` answers as document 01 says of both calls, and demand 3 holds of them. Assumes nothing.
-use mathlib.Core.Path.{sym, ap, _∙_}
+-- `calls::both_typings` answers as the format says of both calls: a law of proofs/Answered for each way out.
+-- Assumes nothing.
+use mathlib.Core.Path.{subst}
 use native.Mathlib.Omega.{arith}
 use denote.Ref.{now}
-use Rattle.typing.specs.Calls.{Grids}
-use Rattle.bookings.specs.Steps.{bookingReading}
-use Rattle.calls.proofs.Found.{opened-by, refused-by, sheet, asked, pairs-few}
-use Rattle.calls.proofs.Answered.{both-refused, both-list, both-small, both-large, both-done}
 use borrow.Author.Needs.{needs}
+use Rattle.typing.specs.Calls.{Grids}
+use Rattle.calls.specs.Steps.{Listed, BookedAs}
+use Rattle.calls.proofs.Known.{sheet, asked}
+use Rattle.calls.proofs.Readings.{listed-asked}
+use Rattle.calls.proofs.Answered.{both-refused, both-small, both-large, both-done}
 use Rattle.calls.proofs.both_typings.Statement.{statement}
 use Rattle.calls.proofs.both_typings.Tie as tie
 
-slice-aggregate-read-sheet : tie.Need-slice-aggregate-read-sheet
-slice-aggregate-read-sheet c = search needs
+-- The start with the grids as they were lent, and sheet and bookings as they were read.
+abbrev start : tie.After-read-booked → tie.Start
+start c = c .before .before .before .before .before .before .before
 
-read-sheet-requires : tie.Need-read-sheet-requires
-read-sheet-requires c κs = search needs
+abbrev grids : tie.After-read-booked → Grids
+grids c = record { small = now (start c .args .small); large = now (start c .args .large) }
+
+abbrev read : tie.After-known-told2 → tie.After-read-booked
+read c = c .before .before .before .before
+
+listed : (c : tie.After-known-told2) → let s = start (read c) .args in
+    Listed (now (s .template)) (now (s .script)) (read c .read-booked .last .1 .1 .1 .0) (c .before .read2 .given .0 .0)
+    (now (s .bookings)) (c .before .read2 .given .0 .1 .0)
+listed c =
+    let s = start (read c) .args in
+    subst (BookedAs (now (s .template)) (now (s .script)) (read c .read-booked .last .1 .1 .1 .0) (now (s .bookings)))
+    (c .before .read2 .given .1) (read c .read-booked .ensures)
+
+slice-aggregate-read-booked : tie.Need-slice-aggregate-read-booked
+slice-aggregate-read-booked c = search needs
+
+read-booked-requires : tie.Need-read-booked-requires
+read-booked-requires c κs = search needs
 
 enum-known-read : tie.Need-enum-known-read
 enum-known-read c = search needs
@@ -22,82 +42,49 @@ enum-known-read c = search needs
 enum-known-read-2 : tie.Need-enum-known-read-2
 enum-known-read-2 c = search needs
 
-read-bookings-requires : tie.Need-read-bookings-requires
-read-bookings-requires c κs = search needs
-
-enum-known-list : tie.Need-enum-known-list
-enum-known-list c = search needs
-
-enum-known-list-2 : tie.Need-enum-known-list-2
-enum-known-list-2 c = search needs
-
-cast-size : tie.Need-cast-size
-cast-size c = search needs
-
-cast-size-2 : tie.Need-cast-size-2
-cast-size-2 c = search needs
-
-mul-size : tie.Need-mul-size
-mul-size c =
-    let o = opened-by _ _ (c .before .before .before .before .before .before .before .before .before .before .read-sheet .ensures .0) (c .before .before .before .before .before .before .before .read2 .given .1) in
-    omega (arith, pairs-few o)
+grid-size-requires : tie.Need-grid-size-requires
+grid-size-requires c κs = search needs
 
 returns : tie.Need-returns
 returns c =
-    let s = c .before .before .before .before .before .before .before .before .before .before .before .before .before .before .before .before .before .before in
-    let template = now (s .args .template) in
-    let script = now (s .args .script) in
-    let bookings = now (s .args .bookings) in
-    let o = opened-by template script (c .before .before .before .before .before .before .before .before .before .before .before .read-sheet .ensures .0) (c .before .before .before .before .before .before .before .before .read2 .given .1) in
-    let list = sym (c .before .before .before .before .before .before .read-bookings .ensures) ∙ ap bookingReading (c .before .before .before .before .list2 .given .1) in
-    let grids : Grids = record { small = now (s .args .small); large = now (s .args .large) } in
-    both-small template script (sheet o) (asked o) bookings _ list grids (c .if1 .taken)
+    let told = c .before .before in
+    let s = start (read told) .args in
+    let l = listed told in
+    both-small (now (s .template)) (now (s .script)) (now (s .bookings)) (sheet (l .known)) (listed-asked l)
+    (grids (read told)) (λ e. c .if1 .taken (omega (arith, c .before .grid-size .ensures)))
 
 returns-2 : tie.Need-returns-2
 returns-2 c =
-    let s = c .before .before .before .before .before .before .before .before .before .before .before .before .before .before .before .before .before .before .before in
-    let template = now (s .args .template) in
-    let script = now (s .args .script) in
-    let bookings = now (s .args .bookings) in
-    let o = opened-by template script (c .before .before .before .before .before .before .before .before .before .before .before .before .read-sheet .ensures .0) (c .before .before .before .before .before .before .before .before .before .read2 .given .1) in
-    let list = sym (c .before .before .before .before .before .before .before .read-bookings .ensures) ∙ ap bookingReading (c .before .before .before .before .before .list2 .given .1) in
-    let grids : Grids = record { small = now (s .args .small); large = now (s .args .large) } in
-    both-large template script (sheet o) (asked o) bookings _ list grids (omega arith) (c .if2 .taken)
+    let size = c .before .before in
+    let told = size .before in
+    let s = start (read told) .args in
+    let l = listed told in
+    both-large (now (s .template)) (now (s .script)) (now (s .bookings)) (sheet (l .known)) (listed-asked l)
+    (grids (read told)) (omega (arith, size .grid-size .ensures))
+    (λ e. c .if2 .taken (omega (arith, size .grid-size .ensures)))
 
 slice-aggregate-both-of : tie.Need-slice-aggregate-both-of
 slice-aggregate-both-of c = search needs
 
 both-of-requires : tie.Need-both-of-requires
 both-of-requires c κs =
-    let s = c .before .before .before .before .before .before .before .before .before .before .before .before .before .before .before .before .before .before .before .before .before .before in
-    let template = now (s .args .template) in
-    let script = now (s .args .script) in
-    let bookings = now (s .args .bookings) in
-    let o = opened-by template script (c .before .before .before .before .before .before .before .before .before .before .before .before .before .before .before .read-sheet .ensures .0) (c .before .before .before .before .before .before .before .before .before .before .before .before .read2 .given .1) in
-    let list = sym (c .before .before .before .before .before .before .before .before .before .before .read-bookings .ensures) ∙ ap bookingReading (c .before .before .before .before .before .before .before .before .list2 .given .1) in
-    let table = c .before .before .before .before .before .before .before .before .before .before .before .before .before .before .before .read-sheet in
-    (o, table .ensures .1, table .kept .1 .1 .0, list, omega arith, omega arith)
+    let size = c .before .before .before .before .before in
+    record {
+      listed = listed (size .before);
+      size = omega (arith, size .grid-size .ensures);
+      other-size = omega (arith, size .grid-size .ensures);
+    }
+
+both-answer-requires : tie.Need-both-answer-requires
+both-answer-requires c κs = search needs
 
 returns-3 : tie.Need-returns-3
 returns-3 c =
-    let s = c .before .before .before .before .before .before .before .before .before .before .before in
-    let template = now (s .args .template) in
-    let script = now (s .args .script) in
-    let bookings = now (s .args .bookings) in
-    let h = refused-by template script (c .before .before .before .before .read-sheet .ensures .0) (c .before .read .given .1) in
-    let grids : Grids = record { small = now (s .args .small); large = now (s .args .large) } in
-    both-refused template script bookings grids _ _ h
-
-returns-4 : tie.Need-returns-4
-returns-4 c =
-    let s = c .before .before .before .before .before .before .before .before .before .before .before .before .before .before .before in
-    let template = now (s .args .template) in
-    let script = now (s .args .script) in
-    let bookings = now (s .args .bookings) in
-    let o = opened-by template script (c .before .before .before .before .before .before .before .before .read-sheet .ensures .0) (c .before .before .before .before .before .read2 .given .1) in
-    let list = sym (c .before .before .before .read-bookings .ensures) ∙ ap bookingReading (c .before .list .given .1) in
-    let grids : Grids = record { small = now (s .args .small); large = now (s .args .large) } in
-    both-list template script (sheet o) (asked o) bookings _ _ list grids
+    let both = c .before .before .before .before in
+    let s = start both .args in
+    both-refused (now (s .template)) (now (s .script)) (now (s .bookings)) _ _
+    (subst (BookedAs (now (s .template)) (now (s .script)) (both .read-booked .last .1 .1 .1 .0) (now (s .bookings)))
+    (c .before .read .given .1) (both .read-booked .ensures)) (grids both)
 
 same-length : tie.Need-same-length
 same-length c = search needs
@@ -105,38 +92,32 @@ same-length c = search needs
 same-length-2 : tie.Need-same-length-2
 same-length-2 c = search needs
 
-returns-5 : tie.Need-returns-5
-returns-5 c =
-    let s = c .before .before .before .before .before .before .before .before .before .before .before .before .before .before .before .before .before .before .before .before .before .before .before .before .before .before .before in
-    let template = now (s .args .template) in
-    let script = now (s .args .script) in
-    let bookings = now (s .args .bookings) in
-    let o = opened-by template script (c .before .before .before .before .before .before .before .before .before .before .before .before .before .before .before .before .before .before .before .before .read-sheet .ensures .0) (c .before .before .before .before .before .before .before .before .before .before .before .before .before .before .before .before .before .read2 .given .1) in
-    let list = sym (c .before .before .before .before .before .before .before .before .before .before .before .before .before .before .before .read-bookings .ensures) ∙ ap bookingReading (c .before .before .before .before .before .before .before .before .before .before .before .before .before .list2 .given .1) in
-    let grids : Grids = record { small = now (s .args .small); large = now (s .args .large) } in
-    both-done template script (sheet o) (asked o) bookings _ list grids _ _ (omega arith) (omega arith)
-    (c .before .before .before .before .both-of .ensures (sheet o) (asked o))
+returns-4 : tie.Need-returns-4
+returns-4 c =
+    let found = c .before .before .before .before .before in
+    let size = found .before .before .before .before .before .before in
+    let told = size .before in
+    let s = start (read told) .args in
+    let l = listed told in
+    both-done (now (s .template)) (now (s .script)) (now (s .bookings)) (sheet (l .known)) (listed-asked l)
+    (grids (read told)) _ _ (omega (arith, size .grid-size .ensures)) (omega (arith, size .grid-size .ensures))
+    (c .both-answer .ensures) (found .both-of .ensures (sheet (l .known)) (asked (l .known)))
 
 pub both-typings-spec : {M : Type 1} → statement M
 both-typings-spec =
     tie.close
     (tie.spec
-    slice-aggregate-read-sheet
-    read-sheet-requires
+    slice-aggregate-read-booked
+    read-booked-requires
     enum-known-read
     enum-known-read-2
-    read-bookings-requires
-    enum-known-list
-    enum-known-list-2
-    cast-size
-    cast-size-2
-    mul-size
+    grid-size-requires
     returns
     returns-2
     slice-aggregate-both-of
     both-of-requires
+    both-answer-requires
     returns-3
-    returns-4
     same-length
     same-length-2
-    returns-5)
+    returns-4)

@@ -1,4 +1,4 @@
--- `steps::count_bare` counts the cards with no shape. The invariant: `bare` of the cards below `n` have none.
+-- `calls::count_bare` counts the cards with no shape. The invariant: `bare` of the cards below `n` have none.
 -- Assumes nothing.
 use mathlib.Core.Logic.{⊎-elim}
 use mathlib.Core.Path.{_∙_, _≡_, ap, sym}
@@ -10,7 +10,7 @@ use borrow.Author.Needs.{needs}
 use Rattle.board.proofs.Tally.{tally-zero}
 use Rattle.board.specs.Grid.{tally}
 use Rattle.words.proofs.Places.{card-room}
-use Rattle.calls.proofs.Rows.{isBare, bare-hit, bare-miss, row-tally}
+use Rattle.calls.proofs.Rows.{isBare, bare-hit, bare-miss, row-tally, bare-counted}
 use Rattle.calls.proofs.count_bare.Statement.{statement}
 use Rattle.calls.proofs.count_bare.Tie as tie
 
@@ -81,11 +81,12 @@ loop-again c =
     (c .if1 .came)
 
 returns : tie.Need-returns Inv-loop μ-loop
-returns c =
+returns c s same-cards same-shapes =
     let l = c .before in
-    let s = l .before .before in
-    let all-cards : l .loop .n ≡ s .args .cards = omega arith in
-    l .loop .inv .2 ∙ ap (tally (isBare (now (s .args .grid)) (s .args .shapes))) all-cards
+    let args = l .before .before .args in
+    let all-cards : l .loop .n ≡ args .cards = omega arith in
+    l .loop .inv .2 ∙ ap (tally (isBare (now (args .grid)) (args .shapes))) all-cards
+    ∙ bare-counted (now (args .grid)) (args .cards) (args .shapes) s same-cards same-shapes
 
 pub count-bare-spec : {M : Type 1} → statement M
 count-bare-spec =

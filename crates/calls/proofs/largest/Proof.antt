@@ -1,11 +1,26 @@
--- `calls::largest` answers as document 01 says. Assumes nothing.
+-- `calls::largest` answers as the format says: a law of proofs/Answered for each way out. Assumes nothing.
 use native.Mathlib.Omega.{arith}
 use denote.Ref.{now}
-use Rattle.calls.proofs.Found.{opened-by, refused-by, sheet, asked, pairs-few}
-use Rattle.calls.proofs.Answered.{largest-refused, largest-size, largest-done}
 use borrow.Author.Needs.{needs}
+use Rattle.sheet.specs.Opened.{Known}
+use Rattle.calls.proofs.Known.{sheet, asked}
+use Rattle.calls.proofs.Readings.{known-by, refused-by}
+use Rattle.calls.proofs.Answered.{largest-refused, largest-size, largest-done}
 use Rattle.calls.proofs.largest.Statement.{statement}
 use Rattle.calls.proofs.largest.Tie as tie
+
+-- The start, and the sheet as it was read.
+abbrev start : tie.After-read-sheet → tie.Start
+start c = c .before .before .before .before .before
+
+abbrev read : tie.After-known-told2 → tie.After-read-sheet
+read c = c .before .before .before .before
+
+known : (c : tie.After-known-told2) → let s = start (read c) .args in
+    Known (now (s .template)) (now (s .script)) (read c .read-sheet .last .1 .1 .0) (c .before .read2 .given .0 .0)
+known c =
+    let sheet = read c .read-sheet in
+    known-by _ _ (sheet .ensures .0) (sheet .ensures .1) (sheet .kept .1 .1 .0) (c .before .read2 .given .1)
 
 slice-aggregate-read-sheet : tie.Need-slice-aggregate-read-sheet
 slice-aggregate-read-sheet c = search needs
@@ -19,47 +34,48 @@ enum-known-read c = search needs
 enum-known-read-2 : tie.Need-enum-known-read-2
 enum-known-read-2 c = search needs
 
-cast-if1 : tie.Need-cast-if1
-cast-if1 c = search needs
-
-cast-if1-2 : tie.Need-cast-if1-2
-cast-if1-2 c = search needs
-
-mul-if1 : tie.Need-mul-if1
-mul-if1 c =
-    let o = opened-by _ _ (c .before .before .before .before .before .before .read-sheet .ensures .0) (c .before .before .before .read2 .given .1) in
-    omega (arith, pairs-few o)
+grid-size-requires : tie.Need-grid-size-requires
+grid-size-requires c κs = search needs
 
 returns : tie.Need-returns
 returns c =
-    let s = c .before .before .before .before .before .before .before .before .before .before .before .before in
-    let o = opened-by _ _ (c .before .before .before .before .before .before .before .read-sheet .ensures .0) (c .before .before .before .before .read2 .given .1) in
-    largest-size (now (s .args .template)) (now (s .args .script)) (sheet o) (asked o) (now (s .args .grid)) (c .if1 .taken)
+    let told = c .before .before in
+    let s = start (read told) .args in
+    let k = known told in
+    largest-size (now (s .template)) (now (s .script)) (sheet k) (asked k) (now (s .grid))
+    (λ e. c .if1 .taken (omega (arith, c .before .grid-size .ensures)))
 
 slice-aggregate-largest-of : tie.Need-slice-aggregate-largest-of
 slice-aggregate-largest-of c = search needs
 
 largest-of-requires : tie.Need-largest-of-requires
 largest-of-requires c κs =
-    let read = c .before .before .before .before .before .before .before .before .before .read-sheet in
-    let o = opened-by _ _ (read .ensures .0) (c .before .before .before .before .before .before .read2 .given .1) in
-    (o, read .ensures .1, read .kept .1 .1 .0, omega arith)
+    let size = c .before .before .before in
+    record { known = known (size .before); size = omega (arith, size .grid-size .ensures) }
+
+struck-answer-requires : tie.Need-struck-answer-requires
+struck-answer-requires c κs = search needs
 
 returns-2 : tie.Need-returns-2
 returns-2 c =
-    let s = c .before .before .before .before .before .before .before .before .before in
-    let h = refused-by (now (s .args .template)) (now (s .args .script)) (c .before .before .before .before .read-sheet .ensures .0) (c .before .read .given .1) in
-    largest-refused (now (s .args .template)) (now (s .args .script)) (now (s .args .grid)) _ _ h
+    let sheet = c .before .before .before .before in
+    let s = start sheet .args in
+    largest-refused (now (s .template)) (now (s .script)) (now (s .grid)) _ _
+    (refused-by _ _ (sheet .read-sheet .ensures .0) (c .before .read .given .1))
 
 same-length : tie.Need-same-length
 same-length c = search needs
 
 returns-3 : tie.Need-returns-3
 returns-3 c =
-    let s = c .before .before .before .before .before .before .before .before .before .before .before .before .before .before .before .before .before in
-    let o = opened-by _ _ (c .before .before .before .before .before .before .before .before .before .before .before .before .read-sheet .ensures .0) (c .before .before .before .before .before .before .before .before .before .read2 .given .1) in
-    largest-done (now (s .args .template)) (now (s .args .script)) (sheet o) (asked o) (now (s .args .grid)) _ _ (omega arith)
-    (c .before .before .largest-of .ensures (sheet o) (asked o))
+    let found = c .before .before .before in
+    let size = found .before .before .before .before in
+    let told = size .before in
+    let s = start (read told) .args in
+    let k = known told in
+    largest-done (now (s .template)) (now (s .script)) (sheet k) (asked k) (now (s .grid)) _ _
+    (omega (arith, size .grid-size .ensures)) (c .struck-answer .ensures)
+    (found .largest-of .ensures (sheet k) (asked k))
 
 pub largest-spec : {M : Type 1} → statement M
 largest-spec =
@@ -69,12 +85,11 @@ largest-spec =
     read-sheet-requires
     enum-known-read
     enum-known-read-2
-    cast-if1
-    cast-if1-2
-    mul-if1
+    grid-size-requires
     returns
     slice-aggregate-largest-of
     largest-of-requires
+    struck-answer-requires
     returns-2
     same-length
     returns-3)

@@ -1,19 +1,35 @@
--- `calls::smallest` answers as document 01 says. Assumes nothing.
-use mathlib.Core.Path.{sym, ap, _∙_}
+-- `calls::smallest` answers as the format says: a law of proofs/Answered for each way out. Assumes nothing.
+use mathlib.Core.Path.{subst}
 use native.Mathlib.Omega.{arith}
 use denote.Ref.{now}
-use Rattle.bookings.specs.Steps.{bookingReading}
-use Rattle.calls.proofs.Found.{opened-by, refused-by, sheet, asked, pairs-few}
-use Rattle.calls.proofs.Answered.{smallest-refused, smallest-list, smallest-size, smallest-done}
 use borrow.Author.Needs.{needs}
+use Rattle.calls.specs.Steps.{Listed, BookedAs}
+use Rattle.calls.proofs.Known.{sheet, asked, few-pairs}
+use Rattle.calls.proofs.Readings.{listed-asked}
+use Rattle.calls.proofs.Answered.{smallest-refused, smallest-size, smallest-done}
 use Rattle.calls.proofs.smallest.Statement.{statement}
 use Rattle.calls.proofs.smallest.Tie as tie
 
-slice-aggregate-read-sheet : tie.Need-slice-aggregate-read-sheet
-slice-aggregate-read-sheet c = search needs
+-- The start, and sheet and bookings as they were read.
+abbrev start : tie.After-read-booked → tie.Start
+start c = c .before .before .before .before .before .before
 
-read-sheet-requires : tie.Need-read-sheet-requires
-read-sheet-requires c κs = search needs
+abbrev read : tie.After-known-told2 → tie.After-read-booked
+read c = c .before .before .before .before
+
+listed : (c : tie.After-known-told2) → let s = start (read c) .args in
+    Listed (now (s .template)) (now (s .script)) (read c .read-booked .last .1 .1 .1 .0) (c .before .read2 .given .0 .0)
+    (now (s .bookings)) (c .before .read2 .given .0 .1 .0)
+listed c =
+    let s = start (read c) .args in
+    subst (BookedAs (now (s .template)) (now (s .script)) (read c .read-booked .last .1 .1 .1 .0) (now (s .bookings)))
+    (c .before .read2 .given .1) (read c .read-booked .ensures)
+
+slice-aggregate-read-booked : tie.Need-slice-aggregate-read-booked
+slice-aggregate-read-booked c = search needs
+
+read-booked-requires : tie.Need-read-booked-requires
+read-booked-requires c κs = search needs
 
 enum-known-read : tie.Need-enum-known-read
 enum-known-read c = search needs
@@ -21,115 +37,82 @@ enum-known-read c = search needs
 enum-known-read-2 : tie.Need-enum-known-read-2
 enum-known-read-2 c = search needs
 
-read-bookings-requires : tie.Need-read-bookings-requires
-read-bookings-requires c κs = search needs
-
-enum-known-list : tie.Need-enum-known-list
-enum-known-list c = search needs
-
-enum-known-list-2 : tie.Need-enum-known-list-2
-enum-known-list-2 c = search needs
-
-cast-size : tie.Need-cast-size
-cast-size c = search needs
-
-cast-size-2 : tie.Need-cast-size-2
-cast-size-2 c = search needs
-
-mul-size : tie.Need-mul-size
-mul-size c =
-    let o = opened-by _ _ (c .before .before .before .before .before .before .before .before .before .before .read-sheet .ensures .0) (c .before .before .before .before .before .before .before .read2 .given .1) in
-    omega (arith, pairs-few o)
+grid-size-requires : tie.Need-grid-size-requires
+grid-size-requires c κs = search needs
 
 returns : tie.Need-returns
 returns c =
-    let s = c .before .before .before .before .before .before .before .before .before .before .before .before .before .before .before .before .before in
-    let template = now (s .args .template) in
-    let script = now (s .args .script) in
-    let bookings = now (s .args .bookings) in
-    let o = opened-by template script (c .before .before .before .before .before .before .before .before .before .before .before .read-sheet .ensures .0) (c .before .before .before .before .before .before .before .before .read2 .given .1) in
-    let list = sym (c .before .before .before .before .before .before .read-bookings .ensures) ∙ ap bookingReading (c .before .before .before .before .list2 .given .1) in
-    smallest-size template script (sheet o) (asked o) bookings _ list (now (s .args .grid)) (c .if1 .taken)
+    let told = c .before .before in
+    let s = start (read told) .args in
+    let l = listed told in
+    smallest-size (now (s .template)) (now (s .script)) (now (s .bookings)) (sheet (l .known)) (listed-asked l)
+    (now (s .grid)) (λ e. c .if1 .taken (omega (arith, c .before .grid-size .ensures)))
 
-slice-aggregate-smallest-of : tie.Need-slice-aggregate-smallest-of
-slice-aggregate-smallest-of c = search needs
-
-sub-smallest-of : tie.Need-sub-smallest-of
-sub-smallest-of c = search needs
+sub-pairs : tie.Need-sub-pairs
+sub-pairs c = search needs
 
 part-fitting-start : tie.Need-part-fitting-start
 part-fitting-start c = search needs
 
 part-fitting-end : tie.Need-part-fitting-end
 part-fitting-end c =
-    let o = opened-by _ _ (c .before .before .before .before .before .before .before .before .before .before .before .before .read-sheet .ensures .0) (c .before .before .before .before .before .before .before .before .before .read2 .given .1) in
-    omega (arith, pairs-few o)
+    let size = c .before in
+    omega (arith, size .grid-size .ensures, few-pairs (listed (size .before) .known))
+
+slice-aggregate-smallest-of : tie.Need-slice-aggregate-smallest-of
+slice-aggregate-smallest-of c = search needs
 
 smallest-of-requires : tie.Need-smallest-of-requires
 smallest-of-requires c κs =
-    let s = c .before .before .before .before .before .before .before .before .before .before .before .before .before .before .before .before .before .before .before .before in
-    let template = now (s .args .template) in
-    let script = now (s .args .script) in
-    let bookings = now (s .args .bookings) in
-    let o = opened-by template script (c .before .before .before .before .before .before .before .before .before .before .before .before .before .before .read-sheet .ensures .0) (c .before .before .before .before .before .before .before .before .before .before .before .read2 .given .1) in
-    let list = sym (c .before .before .before .before .before .before .before .before .before .read-bookings .ensures) ∙ ap bookingReading (c .before .before .before .before .before .before .before .list2 .given .1) in
-    let table = c .before .before .before .before .before .before .before .before .before .before .before .before .before .before .read-sheet in
-    (o, table .ensures .1, table .kept .1 .1 .0, list, omega (arith, pairs-few o), omega arith)
+    let size = c .before .before .before .before in
+    let l = listed (size .before) in
+    record {
+      listed = l;
+      size = omega (arith, size .grid-size .ensures);
+      other-size = omega (arith, size .grid-size .ensures, few-pairs (l .known));
+    }
+
+settled-answer-requires : tie.Need-settled-answer-requires
+settled-answer-requires c κs = search needs
 
 returns-2 : tie.Need-returns-2
 returns-2 c =
-    let s = c .before .before .before .before .before .before .before .before .before .before in
-    let template = now (s .args .template) in
-    let script = now (s .args .script) in
-    let bookings = now (s .args .bookings) in
-    let h = refused-by template script (c .before .before .before .before .read-sheet .ensures .0) (c .before .read .given .1) in
-    smallest-refused template script (now (s .args .grid)) bookings _ _ h
-
-returns-3 : tie.Need-returns-3
-returns-3 c =
-    let s = c .before .before .before .before .before .before .before .before .before .before .before .before .before .before in
-    let template = now (s .args .template) in
-    let script = now (s .args .script) in
-    let bookings = now (s .args .bookings) in
-    let o = opened-by template script (c .before .before .before .before .before .before .before .before .read-sheet .ensures .0) (c .before .before .before .before .before .read2 .given .1) in
-    let list = sym (c .before .before .before .read-bookings .ensures) ∙ ap bookingReading (c .before .list .given .1) in
-    smallest-list template script (sheet o) (asked o) bookings _ _ list (now (s .args .grid))
+    let both = c .before .before .before .before in
+    let s = start both .args in
+    smallest-refused (now (s .template)) (now (s .script)) (now (s .bookings)) _ _
+    (subst (BookedAs (now (s .template)) (now (s .script)) (both .read-booked .last .1 .1 .1 .0) (now (s .bookings)))
+    (c .before .read .given .1) (both .read-booked .ensures)) (now (s .grid))
 
 same-length : tie.Need-same-length
 same-length c = search needs
 
-returns-4 : tie.Need-returns-4
-returns-4 c =
-    let s = c .before .before .before .before .before .before .before .before .before .before .before .before .before .before .before .before .before .before .before .before .before .before .before .before in
-    let template = now (s .args .template) in
-    let script = now (s .args .script) in
-    let bookings = now (s .args .bookings) in
-    let o = opened-by template script (c .before .before .before .before .before .before .before .before .before .before .before .before .before .before .before .before .before .before .read-sheet .ensures .0) (c .before .before .before .before .before .before .before .before .before .before .before .before .before .before .before .read2 .given .1) in
-    let list = sym (c .before .before .before .before .before .before .before .before .before .before .before .before .before .read-bookings .ensures) ∙ ap bookingReading (c .before .before .before .before .before .before .before .before .before .before .before .list2 .given .1) in
-    smallest-done template script (sheet o) (asked o) bookings _ list (now (s .args .grid)) _ _ (omega arith)
-    (c .before .before .before .smallest-of .ensures (sheet o) (asked o))
+returns-3 : tie.Need-returns-3
+returns-3 c =
+    let found = c .before .before .before .before in
+    let size = found .before .before .before .before .before in
+    let told = size .before in
+    let s = start (read told) .args in
+    let l = listed told in
+    smallest-done (now (s .template)) (now (s .script)) (now (s .bookings)) (sheet (l .known)) (listed-asked l)
+    (now (s .grid)) _ _ (omega (arith, size .grid-size .ensures)) (c .settled-answer .ensures)
+    (found .smallest-of .ensures (sheet (l .known)) (asked (l .known)))
 
 pub smallest-spec : {M : Type 1} → statement M
 smallest-spec =
     tie.close
     (tie.spec
-    slice-aggregate-read-sheet
-    read-sheet-requires
+    slice-aggregate-read-booked
+    read-booked-requires
     enum-known-read
     enum-known-read-2
-    read-bookings-requires
-    enum-known-list
-    enum-known-list-2
-    cast-size
-    cast-size-2
-    mul-size
+    grid-size-requires
     returns
-    slice-aggregate-smallest-of
-    sub-smallest-of
+    sub-pairs
     part-fitting-start
     part-fitting-end
+    slice-aggregate-smallest-of
     smallest-of-requires
+    settled-answer-requires
     returns-2
-    returns-3
     same-length
-    returns-4)
+    returns-3)

@@ -1,0 +1,72 @@
+-- What a sheet that is read with its table of names has.
+--   sheet, asked, same-sheet   the sheet that is read, and that no other is
+--   read                       what its template and its script passed
+--   few-pairs                  it has at most 32,768 pairs
+--   ready                      it is ready to be searched
+--   starts-found, card-starts  where each card's links start, as found and as the search takes it
+-- Assumes nothing.
+use Prim.Native.Nat.{ℕ, _+_, _*_, _≤_}
+use mathlib.Core.Path.{_≡_, sym, _∙_, subst}
+use mathlib.Core.List.{List}
+use native.Mathlib.Nat.{mul-le-mul}
+use native.Mathlib.Omega.{arith}
+use lib.ListN.{length, getD}
+use Rattle.words.specs.Limits.{maxKinds, maxCards, maxGrid}
+use Rattle.words.specs.Reading.{accepted}
+use Rattle.words.proofs.Readings.{accepted-same}
+use Rattle.template.specs.Template.{Template, Tabled}
+use Rattle.script.specs.Link.{Ascending, below}
+use Rattle.script.specs.Script.{ScriptCounts, countsOf}
+use Rattle.script.specs.Steps.{StartsOf}
+use Rattle.sheet.specs.Sheet.{Sheet, sheetOf, readSheet}
+use Rattle.sheet.specs.Opened.{templateAs, Known}
+use Rattle.sheet.specs.declared.Extent.{Extent}
+use Rattle.sheet.proofs.Accepted.{SheetAccepted, sheet-asked, sheet-made}
+use Rattle.typing.specs.Needs.{Ready}
+use Rattle.typing.proofs.Instance as instance
+use Rattle.search.specs.Indexes.{Starts}
+use Rattle.search.proofs.Indexes.{starts-of}
+
+module _ {template script names : List ℕ} {e : Extent} (k : Known template script names e) where
+  abbrev pub shaped : Template
+  shaped = templateAs (e .kinds) (e .shapes) (k .opened .parts)
+
+  abbrev counts : ScriptCounts
+  counts = countsOf (e .cards) (e .links)
+
+  abbrev pub sheet : Sheet
+  sheet = sheetOf shaped counts script
+
+  pub asked : readSheet template script ≡ accepted sheet
+  asked = sheet-asked template script shaped counts (k .opened .template-read) (k .opened .script-read)
+
+  pub same-sheet : (s : Sheet) → readSheet template script ≡ accepted s → sheet ≡ s
+  same-sheet s q = accepted-same (sym asked ∙ q)
+
+  pub read : SheetAccepted template (e .kinds) sheet
+  read = sheet-made template script shaped counts (k .opened .template-read) (k .opened .script-read)
+
+  pub few-pairs : e .cards * e .shapes ≤ maxGrid
+  few-pairs = mul-le-mul (read .links .cards-bound) (read .shapes .shapes-high)
+
+  pub tabled : Tabled (k .opened .parts) names
+  tabled = k .table shaped (k .opened .template-read)
+
+  pub rows : e .shapes * maxKinds ≤ length names
+  rows = omega (arith, read .shapes .shapes-high, k .room)
+
+  pub ready : Ready script names (e .shapes)
+  ready = instance.ready read names tabled rows
+
+  pub starts-found : {starts : List ℕ} → length starts ≡ maxCards + 1
+      → ((c : ℕ) → c ≤ e .cards → getD starts c 0 ≡ below script c (e .links))
+      → StartsOf script starts (e .cards) (e .links)
+  starts-found long exact = record { room = omega (arith, read .links .cards-bound); exact = exact }
+
+  -- the links of a card stand from its start up to the next card's
+  pub card-starts : (starts : List ℕ) → StartsOf script starts (e .cards) (e .links) → Starts script starts
+  card-starts starts s =
+      starts-of ready (subst (Ascending script) (read .links .links) (read .links .ascending))
+      (omega (arith, s .room, read .links .cards))
+      (λ c l. subst (λ (m : ℕ). getD starts c 0 ≡ below script c m) (read .links .links)
+      (s .exact c (omega (arith, read .links .cards))))

@@ -1,0 +1,99 @@
+-- The grid of a sheet's pairs that fit stands for the sheet.
+--   pairs-tested                    what testing the pairs leaves is that grid for each sheet that is read
+--   cards-same, shapes-same         the sheet's counts are those that are read
+--   full, full-words, few           the grid has the sheet's size, which the script's words tell too
+--   marks                           the grid's bytes are 0 or 1
+--   stands                          the board of script, table of names and grid stands for the sheet
+-- Assumes nothing.
+use Prim.Native.Nat.{ℕ, _+_, _*_, _/_, _%_, _≤_, _<_}
+use mathlib.Core.Path.{_≡_, sym, ap, _∙_, subst}
+use mathlib.Core.Logic.{_⊎_, inl, inr}
+use mathlib.Core.Bool.{Bool, true, false, cond}
+use mathlib.Core.List.{List}
+use native.Mathlib.Omega.{arith}
+use lib.ListN.{length, getD}
+use Rattle.bags.specs.Part.{Part}
+use Rattle.bags.specs.Interval.{count, fits}
+use Rattle.words.specs.Limits.{maxGrid}
+use Rattle.words.specs.Reading.{accepted}
+use Rattle.words.proofs.Places.{card-in, shape-in, place-of}
+use Rattle.board.specs.Grid.{on}
+use Rattle.board.specs.Machine.{Marks}
+use Rattle.board.proofs.Grids.{on-yes, on-no}
+use Rattle.template.specs.Template.{readTemplate}
+use Rattle.script.specs.Steps.{StartsOf}
+use Rattle.sheet.specs.Sheet.{Sheet, size}
+use Rattle.sheet.specs.Opened.{templateAs, Known}
+use Rattle.sheet.specs.declared.Extent.{Extent}
+use Rattle.typing.specs.Needs.{boardOf}
+use Rattle.typing.proofs.Represents.{Represents}
+use Rattle.typing.proofs.Instance.{FitsGrid, fits-grid, represents}
+use Rattle.fits.specs.Fitting.{Fitted}
+use Rattle.calls.specs.Steps.{SheetTested, PairsTested}
+use Rattle.calls.proofs.Known.{sheet, same-sheet, read, few-pairs, tabled, rows}
+
+pub pairs-tested : {template script names : List ℕ} {e : Extent} {starts fitting : List ℕ}
+    (k : Known template script names e) → StartsOf script starts (e .cards) (e .links)
+    → ((kinds : ℕ) (parts : List Part) → readTemplate template ≡ accepted (templateAs kinds (e .shapes) parts)
+    → Fitted script (e .links) (e .cards) (e .shapes) parts fitting)
+    → PairsTested template script names e starts fitting
+pairs-tested {template} {script} {names} {e} {starts} {fitting} k links fit = record {
+  links = links;
+  tested = λ s q. record {
+    template = template;
+    known = k;
+    asked = q;
+    fits = subst (λ (x : Sheet). Fitted script (e .links) (e .cards) (e .shapes) (x .parts) fitting) (same-sheet k s q)
+        (fit (e .kinds) (k .opened .parts) (k .opened .template-read));
+  };
+}
+
+-- the byte of a pair is 0 or 1, and on exactly if the test passed
+byte-on : (grid : List ℕ) (p : ℕ) (b : Bool) → getD grid p 0 ≡ cond b 1 0 → on grid p ≡ b
+byte-on grid p true h = on-yes grid p h
+byte-on grid p false h = on-no grid p (λ one. absurd (omega (arith, h, one)))
+
+byte-one : {x : ℕ} (b : Bool) → x ≡ cond b 1 0 → (x ≡ 0) ⊎ (x ≡ 1)
+byte-one true h = inr h
+byte-one false h = inl h
+
+module _ {s : Sheet} {script names : List ℕ} {e : Extent} {grid : List ℕ} (t : SheetTested s script names e grid) where
+  same : sheet (t .known) ≡ s
+  same = same-sheet (t .known) s (t .asked)
+
+  pub cards-same : s .cards ≡ e .cards
+  cards-same = sym (ap (λ (x : Sheet). x .cards) same)
+
+  pub shapes-same : s .shapes ≡ e .shapes
+  shapes-same = sym (ap (λ (x : Sheet). x .shapes) same)
+
+  pub full : length grid ≡ size s
+  full = rw (cards-same, shapes-same) (t .fits .full)
+
+  pub full-words : length grid ≡ getD script 0 0 * e .shapes
+  full-words = t .fits .full ∙ ap (λ (n : ℕ). n * e .shapes) (read (t .known) .links .cards)
+
+  pub few : length grid ≤ maxGrid
+  few = omega (arith, t .fits .full, few-pairs (t .known))
+
+  fitted : Fitted script (e .links) (e .cards) (e .shapes) (t .known .opened .parts) grid
+  fitted = rw (ap (λ (x : Sheet). x .parts) same) (t .fits)
+
+  pub marks : Marks grid
+  marks p l =
+      let one = read (t .known) .shapes .shapes-low in
+      let inside : p < e .cards * e .shapes = omega (arith, t .fits .full) in
+      let b = t .fits .each (p / e .shapes) (p % e .shapes) (card-in (e .shapes) one (e .cards) p inside)
+      (shape-in (e .shapes) one p) in
+      subst (λ (x : ℕ). (getD grid x 0 ≡ 0) ⊎ (getD grid x 0 ≡ 1)) (place-of (e .shapes) one p)
+      (byte-one (fits (length (b .counts)) (getD (s .parts) (p % e .shapes) Part.nothing) (count (b .counts))) (b .test))
+
+  fits-right : FitsGrid (sheet (t .known)) grid
+  fits-right = fits-grid (read (t .known)) grid (λ n u ln lu.
+      let b = fitted .each n u ln lu in
+      (b .counts, b .those, byte-on grid (n * e .shapes + u) _ (b .test)))
+
+  pub stands : Represents s (boardOf script names (e .shapes) grid)
+  stands =
+      subst (λ (x : Sheet). Represents x (boardOf script names (e .shapes) grid)) same
+      (represents (read (t .known)) names (tabled (t .known)) (rows (t .known)) grid fits-right)

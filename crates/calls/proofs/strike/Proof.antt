@@ -1,0 +1,61 @@
+-- `calls::strike` leaves the largest typing of each sheet whose pairs that fit it was lent. Assumes nothing.
+use mathlib.Core.Path.{_∙_}
+use native.Mathlib.Omega.{arith}
+use borrow.Author.Needs.{needs}
+use Rattle.calls.proofs.Known.{read, ready}
+use Rattle.calls.proofs.Tested.{cards-same, shapes-same, full-words, few}
+use Rattle.calls.proofs.Striking.{struck-found}
+use Rattle.calls.proofs.strike.Statement.{statement}
+use Rattle.calls.proofs.strike.Tie as tie
+
+-- The start, and the rounds struck.
+abbrev start : tie.After-strike-all-arg2 → tie.Start
+start c = c .before .before .before .before .before .before .before
+
+abbrev rounds : tie.After-struct-known3 → tie.After-strike-all
+rounds c = c .before .before .before .before
+
+cast-shapes : tie.Need-cast-shapes
+cast-shapes c = search needs
+
+cast-strike-all : tie.Need-cast-strike-all
+cast-strike-all c = search needs
+
+strike-all-requires : tie.Need-strike-all-requires
+strike-all-requires c κs =
+    let t = start c .pre .1 in
+    record {
+      ready = ready (t .known);
+      all-links = read (t .known) .links .links;
+      full = full-words t;
+      room = omega (arith, few t);
+    }
+
+cast-count-bare : tie.Need-cast-count-bare
+cast-count-bare c = search needs
+
+count-bare-requires : tie.Need-count-bare-requires
+count-bare-requires c κs =
+    let t = start (rounds c .before) .pre .1 in
+    let accepted = read (t .known) in
+    (rounds c .strike-all .ensures .1 ∙ t .fits .full, accepted .links .cards-bound, accepted .shapes .shapes-high)
+
+same-length : tie.Need-same-length
+same-length c = search needs
+
+returns : tie.Need-returns
+returns c s t =
+    let struck = rounds (c .before) .strike-all .ensures in
+    struck-found t (struck .0) (struck .1) (struck .2) (c .count-bare .ensures s (cards-same t) (shapes-same t))
+
+pub strike-spec : {M : Type 1} → statement M
+strike-spec =
+    tie.close
+    (tie.spec
+    cast-shapes
+    cast-strike-all
+    strike-all-requires
+    cast-count-bare
+    count-bare-requires
+    same-length
+    returns)

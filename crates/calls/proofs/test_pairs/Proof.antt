@@ -1,0 +1,55 @@
+-- `calls::test_pairs` tests each pair of a sheet that is read. Assumes nothing.
+use native.Mathlib.Omega.{arith}
+use borrow.Author.Needs.{needs}
+use Rattle.calls.proofs.Known.{read, starts-found}
+use Rattle.calls.proofs.Tested.{pairs-tested}
+use Rattle.calls.proofs.test_pairs.Statement.{statement}
+use Rattle.calls.proofs.test_pairs.Tie as tie
+
+-- The start, from before and from after the links' starts are found.
+abbrev start : tie.After-link-starts-arg → tie.Start
+start c = c .before .before .before .before .before .before .before
+
+abbrev found : tie.After-fit-grid-arg3 → tie.After-link-starts
+found c = c .before .before .before
+
+cast-link-starts : tie.Need-cast-link-starts
+cast-link-starts c = search needs
+
+cast-link-starts-2 : tie.Need-cast-link-starts-2
+cast-link-starts-2 c = search needs
+
+link-starts-requires : tie.Need-link-starts-requires
+link-starts-requires c κs =
+    let accepted = read (start c .pre .known) in
+    (accepted .links .ascending, omega (arith, accepted .links .cards-bound))
+
+fit-grid-requires : tie.Need-fit-grid-requires
+fit-grid-requires c κs =
+    let sized = start (found c .before) .pre in
+    let links = found c .link-starts .ensures in (
+      record { known = sized .known; links = starts-found (sized .known) (omega (arith, links .1)) (links .0) },
+      sized .size,
+    )
+
+same-length : tie.Need-same-length
+same-length c = search needs
+
+returns : tie.Need-returns
+returns c =
+    let fitted = c .before .before in
+    let at = found (fitted .before) in
+    let k = start (at .before) .pre .known in
+    pairs-tested k (starts-found k (omega (arith, at .link-starts .ensures .1)) (at .link-starts .ensures .0))
+    (fitted .fit-grid .ensures)
+
+pub test-pairs-spec : {M : Type 1} → statement M
+test-pairs-spec =
+    tie.close
+    (tie.spec
+    cast-link-starts
+    cast-link-starts-2
+    link-starts-requires
+    fit-grid-requires
+    same-length
+    returns)

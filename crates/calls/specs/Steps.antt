@@ -1,0 +1,84 @@
+-- What the steps of a call ask for and leave behind; no part of a promise.
+-- SheetTested   a sheet that is read, its table of names, and the grid of the pairs that fit by counts
+-- PairsTested   each sheet that the readings ask for is; and where each card's links start
+-- Listed        a sheet with its table of names and a booking list, all read; BookedAs: what reading them finds
+-- Sized, Lent   what is read, with a grid or two grids of the sheet's size
+-- Settling      what settling the bookings asks for
+-- struckSaid, settledSaid, bothOf   what the two searches say, and both
+-- Assumes nothing.
+use Prim.Native.Nat.{ℕ, _*_}
+use mathlib.Core.Path.{_≡_}
+use mathlib.Core.List.{List, [], _∷_}
+use lib.ListN.{length}
+use Rattle.words.specs.Said.{Said, values, refusal}
+use Rattle.words.specs.Reading.{accepted, turnedDown, then}
+use Rattle.script.specs.Steps.{StartsOf}
+use Rattle.sheet.specs.Sheet.{Sheet, readSheet}
+use Rattle.sheet.specs.Opened.{Known}
+use Rattle.sheet.specs.declared.Extent.{Extent}
+use Rattle.bookings.specs.Bookings.{readBookings}
+use Rattle.typing.specs.Answer.{BothSaid}
+use Rattle.typing.specs.Calls.{withBookings}
+use Rattle.fits.specs.Fitting.{Fitted}
+use Rattle.calls.specs.declared.Struck.{Struck}
+use Rattle.calls.specs.declared.Settled.{Settled}
+use Rattle.calls.specs.declared.Settled.the-variants as settled
+use Rattle.calls.specs.declared.Both.{Both}
+use Rattle.calls.specs.declared.BookedRead.{BookedRead}
+use Rattle.calls.specs.declared.BookedRead.the-variants as read
+
+-- The sheet s is read from some template and the script, and the grid is 1 where the counts of a pair fit, else 0.
+pub record SheetTested (s : Sheet) (script names : List ℕ) (e : Extent) (fitting : List ℕ) : Type 0 where
+  pub template : List ℕ
+  pub known : Known template script names e
+  pub asked : readSheet template script ≡ accepted s
+  pub fits : Fitted script (e .links) (e .cards) (e .shapes) (s .parts) fitting
+
+-- What testing the pairs leaves: where each card's links start, and which pairs fit.
+pub record PairsTested (template script names : List ℕ) (e : Extent) (starts fitting : List ℕ) : Type 0 where
+  pub links : StartsOf script starts (e .cards) (e .links)
+  pub tested : (s : Sheet) → readSheet template script ≡ accepted s → SheetTested s script names e fitting
+
+-- A sheet with its table of names, and a booking list of so many bookings for it.
+pub record Listed (template script names : List ℕ) (e : Extent) (bookings : List ℕ) (count : ℕ) : Type 0 where
+  pub known : Known template script names e
+  pub list : readBookings (e .cards) (e .shapes) bookings ≡ accepted count
+
+-- What reading template, script and bookings finds, in this order.
+abbrev pub BookedAs : List ℕ → List ℕ → List ℕ → List ℕ → BookedRead → Type 0
+BookedAs template script names bookings (read.Sheet e count) = Listed template script names e bookings count
+BookedAs template script names bookings (read.Refused number place) =
+    then (readSheet template script) (withBookings bookings) ≡ turnedDown number place
+
+-- A sheet with its table of names, and a grid of its size.
+pub record Sized (template script names : List ℕ) (e : Extent) (grid : List ℕ) : Type 0 where
+  pub known : Known template script names e
+  pub size : length grid ≡ e .cards * e .shapes
+
+-- A sheet with a booking list, and two grids of its size.
+pub record Lent (template script names : List ℕ) (e : Extent) (bookings : List ℕ) (count : ℕ) (one other : List ℕ)
+    : Type 0 where
+  pub listed : Listed template script names e bookings count
+  pub size : length one ≡ e .cards * e .shapes
+  pub other-size : length other ≡ e .cards * e .shapes
+
+-- Some sheet is tested, its cards' links and a booking list are known, and the grid has the sheet's size.
+pub record Settling (script names : List ℕ) (e : Extent) (fitting bookings : List ℕ) (count : ℕ) (starts grid : List ℕ)
+    : Type 0 where
+  pub sheet : Sheet
+  pub tested : SheetTested sheet script names e fitting
+  pub list : readBookings (e .cards) (e .shapes) bookings ≡ accepted count
+  pub links : StartsOf script starts (e .cards) (e .links)
+  pub size : length grid ≡ e .cards * e .shapes
+
+-- Rounds, pairs struck, cards with no shape.
+abbrev pub struckSaid : Struck → Said
+struckSaid r = values (r .rounds ∷ r .struck ∷ r .bare ∷ [])
+
+-- The closure's number of pairs; or 50, with the card and the shape of its lowest pair that is not met.
+abbrev pub settledSaid : Settled → Said
+settledSaid (settled.Pairs pairs) = values (pairs ∷ [])
+settledSaid (settled.NotMet card shape) = refusal 50 (card .0 ∷ shape .0 ∷ [])
+
+abbrev pub bothOf : Both → BothSaid
+bothOf r = record { largest = struckSaid (r .largest); smallest = settledSaid (r .smallest) }
