@@ -1,12 +1,31 @@
 -- `capi::prep_both_typings` tells what the call for both typings says. Assumes nothing.
 use mathlib.Core.Path.{refl}
-use Rattle.typing.specs.Answer.{bothSaid}
+use Rattle.typing.specs.Answer.{BothSaid, bothSaid}
 use Rattle.typing.specs.Calls.{BothSays}
-use Rattle.capi.proofs.Told.{said-by, both-refused}
+use Rattle.capi.proofs.Told.{Plain, said-by, both-refused}
 use Rattle.capi.proofs.Refusals.{both-plain}
+use Prim.Native.Nat.{ℕ}
+use mathlib.Core.List.{[], _∷_}
+use denote.Ref.{now}
+use Rattle.words.specs.Said.{refusal}
 use borrow.Author.Needs.{needs}
 use Rattle.capi.proofs.prep_both_typings.Statement.{statement}
 use Rattle.capi.proofs.prep_both_typings.Tie as tie
+
+-- What the call may say of this input.
+abbrev Allowed : tie.After-both-typings → BothSaid → Type 0
+Allowed a =
+    let s = a .before .before .before .before .before .before .before .before in
+    BothSays (now (s .args .template)) (now (s .args .script)) (now (s .args .bookings))
+    (record { small = now (s .args .small); large = now (s .args .large) })
+    (record { small = a .both-typings .last .1 .1 .1 .0; large = a .both-typings .last .1 .1 .1 .1 .0 })
+
+plain : (a : tie.After-both-typings) (number place : ℕ) → Allowed a (record { largest = refusal number (place ∷ []); smallest = refusal number (place ∷ []) }) → Plain number
+plain a number place =
+    let s = a .before .before .before .before .before .before .before .before in
+    both-plain number place (now (s .args .template)) (now (s .args .script)) (now (s .args .bookings))
+    (record { small = now (s .args .small); large = now (s .args .large) })
+    (record { small = a .both-typings .last .1 .1 .1 .0; large = a .both-typings .last .1 .1 .1 .1 .0 })
 
 both-typings-requires : tie.Need-both-typings-requires
 both-typings-requires c κs = search needs
@@ -40,21 +59,21 @@ same-length-6 c = search needs
 
 returns : tie.Need-returns
 returns c =
-    let call = c .before .before .before .before .before .before .before .both-typings in
-    let says = said-by (BothSays _ _ _ _ _) bothSaid (c .before .answer .given .1) (call .ensures) in
+    let a = c .before .before .before .before .before .before .before in
+    let says = said-by (Allowed a) bothSaid (c .before .answer .given .1) (a .both-typings .ensures) in
     (says, (refl, (refl, (refl, tt))), (refl, (refl, (refl, tt))))
 
 returns-2 : tie.Need-returns-2
 returns-2 c =
-    let call = c .before .before .before .before .before .before .before .both-typings in
-    let says = said-by (BothSays _ _ _ _ _) bothSaid (c .before .answer2 .given .1) (call .ensures) in
+    let a = c .before .before .before .before .before .before .before in
+    let says = said-by (Allowed a) bothSaid (c .before .answer2 .given .1) (a .both-typings .ensures) in
     (says, (refl, (refl, (refl, tt))), (refl, (refl, tt)))
 
 returns-3 : tie.Need-returns-3
 returns-3 c =
-    let call = c .before .before .before .before .before .before .before .both-typings in
-    let says = said-by (BothSays _ _ _ _ _) bothSaid (c .before .answer3 .given .1) (call .ensures) in
-    both-refused (BothSays _ _ _ _ _) _ _ (both-plain _ _ _ _ _ _ _ says) says
+    let a = c .before .before .before .before .before .before .before in
+    let says = said-by (Allowed a) bothSaid (c .before .answer3 .given .1) (a .both-typings .ensures) in
+    both-refused (Allowed a) _ _ (plain a (c .before .answer3 .given .0 .0) (c .before .answer3 .given .0 .1 .0) says) says
 
 pub prep-both-typings-spec : {M : Type 1} → statement M
 prep-both-typings-spec =

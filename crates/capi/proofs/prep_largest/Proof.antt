@@ -1,11 +1,27 @@
 -- `capi::prep_largest` tells what the call for the largest typing says. Assumes nothing.
 use Rattle.typing.specs.Answer.{largestSaid}
 use Rattle.typing.specs.Calls.{LargestSays}
-use Rattle.capi.proofs.Told.{said-by, tells-found, tells-refused}
+use Rattle.capi.proofs.Told.{Plain, said-by, tells-found, tells-refused}
 use Rattle.capi.proofs.Refusals.{largest-plain}
+use denote.Ref.{now}
+use Prim.Native.Nat.{ℕ}
+use mathlib.Core.List.{[], _∷_}
+use Rattle.words.specs.Said.{Said, refusal}
 use borrow.Author.Needs.{needs}
 use Rattle.capi.proofs.prep_largest.Statement.{statement}
 use Rattle.capi.proofs.prep_largest.Tie as tie
+
+-- What the call may say of this input.
+abbrev Allowed : tie.After-largest → Said → Type 0
+Allowed a =
+    let s = a .before .before .before .before .before in
+    LargestSays (now (s .args .template)) (now (s .args .script)) (now (s .args .grid)) (a .largest .last .1 .1 .0)
+
+plain : (a : tie.After-largest) (number place : ℕ) → Allowed a (refusal number (place ∷ [])) → Plain number
+plain a number place =
+    let s = a .before .before .before .before .before in
+    largest-plain number place (now (s .args .template)) (now (s .args .script)) (now (s .args .grid))
+    (a .largest .last .1 .1 .0)
 
 largest-requires : tie.Need-largest-requires
 largest-requires c κs = search needs
@@ -24,15 +40,15 @@ same-length-2 c = search needs
 
 returns : tie.Need-returns
 returns c =
-    let call = c .before .before .before .before .before .largest in
-    let says = said-by (LargestSays _ _ _ _) largestSaid (c .before .answer .given .1) (call .ensures) in
-    tells-found (LargestSays _ _ _ _) _ says
+    let a = c .before .before .before .before .before in
+    let says = said-by (Allowed a) largestSaid (c .before .answer .given .1) (a .largest .ensures) in
+    tells-found (Allowed a) _ says
 
 returns-2 : tie.Need-returns-2
 returns-2 c =
-    let call = c .before .before .before .before .before .largest in
-    let says = said-by (LargestSays _ _ _ _) largestSaid (c .before .answer2 .given .1) (call .ensures) in
-    tells-refused (LargestSays _ _ _ _) 3 _ _ (largest-plain _ _ _ _ _ _ says) says
+    let a = c .before .before .before .before .before in
+    let says = said-by (Allowed a) largestSaid (c .before .answer2 .given .1) (a .largest .ensures) in
+    tells-refused (Allowed a) 3 _ _ (plain a (c .before .answer2 .given .0 .0) (c .before .answer2 .given .0 .1 .0) says) says
 
 pub prep-largest-spec : {M : Type 1} → statement M
 prep-largest-spec =

@@ -2,11 +2,28 @@
 use mathlib.Core.Path.{refl}
 use Rattle.typing.specs.Answer.{smallestSaid}
 use Rattle.typing.specs.Calls.{SmallestSays}
-use Rattle.capi.proofs.Told.{said-by, tells-found, tells-paired, tells-refused}
+use Rattle.capi.proofs.Told.{Plain, said-by, tells-found, tells-paired, tells-refused}
 use Rattle.capi.proofs.Refusals.{smallest-plain}
+use denote.Ref.{now}
+use Prim.Native.Nat.{ℕ}
+use mathlib.Core.List.{[], _∷_}
+use Rattle.words.specs.Said.{Said, refusal}
 use borrow.Author.Needs.{needs}
 use Rattle.capi.proofs.prep_smallest.Statement.{statement}
 use Rattle.capi.proofs.prep_smallest.Tie as tie
+
+-- What the call may say of this input.
+abbrev Allowed : tie.After-smallest → Said → Type 0
+Allowed a =
+    let s = a .before .before .before .before .before .before in
+    SmallestSays (now (s .args .template)) (now (s .args .script)) (now (s .args .bookings)) (now (s .args .grid))
+    (a .smallest .last .1 .1 .1 .0)
+
+plain : (a : tie.After-smallest) (number place : ℕ) → Allowed a (refusal number (place ∷ [])) → Plain number
+plain a number place =
+    let s = a .before .before .before .before .before .before in
+    smallest-plain number place (now (s .args .template)) (now (s .args .script)) (now (s .args .bookings))
+    (now (s .args .grid)) (a .smallest .last .1 .1 .1 .0)
 
 smallest-requires : tie.Need-smallest-requires
 smallest-requires c κs = search needs
@@ -31,21 +48,21 @@ same-length-3 c = search needs
 
 returns : tie.Need-returns
 returns c =
-    let call = c .before .before .before .before .before .smallest in
-    let says = said-by (SmallestSays _ _ _ _ _) smallestSaid (c .before .answer .given .1) (call .ensures) in
-    tells-found (SmallestSays _ _ _ _ _) _ says
+    let a = c .before .before .before .before .before in
+    let says = said-by (Allowed a) smallestSaid (c .before .answer .given .1) (a .smallest .ensures) in
+    tells-found (Allowed a) _ says
 
 returns-2 : tie.Need-returns-2
 returns-2 c =
-    let call = c .before .before .before .before .before .smallest in
-    let says = said-by (SmallestSays _ _ _ _ _) smallestSaid (c .before .answer2 .given .1) (call .ensures) in
-    tells-paired (SmallestSays _ _ _ _ _) 1 50 _ _ refl refl says
+    let a = c .before .before .before .before .before in
+    let says = said-by (Allowed a) smallestSaid (c .before .answer2 .given .1) (a .smallest .ensures) in
+    tells-paired (Allowed a) 1 50 _ _ refl refl says
 
 returns-3 : tie.Need-returns-3
 returns-3 c =
-    let call = c .before .before .before .before .before .smallest in
-    let says = said-by (SmallestSays _ _ _ _ _) smallestSaid (c .before .answer3 .given .1) (call .ensures) in
-    tells-refused (SmallestSays _ _ _ _ _) 1 _ _ (smallest-plain _ _ _ _ _ _ _ says) says
+    let a = c .before .before .before .before .before in
+    let says = said-by (Allowed a) smallestSaid (c .before .answer3 .given .1) (a .smallest .ensures) in
+    tells-refused (Allowed a) 1 _ _ (plain a (c .before .answer3 .given .0 .0) (c .before .answer3 .given .0 .1 .0) says) says
 
 pub prep-smallest-spec : {M : Type 1} → statement M
 prep-smallest-spec =
