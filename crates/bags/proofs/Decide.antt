@@ -1,21 +1,23 @@
 -- The tests decide.
 --   ok              no label stands twice and every shape is below S; ok-true: so it is where the test is true
 --   others-exact    the test `othersZero` is true exactly where the labels not named count 0
---   fits-decided    the test `fits` is true exactly for the counts that fit
+--   fits-decided    the test `fits` is true exactly for the counts that fit; list-decided: for a list of counts
 -- Assumes nothing.
-use Prim.Native.Nat.{ℕ, zero, suc, _+_}
+use Prim.Native.Nat.{ℕ, zero, suc, _≤_, _<_}
 use mathlib.Core.Path.{_≡_, refl, sym, _∙_, ap, subst}
 use mathlib.Core.Logic.{⊎-elim, _↔_}
 use mathlib.Core.Bool.{Bool, true, false, _&&_, _||_, not, true≢false}
-use mathlib.Core.List.{List, [], _∷_}
+use mathlib.Core.List.{List}
 use native.Mathlib.Omega.{arith}
+use lib.ListN.{length, List·getD-eq-default}
 use lib.Dec.{eqb, ltb}
 use borrow.Author.Tests.{eq-eqb, eqb-true, ltb-true, not-true}
 use Rattle.bags.specs.Part.{Part, nothing, star, plus, optional, choice, all, link, Parts, none, more, Names}
 use Rattle.bags.specs.Part.{RunNames, Single, RunSingle, ShapesBelow, RunShapesBelow}
 use Rattle.bags.specs.Bag.{Fits}
 use Rattle.bags.specs.Interval.{inside, interval, names, runNames, count, othersZero, fits}
-use Rattle.words.proofs.Bools.{and-first, and-second, and-both, or-cases}
+use Rattle.words.proofs.Bools.{never-both, and-first, and-second, and-both, or-cases, or-left, or-right}
+use Rattle.words.proofs.Bools.{bool-case, le-or-lt, last-or-below}
 use Rattle.bags.proofs.Naming.{names-exact, run-names-exact}
 use Rattle.bags.proofs.Intervals.{inside-exact}
 use Rattle.bags.proofs.Exact.{fits-exact}
@@ -90,42 +92,49 @@ mutual
         (h .1, g .1),
       )
 
--- The labels that the part does not name count 0, from j on.
-abbrev OthersZero : Part → ℕ → List ℕ → Type 0
-OthersZero p j xs = (k : ℕ) → (Names p (j + k) → ⊥) → count xs k ≡ 0
+-- The test looks at the labels below a number.
+module _ (p : Part) (w : ℕ → ℕ) where
+  others-zero : (labels : ℕ) → othersZero labels p w ≡ true → (k : ℕ) → k < labels → (Names p k → ⊥) → w k ≡ 0
+  others-zero zero e k l n = absurd (omega arith)
+  others-zero (suc labels) e k l n =
+      let last : Bool = names p labels || eqb (w labels) 0 in
+      ⊎-elim
+      (λ q. rw q
+      (⊎-elim (λ d. absurd (n (subst (Names p) (sym q) (names-exact p labels .0 d)))) (λ d. eqb-true (w labels) 0 d)
+      (or-cases (names p labels) (eqb (w labels) 0) (and-second (othersZero labels p w) last e))))
+      (λ b. others-zero labels (and-first (othersZero labels p w) last e) k b n)
+      (last-or-below l)
 
-others-zero : (p : Part) (j : ℕ) (xs : List ℕ) → othersZero p j xs ≡ true → OthersZero p j xs
-others-zero p j [] e k n = refl
-others-zero p j (x ∷ xs) e zero n =
-    ⊎-elim (λ d. absurd (n (subst (Names p) (omega arith) (names-exact p j .0 d)))) (λ d. eqb-true x 0 d)
-    (or-cases (names p j) (eqb x 0) (and-first (names p j || eqb x 0) (othersZero p (suc j) xs) e))
-others-zero p j (x ∷ xs) e (suc k) n =
-    others-zero p (suc j) xs (and-second (names p j || eqb x 0) (othersZero p (suc j) xs) e) k
-    (λ m. n (subst (Names p) (omega arith) m))
+  zero-others : (labels : ℕ) → ((k : ℕ) → (Names p k → ⊥) → w k ≡ 0) → othersZero labels p w ≡ true
+  zero-others zero h = refl
+  zero-others (suc labels) h =
+      and-both (othersZero labels p w) (names p labels || eqb (w labels) 0) (zero-others labels h)
+      (bool-case (names p labels)
+      (λ e. or-left (names p labels) (eqb (w labels) 0) e)
+      (λ e. or-right (names p labels) (eqb (w labels) 0)
+      (eq-eqb (w labels) 0 (h labels (λ m. never-both (names-exact p labels .1 m) e)))))
 
-zero-others : (p : Part) (j : ℕ) (xs : List ℕ) → OthersZero p j xs → othersZero p j xs ≡ true
-zero-others p j [] h = refl
-zero-others p j (x ∷ xs) h =
-    and-both (names p j || eqb x 0) (othersZero p (suc j) xs) (first (names p j) refl)
-    (zero-others p (suc j) xs (λ k n. h (suc k) (λ m. n (subst (Names p) (omega arith) m))))
-  where
-    first : (t : Bool) → names p j ≡ t → (t || eqb x 0) ≡ true
-    first true e = refl
-    first false e = eq-eqb x 0 (h 0 (λ m. true≢false (sym (names-exact p j .1 (subst (Names p) (omega arith) m)) ∙ e)))
+-- Counts of labels that are 0 from a number on.
+module _ (p : Part) (w : ℕ → ℕ) (labels : ℕ) (rest : (k : ℕ) → labels ≤ k → w k ≡ 0) where
+  pub others-exact : (othersZero labels p w ≡ true) ↔ ((k : ℕ) → (Names p k → ⊥) → w k ≡ 0)
+  others-exact = (
+    λ e k n. ⊎-elim (λ l. rest k l) (λ l. others-zero p w labels e k l n) (le-or-lt labels k),
+    λ h. zero-others p w labels h,
+  )
 
-pub others-exact : (p : Part) (xs : List ℕ) → (othersZero p 0 xs ≡ true) ↔ ((k : ℕ) → (Names p k → ⊥) → count xs k ≡ 0)
-others-exact p xs = (
-  λ e k n. others-zero p 0 xs e k (λ m. n (subst (Names p) (omega arith) m)),
-  λ h. zero-others p 0 xs (λ k n. h k (λ m. n (subst (Names p) (omega arith) m))),
-)
+  pub fits-decided : (S : ℕ) → Single p → ShapesBelow S p → Fits S p w ↔ (fits labels p w ≡ true)
+  fits-decided S one below =
+      let fit = inside 1 (interval p w) in
+      let others = othersZero labels p w in
+      let by-interval = fits-exact S p w one below in
+      let by-test = inside-exact 1 (interval p w) in (
+        λ f. let (h, z) = by-interval .0 f in and-both fit others (by-test .1 h) (others-exact .1 z),
+        λ e. by-interval .1 (by-test .0 (and-first fit others e), others-exact .0 (and-second fit others e)),
+      )
 
-pub fits-decided : (S : ℕ) (p : Part) (xs : List ℕ) → Single p → ShapesBelow S p
-    → Fits S p (count xs) ↔ (fits p xs ≡ true)
-fits-decided S p xs one below =
-    let fit = inside 1 (interval p (count xs)) in
-    let others = othersZero p 0 xs in
-    let by-interval = fits-exact S p (count xs) one below in
-    let by-test = inside-exact 1 (interval p (count xs)) in (
-      λ f. let (h, z) = by-interval .0 f in and-both fit others (by-test .1 h) (others-exact p xs .1 z),
-      λ e. by-interval .1 (by-test .0 (and-first fit others e), others-exact p xs .0 (and-second fit others e)),
-    )
+-- A list's counts are 0 past its end.
+pub list-decided :
+    (S : ℕ) (p : Part) (xs : List ℕ) → Single p → ShapesBelow S p →
+    Fits S p (count xs) ↔ (fits (length xs) p (count xs) ≡ true)
+list-decided S p xs one below =
+    fits-decided p (count xs) (length xs) (λ k l. List·getD-eq-default xs 0 l) S one below

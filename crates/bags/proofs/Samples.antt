@@ -1,4 +1,4 @@
--- P1 to P12 hold over the bag definition: one computed test, and a lemma that turns it into each row.
+-- The count samples hold over the bag definition: one computed test, and a lemma that turns it into each row.
 --   samples-hold    every row of the table
 -- Assumes nothing.
 use Prim.Native.Nat.{ℕ}
@@ -9,11 +9,11 @@ use Rattle.bags.specs.Bag.{Fits}
 use Rattle.bags.specs.Interval.{count, fits}
 use Rattle.bags.specs.Samples.{Sample, sample, samples, Says, Holds, AllHold}
 use Rattle.words.proofs.Bools.{and-first, and-second, same-true}
-use Rattle.bags.proofs.Decide.{ok, ok-true, fits-decided}
+use Rattle.bags.proofs.Decide.{ok, ok-true, list-decided}
 
 -- The row's part is one that the test decides, and the test has its answer.
 abbrev passes : Sample → Bool
-passes (sample p x y answer) = ok 1 p && Bool·beq (fits p (x ∷ y ∷ [])) answer
+passes (sample p x y answer) = ok 1 p && Bool·beq (fits 2 p (count (x ∷ y ∷ []))) answer
 
 abbrev allPass : List Sample → Bool
 allPass [] = true
@@ -26,10 +26,10 @@ says t false X f g e = λ x. true≢false (sym (f x) ∙ e)
 row-holds : (s : Sample) → passes s ≡ true → Holds s
 row-holds (sample p x y answer) e =
     let xs : List ℕ = x ∷ y ∷ [] in
-    let h = ok-true 1 p (and-first (ok 1 p) (Bool·beq (fits p xs) answer) e) in
-    let d = fits-decided 1 p xs (h .0) (h .1) in
-    let same = same-true (fits p xs) answer (and-second (ok 1 p) (Bool·beq (fits p xs) answer) e) in
-    says (fits p xs) answer (Fits 1 p (count xs)) (d .0) (d .1) same
+    let h = ok-true 1 p (and-first (ok 1 p) (Bool·beq (fits 2 p (count xs)) answer) e) in
+    let d = list-decided 1 p xs (h .0) (h .1) in
+    let same = same-true (fits 2 p (count xs)) answer (and-second (ok 1 p) (Bool·beq (fits 2 p (count xs)) answer) e) in
+    says (fits 2 p (count xs)) answer (Fits 1 p (count xs)) (d .0) (d .1) same
 
 rows-hold : (ss : List Sample) → allPass ss ≡ true → AllHold ss
 rows-hold [] e = tt

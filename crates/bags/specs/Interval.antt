@@ -1,14 +1,14 @@
--- Intervals of repetitions (document 01, "Bags", second paragraph; section 8.2 of the paper).
+-- Intervals of repetitions (docs/FORMAT.md, "Bags and counts"; section 8.2 of the paper).
 --   Interval, In, inside     a set of numbers of repetitions, and whether a number is in it
 --   meet, add                the intersection, and the sums of a number of each
 --   linkInterval, starInterval, plusInterval   those of a link, and of a star and a plus over a part's
 --   interval                 the interval of a part for some counts
---   fits                     whether counts fit a part, by its interval
+--   othersZero, fits         whether labels that a part does not name count 0; whether counts fit it, by its interval
 -- This is a way to decide whether counts fit, for the evaluator and for tests; the promise is Bag's Fits.
 -- Assumes nothing.
 use Prim.Native.Nat.{ℕ, zero, suc, _+_, _/_, _≤_, min, max}
 use mathlib.Core.Bool.{Bool, true, false, _&&_, _||_}
-use mathlib.Core.List.{List, [], _∷_}
+use mathlib.Core.List.{List}
 use lib.ListN.{getD}
 use lib.Dec.{leb, eqb}
 use Rattle.bags.specs.Part.{Limit, at-most, no-limit, Part, nothing, star, plus, optional, choice, all, link}
@@ -41,7 +41,7 @@ keep false I = empty
 abbrev pub range : ℕ → ℕ → Interval
 range lo hi = keep (leb lo hi) (within lo hi)
 
--- "All intersects them, and an empty interval makes either empty."
+-- The numbers in both: the interval of all. With an empty one it is empty.
 abbrev pub meet : Interval → Interval → Interval
 meet empty J = empty
 meet (within a b) empty = empty
@@ -51,7 +51,7 @@ meet (from a) empty = empty
 meet (from a) (within c d) = range (max a c) d
 meet (from a) (from c) = from (max a c)
 
--- "Choice adds intervals, and an empty interval makes either empty."
+-- The sums of a number of each: the interval of a choice. With an empty one it is empty.
 abbrev pub add : Interval → Interval → Interval
 add empty J = empty
 add (within a b) empty = empty
@@ -66,34 +66,35 @@ abbrev pub lowRoom : ℕ → ℕ → Interval
 lowRoom w zero = from 0
 lowRoom w (suc l) = within 0 (w / suc l)
 
--- Those i with w ≤ i × high, "where no limit means i ≥ 1 or w = 0".
+-- Those i with w ≤ i × high; where there is no limit, those from 1 on, and 0 too if w is 0.
 abbrev pub highRoom : ℕ → Limit → Interval
 highRoom w no-limit = from (min w 1)
 highRoom w (at-most zero) = keep (eqb w 0) (from 0)
 highRoom w (at-most (suc h)) = from ((w + h) / suc h)
 
--- "Link with count w: those i with i × low ≤ w ≤ i × high."
+-- The interval of a link whose label counts w: those i with i × low ≤ w ≤ i × high.
 abbrev pub linkInterval : ℕ → ℕ → Limit → Interval
 linkInterval w low high = meet (lowRoom w low) (highRoom w high)
 
--- "1 up if the part's interval isn't empty; else empty."
+-- From 1 on, but empty where the interval is.
 abbrev pub oneUp : Interval → Interval
 oneUp empty = empty
 oneUp (within lo hi) = from 1
 oneUp (from lo) = from 1
 
--- "1 to the part's highest if not empty; else empty."
+-- From 1 to the interval's highest number, if it has one; empty where the interval is.
 abbrev pub oneToHighest : Interval → Interval
 oneToHighest empty = empty
 oneToHighest (within lo hi) = range 1 hi
 oneToHighest (from lo) = from 1
 
--- "Star: 0 up if the counts of its part's kinds are all 0."
+-- The interval of a star, from whether all labels of its part count 0, and the part's interval.
 abbrev pub starInterval : Bool → Interval → Interval
 starInterval true I = from 0
 starInterval false I = oneUp I
 
--- "Plus: the part's own interval if all are 0." The paper's formula assumes that the part refuses the empty bag.
+-- The interval of a plus, likewise: the part's own where all count 0. The paper's formula assumes that the part refuses
+-- the empty bag.
 abbrev pub plusInterval : Bool → Interval → Interval
 plusInterval true I = I
 plusInterval false I = oneToHighest I
@@ -113,7 +114,7 @@ abbrev mutual
   runAllZero none w = true
   runAllZero (more p ps) w = allZero p w && runAllZero ps w
 
--- "The interval of repetitions i for which the counts of its kinds are a sum of i of its bags."
+-- The numbers i such that the counts of the part's labels are a sum of i of its bags.
 abbrev mutual
   pub interval : Part → (ℕ → ℕ) → Interval
   interval nothing w = from 0
@@ -151,11 +152,12 @@ abbrev mutual
 abbrev pub count : List ℕ → ℕ → ℕ
 count xs k = getD xs k 0
 
--- "A kind not named there must count 0": whether the labels from k on that the part does not name do.
-abbrev pub othersZero : Part → ℕ → List ℕ → Bool
-othersZero p k [] = true
-othersZero p k (x ∷ xs) = (names p k || eqb x 0) && othersZero p (suc k) xs
+-- Whether the labels below a number that the part does not name count 0.
+abbrev pub othersZero : ℕ → Part → (ℕ → ℕ) → Bool
+othersZero zero p w = true
+othersZero (suc k) p w = othersZero k p w && (names p k || eqb (w k) 0)
 
--- "It fits if 1 is inside", and the labels not named count 0.
-abbrev pub fits : Part → List ℕ → Bool
-fits p xs = inside 1 (interval p (count xs)) && othersZero p 0 xs
+-- Whether counts fit a part, where labels from a number on count 0: 1 is in its interval, and the labels below that
+-- number that it does not name count 0.
+abbrev pub fits : ℕ → Part → (ℕ → ℕ) → Bool
+fits labels p w = inside 1 (interval p w) && othersZero labels p w

@@ -1,4 +1,4 @@
--- The count samples P1 to P12 of document 01, as one table.
+-- Samples of counts and whether they fit (docs/FORMAT.md, "Bags and counts"), as one table: P1 to P12.
 --   samples     a part, the counts of the labels 0 and 1, and whether they fit
 --   AllHold     each row's answer is that of Fits
 -- Assumes nothing.
@@ -25,7 +25,7 @@ b low high = link 1 0 low (at-most high)
 abbrev pub two : Part → Part → Parts
 two p q = more p (more q none)
 
--- "Entries after a label belong to it."
+-- The rows after a label belong to it.
 abbrev pub samples : List Sample
 samples =
     -- P1, P2

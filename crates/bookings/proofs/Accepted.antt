@@ -11,10 +11,9 @@ use native.Mathlib.Omega.{arith}
 use native.Mathlib.Nat.{eq-or-lt-of-le}
 use lib.ListN.{length, getD}
 use lib.Dec.{ltb, leb, eqb}
-use borrow.Author.Tests.{leb-false, eqb-true}
+use borrow.Author.Tests.{leb-false, eqb-true, not-false}
 use Rattle.words.specs.Limits.{maxBookings}
 use Rattle.words.specs.Reading.{Reading, accepted}
-use Rattle.words.proofs.Bools.{never-both, is-true, not-of-false}
 use Rattle.words.proofs.Readings.{accepted-same, passed}
 use Rattle.bookings.specs.Bookings.{cardIndex, shapeIndex, cardAt, shapeAt, readPairs, readBookings, Booked}
 
@@ -44,7 +43,7 @@ module _ (cards shapes : ℕ) (bookings : List ℕ) where
         let (few, e2) = passed 31 0 (ltb maxBookings (getD bookings 0 0)) _ count e1 in
         let (size, e3) = passed 30 0 (not (eqb (length bookings) (1 + 2 * getD bookings 0 0))) _ count e2 in
         let (d, each) = pairs-passed (getD bookings 0 0) 0 _ count e3 in (
-          eqb-true (length bookings) (1 + 2 * getD bookings 0 0) (is-true (λ f. never-both (not-of-false f) size)),
+          eqb-true (length bookings) (1 + 2 * getD bookings 0 0) (not-false _ size),
           sym (accepted-same d),
           λ k l. each k (omega arith) (omega arith),
         )

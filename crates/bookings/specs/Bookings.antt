@@ -27,8 +27,8 @@ cardAt bookings i = getD bookings (cardIndex i) 0
 unfoldable pub shapeAt : List ℕ → ℕ → ℕ
 shapeAt bookings i = getD bookings (shapeIndex i) 0
 
--- The n bookings from booking i on, and then what follows where none is at fault. 32: the card is not below the count of
--- cards. 33: the shape is not below the count of shapes.
+-- The n bookings from booking i on, and then what follows where none is at fault. 32: the card is not below the count
+-- of cards. 33: the shape is not below the count of shapes.
 unfoldable pub readPairs : ℕ → ℕ → List ℕ → ℕ → ℕ → Reading ℕ → Reading ℕ
 readPairs cards shapes bookings zero i done = done
 readPairs cards shapes bookings (suc n) i done =
@@ -36,7 +36,8 @@ readPairs cards shapes bookings (suc n) i done =
     (refuse 33 (shapeIndex i) (leb shapes (shapeAt bookings i))
     (readPairs cards shapes bookings n (suc i) done))
 
--- 30: the list is empty. 31: its count is over 1,024. 30: it has other words than the count asks for. Then the bookings.
+-- 30: the list is empty. 31: its count is over 1,024. 30: it has other words than the count asks for. Then its
+-- bookings.
 unfoldable pub readBookings : ℕ → ℕ → List ℕ → Reading ℕ
 readBookings cards shapes bookings =
     refuse 30 0 (eqb (length bookings) 0)

@@ -12,15 +12,17 @@ use native.Mathlib.Omega.{arith}
 use borrow.Author.Tests.{eq-eqb, ne-eqb}
 use lib.ListN.{length}
 use lib.Dec.{eqb}
+use Rattle.words.specs.Limits.{maxTemplate}
 use Rattle.bags.specs.Part.{Part, Parts, Limit}
-use Rattle.bags.specs.Interval.{from, add, meet, starInterval, plusInterval, linkInterval, interval, count, inside}
+use Rattle.bags.specs.Interval.{from, add, meet, starInterval, plusInterval, linkInterval, interval, inside}
 use Rattle.bags.specs.Interval.{othersZero, fits}
 use Rattle.bags.specs.Span.{view, Small}
 use Rattle.bags.specs.declared.Span.{Span}
 use Rattle.bags.proofs.Spans.{span, small-more, small-up}
 use Rattle.template.specs.Reading.{wrapped, gathered}
 use Rattle.counts.specs.declared.Eval.{Eval}
-use Rattle.counts.specs.Trees.{Placed, placed, onto, treesAt, treeAt}
+use Rattle.template.specs.Template.{Placed, placed, onto}
+use Rattle.counts.specs.Trees.{treesAt, treeAt}
 use Rattle.counts.specs.Evaluation.{Evaluates}
 use Rattle.counts.proofs.Sizes.{next-bound, nexts-bound}
 
@@ -41,7 +43,8 @@ module _ (w : ℕ → ℕ) (at : ℕ) where
   evaluates-as s t e h v = subst (λ (u : Placed Part). Evaluates w at u e) h v
 
   -- What is small for few words is so for more.
-  pub evaluates-from : (after : ℕ) (t : Placed Part) (e : Eval) → at ≤ after → Evaluates w after t e → Evaluates w at t e
+  pub evaluates-from :
+      (after : ℕ) (t : Placed Part) (e : Eval) → at ≤ after → Evaluates w after t e → Evaluates w at t e
   evaluates-from after t e h v =
       record {
         next = v .next;
@@ -50,14 +53,15 @@ module _ (w : ℕ → ℕ) (at : ℕ) where
         small = small-more (65535 * (t .next - after)) (65535 * (t .next - at)) (e .span) (omega arith) (v .small);
       }
 
-  module _ (words : List ℕ) (bound : length words ≤ 4096) (left : ℕ) (e : Eval) where
+  module _ (words : List ℕ) (bound : length words ≤ maxTemplate) (left : ℕ) (e : Eval) where
     pub part-small : Evaluates w at (treeAt left words at) e → Small 1000000000 (e .span)
     part-small v =
         let b = next-bound words left at in
         small-more (65535 * (treeAt left words at .next - at)) 1000000000 (e .span) (omega arith) (v .small)
 
     pub run-small :
-        (code n : ℕ) → Evaluates w at (onto (gathered code) (treesAt (treeAt left words) n at)) e → Small 1000000000 (e .span)
+        (code n : ℕ) → Evaluates w at (onto (gathered code) (treesAt (treeAt left words) n at)) e →
+        Small 1000000000 (e .span)
     run-small code n v =
         let b = nexts-bound words left n at in
         small-more (65535 * (treesAt (treeAt left words) n at .next - at)) 1000000000 (e .span) (omega arith) (v .small)
@@ -95,7 +99,12 @@ module _ (w : ℕ → ℕ) (at : ℕ) where
           Evaluates w at (onto (wrapped code) t) (eval (inner .next) (inner .zero) x)
       wrap-star h i s =
           rw (eq-eqb code 1 h)
-          (record { next = v .next; zero = v .zero; span = i ∙ ap₂ starInterval (v .zero) (v .span); small = wrap-small s })
+          (record {
+            next = v .next;
+            zero = v .zero;
+            span = i ∙ ap₂ starInterval (v .zero) (v .span);
+            small = wrap-small s;
+          })
 
       pub wrap-plus :
           code ≡ 2 → view x ≡ plusInterval (inner .zero) (view (inner .span)) →
@@ -104,7 +113,12 @@ module _ (w : ℕ → ℕ) (at : ℕ) where
       wrap-plus h i s =
           let d : code ≡ 1 → ⊥ = omega arith in
           rw (ne-eqb code 1 d, eq-eqb code 2 h)
-          (record { next = v .next; zero = v .zero; span = i ∙ ap₂ plusInterval (v .zero) (v .span); small = wrap-small s })
+          (record {
+            next = v .next;
+            zero = v .zero;
+            span = i ∙ ap₂ plusInterval (v .zero) (v .span);
+            small = wrap-small s;
+          })
 
       pub wrap-optional :
           (code ≡ 1 → ⊥) → (code ≡ 2 → ⊥) → view x ≡ add (from 0) (view (inner .span)) →
@@ -121,10 +135,12 @@ module _ (w : ℕ → ℕ) (at : ℕ) where
 
   -- No parts of a choice, and of all.
   module _ (code next : ℕ) where
-    pub none-choice : code ≡ 16 → Evaluates w at (onto (gathered code) (placed Parts.none next)) (eval next true (span 0 0))
+    pub none-choice :
+        code ≡ 16 → Evaluates w at (onto (gathered code) (placed Parts.none next)) (eval next true (span 0 0))
     unfolding view Small
     none-choice h =
-        rw (eq-eqb code 16 h) (record { next = refl; zero = refl; span = refl; small = (omega arith, λ d. omega arith) })
+        rw (eq-eqb code 16 h)
+        (record { next = refl; zero = refl; span = refl; small = (omega arith, λ d. omega arith) })
 
     pub none-all :
         (e : Eval) → (code ≡ 16 → ⊥) → Evaluates w at (placed Part.nothing next) e →
@@ -142,7 +158,7 @@ module _ (w : ℕ → ℕ) (at : ℕ) where
       pub join-choice :
           code ≡ 16 → view x ≡ add (view (first .span)) (view (rest .span)) →
           ((m n : ℕ) → Small m (first .span) → Small n (rest .span) → Small (m + n) x) →
-          Evaluates w at (onto (gathered code) (onto (Parts.more (t .tree)) u)) (eval (rest .next) zero x)
+          Evaluates w at (onto (gathered code) (onto (Parts.more (t .value)) u)) (eval (rest .next) zero x)
       join-choice h i s =
           let q = rw (eq-eqb code 16 h) at r in
           rw (eq-eqb code 16 h)
@@ -156,7 +172,7 @@ module _ (w : ℕ → ℕ) (at : ℕ) where
       pub join-all :
           (code ≡ 16 → ⊥) → view x ≡ meet (view (first .span)) (view (rest .span)) →
           (((n : ℕ) → Small n (first .span) → Small n (rest .span) → Small n x)) →
-          Evaluates w at (onto (gathered code) (onto (Parts.more (t .tree)) u)) (eval (rest .next) zero x)
+          Evaluates w at (onto (gathered code) (onto (Parts.more (t .value)) u)) (eval (rest .next) zero x)
       join-all d i s =
           let q = rw (ne-eqb code 16 d) at r in
           let all : ℕ = 65535 * (u .next - at) in
@@ -169,16 +185,18 @@ module _ (w : ℕ → ℕ) (at : ℕ) where
                 (small-more _ all (rest .span) (omega arith) (q .small));
           })
 
--- "It fits if 1 is inside", once the labels that are not named count 0.
-module _ (counts : List ℕ) (at : ℕ) (t : Placed Part) (r : Bool) (others : r ≡ othersZero (t .tree) 0 counts) where
-  pub fits-one :
-      (e : Eval) (one : Bool) → Evaluates (count counts) at t e → one ≡ inside 1 (view (e .span)) → r ≡ true →
-      one ≡ fits (t .tree) counts
-  fits-one e one v h y =
-      h ∙ ap (inside 1) (v .span) ∙ sym (and-one (inside 1 (interval (t .tree) (count counts))))
-      ∙ ap (λ (b : Bool). inside 1 (interval (t .tree) (count counts)) && b) (sym y ∙ others)
+-- Counts fit if 1 is in the interval, once the labels that are not named count 0.
+module _
+    (w : ℕ → ℕ) (labels at : ℕ) (t : Placed Part) (r : Bool) (others : r ≡ othersZero labels (t .value) w)
+  where
+    pub fits-one :
+        (e : Eval) (one : Bool) → Evaluates w at t e → one ≡ inside 1 (view (e .span)) → r ≡ true →
+        one ≡ fits labels (t .value) w
+    fits-one e one v h y =
+        h ∙ ap (inside 1) (v .span) ∙ sym (and-one (inside 1 (interval (t .value) w)))
+        ∙ ap (λ (b : Bool). inside 1 (interval (t .value) w) && b) (sym y ∙ others)
 
-  pub fits-not : r ≡ false → false ≡ fits (t .tree) counts
-  fits-not n =
-      sym (and-none (inside 1 (interval (t .tree) (count counts))))
-      ∙ ap (λ (b : Bool). inside 1 (interval (t .tree) (count counts)) && b) (sym n ∙ others)
+    pub fits-not : r ≡ false → false ≡ fits labels (t .value) w
+    fits-not n =
+        sym (and-none (inside 1 (interval (t .value) w)))
+        ∙ ap (λ (b : Bool). inside 1 (interval (t .value) w) && b) (sym n ∙ others)

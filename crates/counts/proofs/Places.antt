@@ -11,7 +11,8 @@ use borrow.Author.Tests.{lt-ltb, le-ltb}
 use lib.ListN.{length, getD}
 use Rattle.bags.specs.Part.{Part, Parts}
 use Rattle.template.specs.Reading.{Code, codeOf}
-use Rattle.counts.specs.Trees.{Placed, placed, onto, treesAt, treeBy, treeAt}
+use Rattle.template.specs.Template.{Placed, placed, onto}
+use Rattle.counts.specs.Trees.{treesAt, treeBy, treeAt}
 
 module _ (words : List ℕ) (at : ℕ) where
   pub tree-deep : (left : ℕ) → left ≡ 0 → placed Part.nothing at ≡ treeAt left words at
@@ -36,7 +37,8 @@ module _ (inner : ℕ → Placed Part) (at : ℕ) where
   trees-none n e = rw e
 
   pub trees-more :
-      (n : ℕ) → 0 < n → onto (Parts.more (inner at .tree)) (treesAt inner (n - 1) (inner at .next)) ≡ treesAt inner n at
+      (n : ℕ) → 0 < n →
+      onto (Parts.more (inner at .value)) (treesAt inner (n - 1) (inner at .next)) ≡ treesAt inner n at
   unfolding treesAt
   trees-more zero h = absurd (omega arith)
   trees-more (suc n) h = rw sub-one

@@ -10,7 +10,8 @@ use lib.ListN.{length, getD}
 use lib.Dec.{ltb}
 use Rattle.bags.specs.Part.{Part}
 use Rattle.template.specs.Reading.{Code, codeOf}
-use Rattle.counts.specs.Trees.{Placed, treesAt, treeBy, treeAt}
+use Rattle.template.specs.Template.{Placed}
+use Rattle.counts.specs.Trees.{treesAt, treeBy, treeAt}
 use Rattle.words.proofs.Bools.{cond-case}
 
 abbrev pub Ends : {A : Type 0} → List ℕ → ℕ → Placed A → Type 0

@@ -8,12 +8,12 @@ use Prim.Native.Nat.{ℕ, _+_, _-_, _≤_, _<_}
 use native.Mathlib.Omega.{arith}
 use lib.ListN.{length, getD}
 use Rattle.bags.specs.Part.{Part, Parts}
-use Rattle.bags.specs.Span.{limitOf}
 use Rattle.template.specs.Reading.{Code, codeOf, wrapped, gathered}
 use Rattle.template.proofs.Laws.{code-nothing, code-single, code-low, code-group, code-middle, code-link, code-high}
 use Rattle.counts.specs.declared.Eval.{Eval}
-use Rattle.counts.specs.Trees.{Placed, placed, onto, treesAt, treeBy, treeAt}
-use Rattle.counts.specs.Evaluation.{Evaluates}
+use Rattle.template.specs.Template.{placed, onto}
+use Rattle.counts.specs.Trees.{linkAt, treesAt, treeBy, treeAt}
+use Rattle.counts.specs.Evaluation.{Evaluates, Wraps, Joins}
 use Rattle.counts.proofs.Places.{tree-deep, tree-past, tree-by, trees-none, trees-more}
 use Rattle.counts.proofs.Sizes.{next-bound, nexts-bound}
 use Rattle.counts.proofs.Evaluations.{evaluates-as, evaluates-from}
@@ -47,14 +47,14 @@ module _ (w : ℕ → ℕ) (words : List ℕ) (left at : ℕ) (e : Eval) where
     part-middle a b v = by-code Code.unknown (code-middle _ a b) v
 
     pub part-high :
-        320 ≤ getD words at 0 → Evaluates w at (placed Part.nothing (at + 1)) e → Evaluates w at (treeAt left words at) e
+        320 ≤ getD words at 0 → Evaluates w at (placed Part.nothing (at + 1)) e →
+        Evaluates w at (treeAt left words at) e
     part-high a v = by-code Code.unknown (code-high _ a) v
 
     pub part-single :
         (inner : Eval) → 1 ≤ getD words at 0 → getD words at 0 ≤ 3 →
         Evaluates w (at + 1) (treeAt (left - 1) words (at + 1)) inner →
-        ((v : ℕ → ℕ) (n : ℕ) (t : Placed Part) → n < t .next → Evaluates v (n + 1) t inner →
-        Evaluates v n (onto (wrapped (getD words at 0)) t) e) →
+        Wraps (getD words at 0) inner e →
         Evaluates w at (treeAt left words at) e
     part-single inner a b v wrap =
         let n = next-bound words (left - 1) (at + 1) in
@@ -71,12 +71,7 @@ module _ (w : ℕ → ℕ) (words : List ℕ) (left at : ℕ) (e : Eval) where
 
     pub part-link :
         (label : ℕ) → label ≡ getD words at 0 - 256 → 256 ≤ getD words at 0 → getD words at 0 ≤ 319 →
-        Evaluates w at
-        (placed
-        (Part.link label (getD words (at + 1) 0) (getD words (at + 2) 0) (limitOf (getD words (at + 3) 0)))
-        (at + 4))
-        e →
-        Evaluates w at (treeAt left words at) e
+        Evaluates w at (linkAt words at label) e → Evaluates w at (treeAt left words at) e
     part-link label q a b v = by-code (Code.link (getD words at 0 - 256)) (code-link _ a b) (rw q at v)
 
   pub run-none :
@@ -88,9 +83,7 @@ module _ (w : ℕ → ℕ) (words : List ℕ) (left at : ℕ) (e : Eval) where
   pub run-more :
       (code parts : ℕ) (first rest : Eval) → 0 < parts → Evaluates w at (treeAt left words at) first →
       Evaluates w (first .next) (onto (gathered code) (treesAt (treeAt left words) (parts - 1) (first .next))) rest →
-      ((v : ℕ → ℕ) (n : ℕ) (t : Placed Part) (u : Placed Parts) → n ≤ t .next → t .next ≤ u .next →
-      Evaluates v n t first → Evaluates v (t .next) (onto (gathered code) u) rest →
-      Evaluates v n (onto (gathered code) (onto (Parts.more (t .tree)) u)) e) →
+      Joins code first rest e →
       Evaluates w at (onto (gathered code) (treesAt (treeAt left words) parts at)) e
   run-more code parts first rest h v r join =
       let t = treeAt left words at in
@@ -99,4 +92,5 @@ module _ (w : ℕ → ℕ) (words : List ℕ) (left at : ℕ) (e : Eval) where
       let b = nexts-bound words left (parts - 1) (t .next) in
       evaluates-as w at _ _ e (ap (onto (gathered code)) (trees-more (treeAt left words) at parts h))
       (join w at t u (a .0) (b .0) v
-      (subst (λ (n : ℕ). Evaluates w n (onto (gathered code) (treesAt (treeAt left words) (parts - 1) n)) rest) (v .next) r))
+      (subst (λ (n : ℕ). Evaluates w n (onto (gathered code) (treesAt (treeAt left words) (parts - 1) n)) rest)
+      (v .next) r))

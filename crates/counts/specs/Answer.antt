@@ -1,4 +1,4 @@
--- Document 01's number and values for each case of the enum `FitAnswer`.
+-- What each case of the enum `FitAnswer` says (docs/FORMAT.md, "Operations").
 -- Assumes nothing.
 use mathlib.Core.List.{[], _∷_}
 use Rattle.words.specs.Said.{Said, values, refusal}

@@ -1,7 +1,9 @@
--- Whether counts of links fit a shape (document 01, "Bags" and "Fit counts").
--- Answer: the numbers of `FitAnswer`. Fit: what "Fit counts" answers. Trees: the tree at a place of the words.
--- Evaluation: what the interval evaluator finds there.
+-- Whether counts of links fit a shape (docs/FORMAT.md, "Bags and counts" and "Operations").
+-- Promise: Answer, what the code's answer says; Fit, what "Fit counts" answers.
+-- Machine: Trees, the part at a place of the words; Evaluation, what the interval evaluator finds there; Machine, what
+-- the inner functions ask.
 pub mod Answer
 pub mod Fit
 pub mod Trees
 pub mod Evaluation
+pub mod Machine

@@ -1,21 +1,22 @@
 // Whether counts of links fit a shape: the interval of repetitions of its part, from the template's words.
 // `part` evaluates a part and `run` a run of parts, and each calls the other.
 ghost use mathlib.Core.Path.{_≡_};
-ghost use mathlib.Core.List.{List, [], _∷_};
 ghost use mathlib.Core.Bool.{_&&_, _||_, not};
 ghost use lib.Dec.{eqb};
 ghost use Prim.Native.Nat.{ℕ, _+_, _≤_, _<_};
 ghost use lib.ListN.{length, getD};
-ghost use Rattle.bags.specs.Part.{Part, Parts, named};
+ghost use Rattle.words.specs.Limits.{maxTemplate, maxDepth};
+ghost use Rattle.bags.specs.Part.{Part, Parts};
 ghost use Rattle.bags.specs.Interval.{count, othersZero, fits as countsFit};
-ghost use Rattle.bags.specs.Span.{Small, limitOf};
-ghost use Rattle.template.specs.Reading.{wrapped, gathered};
-ghost use Rattle.words.specs.Said.{values};
-ghost use Rattle.template.specs.Template.{accepted, readTemplate, templateSays, shapePlace, Tabled};
+ghost use Rattle.bags.specs.Span.{Small};
+ghost use Rattle.template.specs.Reading.{gathered};
+ghost use Rattle.template.specs.Template.{placed, onto};
+ghost use Rattle.template.specs.Machine.{shapePlace};
 ghost use Rattle.counts.specs.Answer.{fitSaid};
-ghost use Rattle.counts.specs.Fit.{FirstOver, FitSays};
-ghost use Rattle.counts.specs.Trees.{Placed, placed, onto, treeAt, treesAt};
-ghost use Rattle.counts.specs.Evaluation.{Evaluates};
+ghost use Rattle.counts.specs.Fit.{firstOver, FitSays};
+ghost use Rattle.counts.specs.Trees.{linkAt, treeAt, treesAt};
+ghost use Rattle.counts.specs.Evaluation.{Evaluates, Wraps, Joins};
+ghost use Rattle.counts.specs.Machine.{RowOf, Testable, Known};
 use bags::Span;
 use bags::TOP;
 use bags::add_span;
@@ -28,6 +29,10 @@ use bags::star_span;
 use template::Shape;
 use template::TemplateAnswer;
 use template::read_names;
+use words::MAX_COUNT;
+use words::MAX_DEPTH;
+use words::MAX_KINDS;
+use words::TABLE_SIZE;
 use words::wide;
 
 // What evaluating a part finds: the next place, whether all counts of its labels are 0, and its interval.
@@ -77,8 +82,8 @@ fn nothing(next: usize) -> Eval
 
 // The link of this label whose code is at `at`.
 fn link(words: &[u16], counts: &[u16], at: usize, label: usize) -> Eval
-    requires { ⌜ at < 4096 ⌝ }
-    ensures { λ r. ⌜ Evaluates (count (now (counts .entry))) at (placed (Part.link label (getD (now (words .entry)) (at + 1) 0) (getD (now (words .entry)) (at + 2) 0) (limitOf (getD (now (words .entry)) (at + 3) 0))) (at + 4)) r ⌝ }
+    requires { ⌜ at < maxTemplate ⌝ }
+    ensures { λ r. ⌜ Evaluates (count (now (counts .entry))) at (linkAt (now (words .entry)) at label) r ⌝ }
 {
     let w = count_of(counts, label);
     let span = link_span(w, word(words, at + 2), word(words, at + 3));
@@ -91,7 +96,7 @@ fn link(words: &[u16], counts: &[u16], at: usize, label: usize) -> Eval
 
 // A star (1), a plus (2) or an optional part (3), from the part inside it.
 fn wrap(code: u16, inner: Eval) -> Eval
-    ensures { λ r. ⌜ ((w : ℕ → ℕ) (at : ℕ) (t : Placed Part) → at < t .next → Evaluates w (at + 1) t inner → Evaluates w at (onto (wrapped code) t) r) ⌝ }
+    ensures { λ r. ⌜ Wraps code inner r ⌝ }
 {
     let next = inner.next;
     let zero = inner.zero;
@@ -125,7 +130,7 @@ fn none(code: u16, next: usize) -> Eval
 // The first part of a choice (16) or of all (17), with the rest of them.
 fn join(code: u16, first: Eval, rest: Eval) -> Eval
     requires { ⌜ (Small 1000000000 (first .span)) × (Small 1000000000 (rest .span)) ⌝ }
-    ensures { λ r. ⌜ ((w : ℕ → ℕ) (at : ℕ) (t : Placed Part) (u : Placed Parts) → at ≤ t .next → t .next ≤ u .next → Evaluates w at t first → Evaluates w (t .next) (onto (gathered code) u) rest → Evaluates w at (onto (gathered code) (onto (Parts.more (t .tree)) u)) r) ⌝ }
+    ensures { λ r. ⌜ Joins code first rest r ⌝ }
 {
     let next = rest.next;
     let zero = and(first.zero, rest.zero);
@@ -142,7 +147,7 @@ fn join(code: u16, first: Eval, rest: Eval) -> Eval
 
 // The part at `at`, where `left` levels of parts are still allowed.
 fn part(words: &[u16], counts: &[u16], at: usize, left: usize) -> Eval
-    requires { ⌜ length (now words) ≤ 4096 ⌝ }
+    requires { ⌜ length (now words) ≤ maxTemplate ⌝ }
     ensures { λ r. ⌜ Evaluates (count (now (counts .entry))) at (treeAt left (now (words .entry)) at) r ⌝ }
 {
     if left == 0 {
@@ -165,8 +170,9 @@ fn part(words: &[u16], counts: &[u16], at: usize, left: usize) -> Eval
 
 // So many parts of a choice (16) or of all (17), one after the other.
 fn run(words: &[u16], counts: &[u16], at: usize, left: usize, parts: u16, code: u16) -> Eval
-    requires { ⌜ length (now words) ≤ 4096 ⌝ }
-    ensures { λ r. ⌜ Evaluates (count (now (counts .entry))) at (onto (gathered code) (treesAt (treeAt left (now (words .entry))) parts at)) r ⌝ }
+    requires { ⌜ length (now words) ≤ maxTemplate ⌝ }
+    ensures { λ r. ⌜ Evaluates (count (now (counts .entry))) at
+        (onto (gathered code) (treesAt (treeAt left (now (words .entry))) parts at)) r ⌝ }
 {
     if parts == 0 {
         return none(code, at);
@@ -203,7 +209,8 @@ fn allowed(entry: u8, count: u16) -> bool
 // Whether each label that has no entry in the row counts 0: those that the row's part does not name.
 fn others_zero(row: &[u8], counts: &[u16]) -> bool
     requires { ⌜ length (now counts) ≤ length (now row) ⌝ }
-    ensures { λ r. ⌜ ((p : Part) → ((k : ℕ) → k < length (now (counts .entry)) → getD (now (row .entry)) k 0 ≡ named p k) → r ≡ othersZero p 0 (now (counts .entry))) ⌝ }
+    ensures { λ r. ⌜ ((p : Part) → RowOf (now (row .entry)) (length (now (counts .entry))) p
+        → r ≡ othersZero (length (now (counts .entry))) p (count (now (counts .entry)))) ⌝ }
 {
     let mut i = 0;
     while i < counts.len() {
@@ -218,11 +225,11 @@ fn others_zero(row: &[u8], counts: &[u16]) -> bool
 
 // The place of the first count over 8,192, or the length of the counts.
 fn first_over(counts: &[u16]) -> usize
-    ensures { λ r. ⌜ FirstOver (now (counts .entry)) r ⌝ }
+    ensures { λ r. ⌜ r ≡ firstOver (now (counts .entry)) ⌝ }
 {
     let mut i = 0;
     while i < counts.len() {
-        if 8192 < counts[i] {
+        if MAX_COUNT < counts[i] {
             return i;
         }
         i += 1;
@@ -233,11 +240,12 @@ fn first_over(counts: &[u16]) -> usize
 // Whether the counts fit the shape whose count of words stands at `at`.
 // The row is the shape's in the table of names.
 pub fn fits(words: &[u16], at: usize, row: &[u8], counts: &[u16]) -> bool
-    requires { ⌜ (length (now words) ≤ 4096) × (at < length (now words)) × (length (now counts) ≤ length (now row)) × ((k : ℕ) → k < length (now counts) → getD (now row) k 0 ≡ named (treeAt 12 (now words) (at + 1) .tree) k) ⌝ }
-    ensures { λ r. ⌜ r ≡ countsFit (treeAt 12 (now (words .entry)) (at + 1) .tree) (now (counts .entry)) ⌝ }
+    requires { ⌜ Testable (now words) at (now row) (length (now counts)) ⌝ }
+    ensures { λ r. ⌜ r ≡ countsFit (length (now (counts .entry)))
+        (treeAt maxDepth (now (words .entry)) (at + 1) .value) (count (now (counts .entry))) ⌝ }
 {
     if others_zero(row, counts) {
-        let whole = part(words, counts, at + 1, 12);
+        let whole = part(words, counts, at + 1, MAX_DEPTH);
         let span = whole.span;
         has_one(span)
     } else {
@@ -255,7 +263,7 @@ fn fit_accepted(
     shape: Shape,
     counts: &[u16],
 ) -> FitAnswer
-    requires { ⌜ (values (kinds ∷ shapes ∷ []) ≡ templateSays (now template)) × (length (now names) ≡ 2048) × ((trees : List Part) → readTemplate (now template) ≡ accepted kinds shapes trees → Tabled trees (now names)) ⌝ }
+    requires { ⌜ Known (now template) (now names) kinds shapes ⌝ }
     ensures { λ r. ⌜ FitSays (now (template .entry)) (shape .0) (now (counts .entry)) (fitSaid r) ⌝ }
 {
     let n = shape.0;
@@ -269,8 +277,8 @@ fn fit_accepted(
     if over < counts.len() {
         return FitAnswer::Refused(43, over);
     }
-    let base = wide(n) * 64;
-    let end = base + 64;
+    let base = wide(n) * MAX_KINDS;
+    let end = base + MAX_KINDS;
     let at = shape_place(template, n);
     if fits(template, at, &names[base..end], counts) {
         FitAnswer::Yes
@@ -283,7 +291,7 @@ fn fit_accepted(
 pub fn fit_counts(template: &[u16], shape: Shape, counts: &[u16]) -> FitAnswer
     ensures { λ r. ⌜ FitSays (now (template .entry)) (shape .0) (now (counts .entry)) (fitSaid r) ⌝ }
 {
-    let mut names = [0u8; 2048];
+    let mut names = [0u8; TABLE_SIZE];
     let read = read_names(template, &mut names);
     match read {
         TemplateAnswer::Refused(number, place) => FitAnswer::Refused(number, place),

@@ -1,4 +1,4 @@
-// Fit counts on document 01's samples P1 to P12, at the boundaries of its refusals, and on samples from standard input.
+// Fit counts on the samples P1 to P12, at the boundaries of its refusals, and on samples from standard input.
 // A case's line is its label, if it has one, and `yes`, `no` or `refused NUMBER PLACE`.
 ghost use Prim.Native.Nat.{_≤_, _<_};
 ghost use mathlib.Core.Path.{_≡_};
@@ -240,8 +240,8 @@ fn empties() {
     );
 }
 
-// The sample whose template's count of words stands at `at`: a template after its count, a shape, and counts after their
-// count. Answers where the next one stands; one that is cut off is passed over.
+// The sample whose template's count of words stands at `at`: a template after its count, a shape, and counts after
+// their count. Answers where the next one stands; one that is cut off is passed over.
 fn sample(words: &[u16], at: usize) -> usize
     requires { ⌜ at < length (now words) ⌝ }
     ensures { λ r. ⌜ (at < r) × (r ≤ length (now (words .entry))) ⌝ }

@@ -1,8 +1,8 @@
 -- The counts of a card's kinds, by the links between two starts.
 -- Counted          counts that are those of a card's labels
 -- starts-within    where a card's links lie
--- kinds-few        a template has at most 64 kinds
--- counts-length    so of 64 counts as many as there are kinds can be taken
+-- kinds-few        a template has no more kinds than the limit
+-- counts-length    so of that many counts as many as there are kinds can be taken
 -- kinds-within     the kinds of those links have a place among counts of all kinds
 -- counts-counted   counts of the kinds of the links between a card's start and the next card's are so
 -- card-fitted      a row that fits such counts has the bytes of the card
@@ -16,17 +16,19 @@ use native.Mathlib.Nat.{add-zero, add-suc}
 use borrow.Rule.Slice.PartMut.{mid-len}
 use lib.ListN.{length, getD, take, replicate, List·getD-eq-default}
 use Rattle.bags.specs.Choice.{labelCount}
-use Rattle.template.specs.Template.{TemplateReading}
+use Rattle.words.specs.Limits.{maxKinds}
+use Rattle.words.specs.Reading.{accepted}
 use Rattle.template.proofs.Accepted.{template-accepted}
 use Rattle.script.specs.Link.{kindAt, neighbours, below, kindCount}
 use Rattle.words.proofs.Bools.{le-or-lt}
 use Rattle.script.proofs.Reading.{script-accepted}
-use Rattle.script.proofs.Cards.{Within, part-within, below-le}
+use Rattle.script.specs.Script.{countsOf}
+use Rattle.script.proofs.Cards.{part-within, below-le}
 use Rattle.script.proofs.Neighbours.{kind-count, kind-count-none, kind-count-other}
 use Rattle.sheet.specs.declared.Extent.{Extent}
-use Rattle.sheet.specs.Opened.{Opened}
+use Rattle.sheet.specs.Opened.{templateAs, Opened}
 use Rattle.fits.specs.Fitting.{RowFitted, CardFitted}
-use Rattle.script.specs.Steps.{StartsOf}
+use Rattle.script.specs.Steps.{StartsOf, Within}
 
 -- A kind that none of the links has is counted 0.
 kind-count-absent :
@@ -42,17 +44,17 @@ kind-count-absent script k lo (suc d) h =
 abbrev pub Counted : List ℕ → ℕ → ℕ → List ℕ → Type 0
 Counted script links n counts = (k : ℕ) → getD counts k 0 ≡ labelCount (neighbours script n links) k
 
--- A template that is read has at most 64 kinds.
-pub kinds-few : (template script : List ℕ) (e : Extent) → Opened template script e → e .kinds ≤ 64
+-- A template that is read has no more kinds than the limit.
+pub kinds-few : (template script : List ℕ) (e : Extent) → Opened template script e → e .kinds ≤ maxKinds
 kinds-few template script e o =
-    template-accepted template (e .kinds) (e .shapes) (o .parts) (o .template-read) .kinds-high
+    template-accepted template (templateAs (e .kinds) (e .shapes) (o .parts)) (o .template-read) .kinds-high
 
--- Of 64 counts, the first ones that there are kinds for.
+-- Of that many counts, the first ones that there are kinds for.
 pub counts-length :
     (template script : List ℕ) (e : Extent) → Opened template script e → (kinds : ℕ) → kinds ≡ e .kinds →
-    length {A = ℕ} (take (kinds - 0) (replicate 64 0)) ≡ e .kinds
+    length {A = ℕ} (take (kinds - 0) (replicate maxKinds 0)) ≡ e .kinds
 counts-length template script e o kinds q =
-    mid-len 0 kinds (replicate {A = ℕ} 64 0) (omega (arith, kinds-few template script e o)) ∙ omega arith
+    mid-len 0 kinds (replicate {A = ℕ} maxKinds 0) (omega (arith, kinds-few template script e o)) ∙ omega arith
 
 module _
     (template script starts : List ℕ) (e : Extent) (n lo hi : ℕ) (o : Opened template script e)
@@ -66,18 +68,18 @@ module _
 
   pub starts-within : Within script lo hi
   starts-within =
-      let w = script-accepted (e .kinds) script (e .cards) (e .links) (o .script-read) in
+      let w = script-accepted (e .kinds) script (countsOf (e .cards) (e .links)) (o .script-read) in
       part-within script (e .links) (w .ascending) n lo hi low-is high-is
 
   pub kinds-within : (size : ℕ) → size ≡ e .kinds → (i : ℕ) → lo ≤ i → i < hi → kindAt script i < size
   kinds-within size r i a b =
-      let w = script-accepted (e .kinds) script (e .cards) (e .links) (o .script-read) in
+      let w = script-accepted (e .kinds) script (countsOf (e .cards) (e .links)) (o .script-read) in
       let top = below-le script (n + 1) (e .links) in
       omega (arith, w .kind-below i (omega (arith, high-is)))
 
   counted-is : (k : ℕ) → kindCount script k lo hi ≡ labelCount (neighbours script n (e .links)) k
   counted-is k =
-      let w = script-accepted (e .kinds) script (e .cards) (e .links) (o .script-read) in
+      let w = script-accepted (e .kinds) script (countsOf (e .cards) (e .links)) (o .script-read) in
       ap₂ (kindCount script k) low-is high-is ∙ kind-count script (e .links) (w .starts) n k
 
   absent : (k : ℕ) → e .kinds ≤ k → kindCount script k lo hi ≡ 0
@@ -107,6 +109,6 @@ card-fitted template script links size shapes n counts row q c f =
       each = λ kinds parts e t l. record {
         counts = counts;
         those = c;
-        test = f .each kinds parts (e ∙ ap (λ (s : ℕ). TemplateReading.accepted kinds s parts) (sym q)) t (omega arith);
+        test = f .each kinds parts (e ∙ ap (λ (s : ℕ). accepted (templateAs kinds s parts)) (sym q)) t (omega arith);
       };
     }

@@ -5,7 +5,7 @@
 -- row-length     and has a byte for each shape
 -- rows-next      it holds after the next card's row is written
 -- rows-end       after the last card the grid is done
--- pairs-bound    a sheet has at most 32,768 pairs
+-- pairs-bound    a sheet has no more pairs than the greatest grid
 -- Assumes nothing.
 use Prim.Native.Nat.{ℕ, _+_, _-_, _*_, _≤_, _<_}
 use mathlib.Core.Path.{_≡_, sym, ap, subst, _∙_}
@@ -17,11 +17,14 @@ use native.Mathlib.Numerals.{add-one}
 use borrow.Rule.Slice.PartMut.{midOf, putMid, same-len-mid, mid-len}
 use lib.ListN.{length, getD, take, drop}
 use Rattle.bags.specs.Part.{Part}
-use Rattle.template.specs.Template.{TemplateReading, readTemplate}
+use Rattle.template.specs.Template.{readTemplate}
+use Rattle.words.specs.Limits.{maxCards, maxShapes, maxGrid}
+use Rattle.words.specs.Reading.{accepted}
 use Rattle.template.proofs.Accepted.{template-accepted}
+use Rattle.script.specs.Script.{countsOf}
 use Rattle.script.proofs.Reading.{script-accepted}
 use Rattle.sheet.specs.declared.Extent.{Extent}
-use Rattle.sheet.specs.Opened.{Opened}
+use Rattle.sheet.specs.Opened.{templateAs, Opened}
 use Rattle.fits.specs.Fitting.{Tested, CardFitted, Fitted}
 use Rattle.words.proofs.Cells.{put-before, put-inside}
 
@@ -32,7 +35,7 @@ pub record RowsFitted (template script : List ℕ) (links cards shapes : ℕ) (g
   -- the rows before n
   pub each :
       (c : ℕ) → c < n → (kinds : ℕ) (parts : List Part) →
-      readTemplate template ≡ TemplateReading.accepted kinds shapes parts → (t : ℕ) → t < shapes →
+      readTemplate template ≡ accepted (templateAs kinds shapes parts) → (t : ℕ) → t < shapes →
       Tested script links (getD parts t Part.nothing) c (getD grid (c * shapes + t) 0)
 
 -- The row of a card c below n ends where that of card n starts, or before.
@@ -45,7 +48,7 @@ module _ (template script : List ℕ) (links cards shapes : ℕ) (grid : List �
 
   pub rows-end :
       (n N S : ℕ) → RowsFitted template script links cards shapes grid n → cards ≤ n → cards ≡ N → shapes ≡ S →
-      (kinds : ℕ) (parts : List Part) → readTemplate template ≡ TemplateReading.accepted kinds S parts →
+      (kinds : ℕ) (parts : List Part) → readTemplate template ≡ accepted (templateAs kinds S parts) →
       Fitted script links N S parts grid
   rows-end n N S f h p q kinds parts e =
       let g : RowsFitted template script links N S grid n = rw (p, q) at f in
@@ -66,7 +69,7 @@ module _ (template script : List ℕ) (links cards shapes : ℕ) (grid : List �
 
       next-each :
           (c : ℕ) → c < n + 1 → (kinds : ℕ) (parts : List Part) →
-          readTemplate template ≡ TemplateReading.accepted kinds shapes parts → (t : ℕ) → t < shapes →
+          readTemplate template ≡ accepted (templateAs kinds shapes parts) → (t : ℕ) → t < shapes →
           Tested script links (getD parts t Part.nothing) c
           (getD (putMid (n * shapes) (n * shapes + shapes - n * shapes) grid row) (c * shapes + t) 0)
       next-each c h kinds parts e t i =
@@ -75,7 +78,7 @@ module _ (template script : List ℕ) (links cards shapes : ℕ) (grid : List �
           let k = n * shapes + shapes - n * shapes in
           ⊎-elim
           (λ (j : c ≡ n).
-          let r = e ∙ ap (λ (s : ℕ). TemplateReading.accepted kinds s parts) q in
+          let r = e ∙ ap (λ (s : ℕ). accepted (templateAs kinds s parts)) q in
           rw j
           (subst (P n) (sym (put-inside (n * shapes) k grid row t (omega arith) (omega (arith, row-size))))
           (g .each kinds parts r t (omega arith))))
@@ -95,13 +98,13 @@ module _ (template script : List ℕ) (links cards shapes : ℕ) (grid : List �
             each = next-each;
           }
 
--- A sheet has at most 1,024 cards and 32 shapes.
+-- A sheet has no more cards and shapes than the limits.
 pub pairs-bound :
     (template script : List ℕ) (e : Extent) (n cards shapes : ℕ) → Opened template script e → cards ≡ e .cards →
-    shapes ≡ e .shapes → n ≤ cards → (n * shapes ≤ 32768) × (shapes ≤ 32)
+    shapes ≡ e .shapes → n ≤ cards → (n * shapes ≤ maxGrid) × (shapes ≤ maxShapes)
 pairs-bound template script e n cards shapes o p q h =
-    let w = script-accepted (e .kinds) script (e .cards) (e .links) (o .script-read) in
-    let t = template-accepted template (e .kinds) (e .shapes) (o .parts) (o .template-read) in
-    let a : n ≤ 1024 = omega (arith, w .cards-bound) in
-    let b : shapes ≤ 32 = omega (arith, t .shapes-high) in
+    let w = script-accepted (e .kinds) script (countsOf (e .cards) (e .links)) (o .script-read) in
+    let t = template-accepted template (templateAs (e .kinds) (e .shapes) (o .parts)) (o .template-read) in
+    let a : n ≤ maxCards = omega (arith, w .cards-bound) in
+    let b : shapes ≤ maxShapes = omega (arith, t .shapes-high) in
     (mul-le-mul a b, b)

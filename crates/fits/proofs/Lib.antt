@@ -1,6 +1,6 @@
 -- The laws of a sheet's pairs, lowest first.
--- Openings: what reading a template and a script says of the sheet. Rows: the bytes of one card, shape by shape.
--- CardCounts: the counts of a card's kinds. Cells: the bytes of all cards, row by row.
+-- Rows: the bytes of one card, shape by shape. CardCounts: the counts of a card's kinds. Cells: the bytes
+-- of all cards, row by row.
 pub mod Rows
 pub mod CardCounts
 pub mod Cells

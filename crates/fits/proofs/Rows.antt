@@ -2,7 +2,7 @@
 -- FittedBelow    what holds before each shape: its place, and the bytes of the shapes before it
 -- fitted-start   it holds of any row of the right length
 -- shape-within   where the next shape's words lie
--- shape-row      the next shape's part of the table has 64 entries
+-- shape-row      the next shape's part of the table has an entry for each label
 -- shape-names    the next shape's part of the table has the names of the tree that stands at its place
 -- byte-is        the byte of a test
 -- fitted-next    it holds after the next shape's byte is written
@@ -20,13 +20,15 @@ use borrow.Rule.Slice.PartMut.{mid-len}
 use lib.ListN.{length, getD, set, take, drop, length-set}
 use lib.Seq.{getD-take, getD-drop, getD-set-same, getD-set-other}
 use Rattle.bags.specs.Part.{Part, named}
-use Rattle.bags.specs.Interval as interval
-use Rattle.template.specs.Template.{TemplateReading, readTemplate, shapePlace}
+use Rattle.template.specs.Template.{readTemplate}
+use Rattle.words.specs.Limits.{maxKinds, maxShapes, maxTemplate, maxDepth, tableSize}
+use Rattle.words.specs.Reading.{accepted}
+use Rattle.template.specs.Machine.{shapePlace}
 use Rattle.template.proofs.Accepted.{place-next, template-accepted}
 use Rattle.counts.specs.Trees.{treeAt}
 use Rattle.counts.proofs.Agreement.{shape-tree}
-use Rattle.sheet.specs.Opened.{TableOf, Shaped}
-use Rattle.fits.specs.Fitting.{RowFitted}
+use Rattle.sheet.specs.Opened.{templateAs, TableOf, Shaped}
+use Rattle.fits.specs.Fitting.{byteOf, RowFitted}
 
 -- What holds before the shape t, whose count of words stands at `at`.
 pub record FittedBelow (template : List ℕ) (shapes : ℕ) (counts row : List ℕ) (at t : ℕ) : Type 0 where
@@ -35,17 +37,21 @@ pub record FittedBelow (template : List ℕ) (shapes : ℕ) (counts row : List �
   pub place : at ≡ shapePlace template t 2
   -- the bytes before t
   pub each :
-      (kinds : ℕ) (parts : List Part) → readTemplate template ≡ TemplateReading.accepted kinds shapes parts →
-      (s : ℕ) → s < t → getD row s 0 ≡ cond (interval.fits (getD parts s Part.nothing) counts) 1 0
+      (kinds : ℕ) (parts : List Part) → readTemplate template ≡ accepted (templateAs kinds shapes parts) →
+      (s : ℕ) → s < t → getD row s 0 ≡ byteOf (getD parts s Part.nothing) counts
 
 -- A test r that says what b is and that came out as x has b's byte.
 pub byte-is : (r b x : Bool) → r ≡ b → r ≡ x → _≡_ {A = ℕ} (cond x 1 0) (cond b 1 0)
 byte-is r b x e t = ap (λ (y : Bool). cond {A = ℕ} y 1 0) (sym t ∙ e)
 
+-- The row of the shape t in a table of names.
+abbrev rowAt : List ℕ → ℕ → List ℕ
+rowAt names t = take (t * maxKinds + maxKinds - t * maxKinds) (drop (t * maxKinds) names)
+
 -- Where the words of a shape lie whose count of words stands at `at`.
 pub record ShapeWithin (template : List ℕ) (shapes at : ℕ) : Type 0 where
-  pub few : shapes ≤ 32
-  pub short : length template ≤ 4096
+  pub few : shapes ≤ maxShapes
+  pub short : length template ≤ maxTemplate
   pub start : at < length template
   pub stop : at + 1 + getD template at 0 ≤ length template
 
@@ -62,7 +68,7 @@ module _ (template : List ℕ) (shapes : ℕ) (counts row : List ℕ) where
   module _ (at t : ℕ) (f : FittedBelow template shapes counts row at t) (l : t < shapes) where
     pub shape-within : Shaped template shapes → ShapeWithin template shapes at
     shape-within s =
-        let w = template-accepted template (s .kinds) shapes (s .parts) (s .read) in
+        let w = template-accepted template (templateAs (s .kinds) shapes (s .parts)) (s .read) in
         let a = w .shape t l in
         subst (ShapeWithin template shapes) (sym (f .place))
         (record {
@@ -73,44 +79,45 @@ module _ (template : List ℕ) (shapes : ℕ) (counts row : List ℕ) where
         })
 
     tree-is :
-        (kinds : ℕ) (parts : List Part) → readTemplate template ≡ TemplateReading.accepted kinds shapes parts →
-        treeAt 12 template (at + 1) .tree ≡ getD parts t Part.nothing
-    tree-is kinds parts e = rw (f .place) (shape-tree template kinds shapes parts t e l)
+        (kinds : ℕ) (parts : List Part) → readTemplate template ≡ accepted (templateAs kinds shapes parts) →
+        treeAt maxDepth template (at + 1) .value ≡ getD parts t Part.nothing
+    tree-is kinds parts e = rw (f .place) (shape-tree template (templateAs kinds shapes parts) t e l)
 
     pub shape-row :
-        (names : List ℕ) → Shaped template shapes → length names ≡ 2048 →
-        length (take (t * 64 + 64 - t * 64) (drop (t * 64) names)) ≡ 64
+        (names : List ℕ) → Shaped template shapes → length names ≡ tableSize →
+        length (rowAt names t) ≡ maxKinds
     shape-row names s size =
         let few = shape-within s .few in
-        mid-len (t * 64) (t * 64 + 64) names (omega arith) ∙ omega arith
+        mid-len (t * maxKinds) (t * maxKinds + maxKinds) names (omega arith) ∙ omega arith
 
     pub shape-names :
-        (names : List ℕ) → Shaped template shapes → TableOf template names → length names ≡ 2048 →
-        (k : ℕ) → k < 64 →
-        getD (take (t * 64 + 64 - t * 64) (drop (t * 64) names)) k 0 ≡ named (treeAt 12 template (at + 1) .tree) k
+        (names : List ℕ) → Shaped template shapes → TableOf template names → length names ≡ tableSize →
+        (k : ℕ) → k < maxKinds →
+        getD (rowAt names t) k 0 ≡ named (treeAt maxDepth template (at + 1) .value) k
     shape-names names s table size k h =
-        let w = template-accepted template (s .kinds) shapes (s .parts) (s .read) in
-        getD-take (t * 64 + 64 - t * 64) (drop (t * 64) names) k 0 (omega arith) ∙ getD-drop (t * 64) names k 0
-        ∙ table (s .kinds) shapes (s .parts) (s .read) t k (omega (arith, w .trees-length)) h
+        let w = template-accepted template (templateAs (s .kinds) shapes (s .parts)) (s .read) in
+        let base = t * maxKinds in
+        getD-take (base + maxKinds - base) (drop base names) k 0 (omega arith) ∙ getD-drop base names k 0
+        ∙ table (templateAs (s .kinds) shapes (s .parts)) (s .read) t k (omega (arith, w .trees-length)) h
         ∙ ap (λ (p : Part). named p k) (sym (tree-is (s .kinds) (s .parts) (s .read)))
 
     module _
-        (byte size : ℕ) (b : byte ≡ cond (interval.fits (treeAt 12 template (at + 1) .tree) counts) 1 0)
+        (byte size : ℕ) (b : byte ≡ byteOf (treeAt maxDepth template (at + 1) .value) counts)
         (q : size ≡ getD template at 0) (after : List ℕ) (w : after ≡ set row t byte) where
       next-place : at + 1 + size ≡ shapePlace template (t + 1) 2
       next-place = rw (q, add-one t, f .place) (sym (place-next template t 2))
 
       next-each :
-          (kinds : ℕ) (parts : List Part) → readTemplate template ≡ TemplateReading.accepted kinds shapes parts →
+          (kinds : ℕ) (parts : List Part) → readTemplate template ≡ accepted (templateAs kinds shapes parts) →
           (s : ℕ) → s < t + 1 →
-          getD after s 0 ≡ cond (interval.fits (getD parts s Part.nothing) counts) 1 0
+          getD after s 0 ≡ byteOf (getD parts s Part.nothing) counts
       next-each kinds parts e s h =
           ap (λ (r : List ℕ). getD r s 0) w
           ∙ ⊎-elim
           (λ (i : s ≡ t).
           rw i
           (getD-set-same row t byte 0 (omega (arith, f .size)) ∙ b
-          ∙ ap (λ (p : Part). cond (interval.fits p counts) 1 0) (tree-is kinds parts e)))
+          ∙ ap (λ (p : Part). byteOf p counts) (tree-is kinds parts e)))
           (λ i. getD-set-other row t s byte 0 (λ j. omega arith) ∙ f .each kinds parts e s i)
           (eq-or-lt-of-le (le-of-suc-le-suc (rw (add-one t) at h)))
 

@@ -1,2 +1,2 @@
--- The pairs of a sheet: what reading its files and testing its pairs by counts leaves behind.
+-- The pairs of a sheet: what testing them by counts asks and leaves behind.
 pub mod Fitting

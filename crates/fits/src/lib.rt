@@ -1,29 +1,29 @@
-// The pairs of a sheet: reading its template and its script, and which pairs fit by counts.
+// Which pairs of a sheet fit by counts.
 ghost use mathlib.Core.Path.{_≡_};
 ghost use mathlib.Core.List.{List};
-ghost use Prim.Native.Nat.{ℕ, _*_, _≤_, _<_};
+ghost use Prim.Native.Nat.{ℕ, _*_};
 ghost use lib.ListN.{length};
 ghost use Rattle.bags.specs.Part.{Part};
-ghost use Rattle.template.specs.Template.{TemplateReading, readTemplate};
-ghost use Rattle.sheet.specs.Opened.{Opened, TableOf, Shaped};
-ghost use Rattle.fits.specs.Fitting.{RowFitted, CardFitted, Fitted};
-ghost use Rattle.script.specs.Steps.{StartsOf};
+ghost use Rattle.words.specs.Reading.{accepted};
+ghost use Rattle.template.specs.Template.{readTemplate};
+ghost use Rattle.sheet.specs.Opened.{templateAs};
+ghost use Rattle.fits.specs.Fitting.{SheetReady, CardReady, CountsReady, RowReady, RowFitted, CardFitted, Fitted};
 use counts::fits;
 use script::count_kinds;
 use sheet::Extent;
+use words::MAX_KINDS;
 use words::wide;
 
 // Tests each shape on the counts of one card's kinds: its byte of the row is 1 where they fit, else 0.
 fn fit_card(template: &[u16], names: &[u8], shapes: usize, counts: &[u16], row: &mut [u8])
-    requires { ⌜ Shaped (now template) shapes × TableOf (now template) (now names) × (length (now names) ≡ 2048)
-        × (length (now counts) ≤ 64) × (length (now row) ≡ shapes) ⌝ }
+    requires { ⌜ RowReady (now template) (now names) shapes (now counts) (now row) ⌝ }
     ensures { λ _. ⌜ RowFitted (now (template .entry)) shapes (now (counts .entry)) (now (row .exit)) ⌝ }
 {
     let mut at = 2;
     let mut t = 0;
     while t < shapes {
-        let base = t * 64;
-        let end = base + 64;
+        let base = t * MAX_KINDS;
+        let end = base + MAX_KINDS;
         if fits(template, at, &names[base..end], counts) {
             row[t] = 1;
         } else {
@@ -45,9 +45,8 @@ fn fit_counted(
     counts: &mut [u16],
     row: &mut [u8],
 )
-    requires { ⌜ Opened (now template) (now script) e × TableOf (now template) (now names)
-        × (length (now names) ≡ 2048) × StartsOf (now script) (now starts) (e .cards) (e .links)
-        × (n < e .cards) × (length (now row) ≡ e .shapes) × (length (now counts) ≡ e .kinds) ⌝ }
+    requires { ⌜ SheetReady (now template) (now script) (now names) (now starts) e ⌝ }
+    requires { ⌜ CountsReady e n (now counts) (now row) ⌝ }
     ensures { λ _. ⌜ CardFitted (now (template .entry)) (now (script .entry)) (e .links) (e .shapes) n
         (now (row .exit)) ⌝ }
 {
@@ -67,13 +66,12 @@ fn fit_row(
     n: usize,
     row: &mut [u8],
 )
-    requires { ⌜ Opened (now template) (now script) e × TableOf (now template) (now names)
-        × (length (now names) ≡ 2048) × StartsOf (now script) (now starts) (e .cards) (e .links)
-        × (n < e .cards) × (length (now row) ≡ e .shapes) ⌝ }
+    requires { ⌜ SheetReady (now template) (now script) (now names) (now starts) e ⌝ }
+    requires { ⌜ CardReady e n (now row) ⌝ }
     ensures { λ _. ⌜ CardFitted (now (template .entry)) (now (script .entry)) (e .links) (e .shapes) n
         (now (row .exit)) ⌝ }
 {
-    let mut counts = [0u16; 64];
+    let mut counts = [0u16; MAX_KINDS];
     let kinds = wide(e.kinds);
     fit_counted(
         template,
@@ -96,11 +94,10 @@ pub fn fit_grid(
     e: Extent,
     grid: &mut [u8],
 )
-    requires { ⌜ Opened (now template) (now script) e × TableOf (now template) (now names)
-        × (length (now names) ≡ 2048) × StartsOf (now script) (now starts) (e .cards) (e .links)
-        × (length (now grid) ≡ e .cards * e .shapes) ⌝ }
+    requires { ⌜ SheetReady (now template) (now script) (now names) (now starts) e ⌝ }
+    requires { ⌜ length (now grid) ≡ e .cards * e .shapes ⌝ }
     ensures { λ _. ⌜ ((kinds : ℕ) (parts : List Part) →
-        readTemplate (now (template .entry)) ≡ TemplateReading.accepted kinds (e .shapes) parts →
+        readTemplate (now (template .entry)) ≡ accepted (templateAs kinds (e .shapes) parts) →
         Fitted (now (script .entry)) (e .links) (e .cards) (e .shapes) parts (now (grid .exit))) ⌝ }
 {
     let cards = wide(e.cards);

@@ -1,5 +1,6 @@
 -- Laws of the printer's input: what reading it gives under the tests that lead there.
---   words-next, words-length   a word more; there are as many as were asked for
+--   words-next                 a word more
+--   script-at, bookings-at, end-at, words-at, same-input   the sections, by the counts that stand there
 --   reads-too-long, reads-no-template, reads-no-script, reads-no-bookings, reads-short, reads-going-on   the faults
 --   reads-sections             else the three sections
 --   input-numbers              an input is refused with 60
@@ -7,9 +8,9 @@
 use mathlib.Core.Path.{_≡_, refl, ap, _∙_}
 use mathlib.Core.List.{List, [], _∷_, _++_}
 use mathlib.Core.Bool.{Bool, false}
-use Prim.Native.Nat.{ℕ, zero, suc, _+_, _*_, _≤_, _<_}
+use Prim.Native.Nat.{ℕ, _+_, _*_, _≤_, _<_}
 use native.Mathlib.Numerals.{add-one}
-use lib.ListN.{length, length-append}
+use lib.ListN.{length}
 use lib.Dec.{ltb}
 use borrow.Author.Tests.{lt-ltb, le-ltb}
 use Rattle.words.specs.Limits.{maxInput}
@@ -22,14 +23,6 @@ pub words-next : (bytes : List ℕ) (at n : ℕ)
     → wordsFrom bytes at (n + 1) ≡ wordsFrom bytes at n ++ (wordAt bytes (at + 2 * n) ∷ [])
 unfolding wordsFrom
 words-next bytes at n = rw (add-one n)
-
-pub words-length : (bytes : List ℕ) (at n : ℕ) → length (wordsFrom bytes at n) ≡ n
-unfolding wordsFrom
-words-length bytes at zero = refl
-words-length bytes at (suc n) =
-    length-append (wordsFrom bytes at n) (wordAt bytes (at + 2 * n) ∷ [])
-    ∙ ap (λ (k : ℕ). k + 1) (words-length bytes at n)
-    ∙ add-one n
 
 -- where the sections are, by the counts that stand there
 module _ (bytes : List ℕ) where

@@ -1,1 +1,2 @@
+-- Inputs: what reading the printer's input finds, step by step.
 pub mod Inputs

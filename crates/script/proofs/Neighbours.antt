@@ -1,5 +1,5 @@
--- A card's neighbours: the labels and far cards of its links.
--- neighbours-exact   a label and a far card are among them exactly if some link of the card has them
+-- A card's neighbours: the labels and far ends of its links.
+-- neighbours-exact   a label and a far end are among them exactly if some link of the card has them
 -- kind-count         the kinds counted over the card's part of the script are the labels counted over its neighbours
 -- Assumes nothing.
 use Prim.Native.Nat.{ℕ, zero, suc, _+_, _-_, _≤_, _<_}
@@ -17,30 +17,30 @@ use lib.Dec.{eqb}
 use borrow.Author.Tests.{eq-eqb, ne-eqb, le-leb, lt-leb}
 use Rattle.bags.specs.Bag.{when}
 use Rattle.bags.specs.Choice.{Neighbour, to, labelCount}
-use Rattle.script.specs.Link.{fromAt, kindAt, toAt, neighbours, below, kindCount}
+use Rattle.script.specs.Link.{kindAt, toAt, near, label, far, neighbours, below, kindCount}
 use Rattle.words.proofs.Bools.{le-or-lt, eq-or-ne, one-or-none}
 use Rattle.script.proofs.Order.{StartsRise}
 use Rattle.script.proofs.Cards.{below-le, test-before, test-within, test-after}
 
--- One of the first m links leads from the card, under the label, to the far card.
+-- One of the first m links has the card for its near end, this label, and this far end.
 abbrev pub Leads : List ℕ → ℕ → ℕ → ℕ → ℕ → Type 0
-Leads script c m label far =
-    (i : ℕ) × (i < m) × (fromAt script i ≡ c) × (kindAt script i ≡ label) × (toAt script i ≡ far)
+Leads script c m name target =
+    (i : ℕ) × (i < m) × (near script i ≡ c) × (label script i ≡ name) × (far script i ≡ target)
 
-module _ (script : List ℕ) (c label far : ℕ) where
-  neighbours-here : (m : ℕ) → fromAt script m ≡ c
-      → neighbours script c (suc m) ≡ neighbours script c m ++ (to (kindAt script m) (toAt script m) ∷ [])
+module _ (script : List ℕ) (c name target : ℕ) where
+  neighbours-here : (m : ℕ) → near script m ≡ c
+      → neighbours script c (suc m) ≡ neighbours script c m ++ (to (label script m) (far script m) ∷ [])
   unfolding neighbours
-  neighbours-here m e = rw (eq-eqb (fromAt script m) c e) refl
+  neighbours-here m e = rw (eq-eqb (near script m) c e) refl
 
-  neighbours-other : (m : ℕ) → (fromAt script m ≡ c → ⊥) → neighbours script c (suc m) ≡ neighbours script c m
+  neighbours-other : (m : ℕ) → (near script m ≡ c → ⊥) → neighbours script c (suc m) ≡ neighbours script c m
   unfolding neighbours
-  neighbours-other m ne = rw (ne-eqb (fromAt script m) c ne) (append-nil _)
+  neighbours-other m ne = rw (ne-eqb (near script m) c ne) (append-nil _)
 
-  leads-more : (m : ℕ) → Leads script c m label far → Leads script c (suc m) label far
+  leads-more : (m : ℕ) → Leads script c m name target → Leads script c (suc m) name target
   leads-more m (i, l, f, k, t) = (i, omega arith, f, k, t)
 
-  neighbour-leads : (m : ℕ) → List·Memᴰ (to label far) (neighbours script c m) → Leads script c m label far
+  neighbour-leads : (m : ℕ) → List·Memᴰ (to name target) (neighbours script c m) → Leads script c m name target
   unfolding neighbours
   neighbour-leads zero h = absurd (List·Memᴰ·not-nil h)
   neighbour-leads (suc m) h =
@@ -48,37 +48,37 @@ module _ (script : List ℕ) (c label far : ℕ) where
       (λ e.
       ⊎-elim (λ d. leads-more m (neighbour-leads m d))
       (λ d.
-      let q : to label far ≡ to (kindAt script m) (toAt script m) = List·Memᴰ·eq-of-singleton d in
-      let k : kindAt script m ≡ label = cc in
-      let t : toAt script m ≡ far = cc in
+      let q : to name target ≡ to (label script m) (far script m) = List·Memᴰ·eq-of-singleton d in
+      let k : label script m ≡ name = cc in
+      let t : far script m ≡ target = cc in
       (m, omega arith, e, k, t))
       (List·Memᴰ·append-cases (neighbours script c m)
-      (subst (List·Memᴰ (to label far)) (neighbours-here m e) h)))
-      (λ ne. leads-more m (neighbour-leads m (subst (List·Memᴰ (to label far)) (neighbours-other m ne) h)))
-      (eq-or-ne (fromAt script m) c)
+      (subst (List·Memᴰ (to name target)) (neighbours-here m e) h)))
+      (λ ne. leads-more m (neighbour-leads m (subst (List·Memᴰ (to name target)) (neighbours-other m ne) h)))
+      (eq-or-ne (near script m) c)
 
-  leads-neighbour : (m : ℕ) → Leads script c m label far → List·Memᴰ (to label far) (neighbours script c m)
+  leads-neighbour : (m : ℕ) → Leads script c m name target → List·Memᴰ (to name target) (neighbours script c m)
   leads-neighbour zero (i, l, f, k, t) = absurd (not-suc-le-zero l)
   leads-neighbour (suc m) (i, l, f, k, t) =
       ⊎-elim
       (λ q.
-      let g : fromAt script m ≡ c = sym (ap (fromAt script) q) ∙ f in
-      let s : to label far ≡ to (kindAt script m) (toAt script m) =
-      ap₂ to (sym k ∙ ap (kindAt script) q) (sym t ∙ ap (toAt script) q) in
-      subst (List·Memᴰ (to label far)) (sym (neighbours-here m g))
+      let g : near script m ≡ c = sym (ap (near script) q) ∙ f in
+      let s : to name target ≡ to (label script m) (far script m) =
+      ap₂ to (sym k ∙ ap (label script) q) (sym t ∙ ap (far script) q) in
+      subst (List·Memᴰ (to name target)) (sym (neighbours-here m g))
       (Memᴰ·append-right (neighbours script c m) (List·Memᴰ·head s)))
       (λ lt.
       let d = leads-neighbour m (i, lt, f, k, t) in
       ⊎-elim
       (λ g.
-      subst (List·Memᴰ (to label far)) (sym (neighbours-here m g))
-      (Memᴰ·append-left (to (kindAt script m) (toAt script m) ∷ []) d))
-      (λ ne. subst (List·Memᴰ (to label far)) (sym (neighbours-other m ne)) d)
-      (eq-or-ne (fromAt script m) c))
+      subst (List·Memᴰ (to name target)) (sym (neighbours-here m g))
+      (Memᴰ·append-left (to (label script m) (far script m) ∷ []) d))
+      (λ ne. subst (List·Memᴰ (to name target)) (sym (neighbours-other m ne)) d)
+      (eq-or-ne (near script m) c))
       (eq-or-lt-of-le (le-of-suc-le-suc l))
 
   pub neighbours-exact : (m : ℕ)
-      → List·Memᴰ (to label far) (neighbours script c m) ↔ Leads script c m label far
+      → List·Memᴰ (to name target) (neighbours script c m) ↔ Leads script c m name target
   neighbours-exact m = (neighbour-leads m, leads-neighbour m)
 
 label-count-append : (xs ys : List Neighbour) (k : ℕ)

@@ -15,10 +15,9 @@ use native.Mathlib.Nat.{eq-or-lt-of-le}
 use native.Mathlib.Numerals.{add-one}
 use lib.ListN.{length, getD}
 use lib.Dec.{ltb, leb, eqb}
-use borrow.Author.Tests.{le-leb, lt-leb, lt-ltb, le-ltb, eq-eqb, ne-eqb, leb-false, ltb-false, eqb-true}
+use borrow.Author.Tests.{le-leb, lt-leb, lt-ltb, le-ltb, eq-eqb, ne-eqb, leb-false, ltb-false, eqb-true, not-false}
 use Rattle.words.specs.Limits.{maxCards, maxLinks}
 use Rattle.words.specs.Reading.{Reading, accepted, turnedDown}
-use Rattle.words.proofs.Bools.{never-both, is-true, not-of-false}
 use Rattle.words.proofs.Readings.{accepted-same, passed, Numbered, refuse-numbered}
 use Rattle.script.specs.Link.{fromIndex, kindIndex, toIndex, fromAt, kindAt, toAt, above, Ascending}
 use Rattle.script.specs.declared.LinkTest.{LinkTest}
@@ -56,8 +55,8 @@ module _ (kinds cards : ℕ) (script : List ℕ) (n i : ℕ) (done : Reading Scr
         rw (lt-leb cards (fromAt script i) f, lt-leb kinds (kindAt script i) k, lt-leb cards (toAt script i) t, e) refl
 
 -- The links from link i on, where some are left: what the code's test of link i makes of them.
-module _ (kinds cards : ℕ) (script : List ℕ) (count i : ℕ) (done : Reading ScriptCounts) (test : LinkTest) (l : i < count)
-    (tested : (n : ℕ) (rest : Reading ScriptCounts) →
+module _ (kinds cards : ℕ) (script : List ℕ) (count i : ℕ) (done : Reading ScriptCounts) (test : LinkTest)
+    (l : i < count) (tested : (n : ℕ) (rest : Reading ScriptCounts) →
     readLinks kinds cards script (suc n) i rest ≡ afterLink test (readLinks kinds cards script n (suc i) rest))
   where
     links-tested : readLinks kinds cards script (count - i) i done
@@ -95,24 +94,28 @@ module _ (kinds : ℕ) (script : List ℕ) where
       pub script-links : maxLinks < getD script 1 0 → readScript kinds script ≡ turnedDown 22 1
       unfolding readScript
       script-links h =
-          rw (le-ltb (length script) 2 two, le-ltb maxCards (getD script 0 0) n, lt-ltb maxLinks (getD script 1 0) h) refl
+          let few = le-ltb maxCards (getD script 0 0) n in
+          rw (le-ltb (length script) 2 two, few, lt-ltb maxLinks (getD script 1 0) h) refl
 
       module _ (m : getD script 1 0 ≤ maxLinks) where
         pub script-size : (length script ≡ 2 + 3 * getD script 1 0 → ⊥) → readScript kinds script ≡ turnedDown 20 0
         unfolding readScript
         script-size h =
+            let cards = le-ltb maxCards (getD script 0 0) n in
+            let links = le-ltb maxLinks (getD script 1 0) m in
             let size = ne-eqb (length script) (2 + 3 * getD script 1 0) h in
-            rw (le-ltb (length script) 2 two, le-ltb maxCards (getD script 0 0) n, le-ltb maxLinks (getD script 1 0) m, size)
-            refl
+            rw (le-ltb (length script) 2 two, cards, links, size) refl
 
         pub script-links-read : length script ≡ 2 + 3 * getD script 1 0
             → readScript kinds script
-            ≡ readLinks kinds (getD script 0 0) script (getD script 1 0) 0 (accepted (countsOf (getD script 0 0) (getD script 1 0)))
+            ≡ readLinks kinds (getD script 0 0) script (getD script 1 0) 0
+            (accepted (countsOf (getD script 0 0) (getD script 1 0)))
         unfolding readScript
         script-links-read h =
+            let cards = le-ltb maxCards (getD script 0 0) n in
+            let links = le-ltb maxLinks (getD script 1 0) m in
             let size = eq-eqb (length script) (2 + 3 * getD script 1 0) h in
-            rw (le-ltb (length script) 2 two, le-ltb maxCards (getD script 0 0) n, le-ltb maxLinks (getD script 1 0) m, size)
-            refl
+            rw (le-ltb (length script) 2 two, cards, links, size) refl
 
 -- The numbers that a script is refused with.
 abbrev pub ScriptNumber : ℕ → Type 0
@@ -162,7 +165,7 @@ links-passed kinds cards script (suc n) i done c e =
       from-below = leb-false cards (fromAt script i) f;
       kind-below = leb-false kinds (kindAt script i) k;
       to-below = leb-false cards (toAt script i) t;
-      rising = is-true (λ f. never-both (not-of-false f) o);
+      rising = not-false (above script i) o;
     } in (
       d,
       λ j a b.
@@ -196,7 +199,7 @@ script-accepted kinds script c e =
     let links : c .links ≡ getD script 1 0 = sym (ap (λ (x : ScriptCounts). x .links) same) in
     let few : getD script 1 0 ≤ maxLinks = ltb-false maxLinks (getD script 1 0) m in
     let size : length script ≡ 2 + 3 * getD script 1 0 =
-    eqb-true (length script) (2 + 3 * getD script 1 0) (is-true (λ f. never-both (not-of-false f) z)) in
+    eqb-true (length script) (2 + 3 * getD script 1 0) (not-false _ z) in
     let at : (i : ℕ) → i < c .links → Passed kinds (getD script 0 0) script i =
     λ i l. p i (omega arith) (omega arith) in
     let up : Ascending script (c .links) = record {

@@ -1,5 +1,5 @@
--- What reading a script with a template finds (docs/FORMAT.md, "Scripts"; the operations "Read a script" and "Links of a
--- card"). Refusals stand in the order of their tests, a line each: the number, its place, and the test for it.
+-- What reading a script with a template finds (docs/FORMAT.md, "Scripts"; the operations "Read a script" and "Links of
+-- a card"). Refusals stand in the order of their tests, a line each: the number, its place, and the test for it.
 -- ScriptCounts, readLinks, readScript   a script that is read: its counts of cards and of links
 -- readWith                              a script read with a template
 -- scriptSays                            what the operation "Read a script" says
@@ -24,9 +24,9 @@ pub record ScriptCounts : Type 0 where
 abbrev pub countsOf : ℕ → ℕ → ScriptCounts
 countsOf cards links = record { cards = cards; links = links }
 
--- The n links from link i on, and then what follows where none is at fault. 23: the card that the link starts at is not
--- below the count of cards. 24: its kind is not below the count of kinds. 23: the card that it leads to is not. 25: it is
--- not above the link before it.
+-- The n links from link i on, and then what follows where none is at fault. 23: the card that the link starts at is
+-- not below the count of cards. 24: its kind is not below the count of kinds. 23: the card that it leads to is not
+-- below the count of cards. 25: it is not above the link before it.
 unfoldable pub readLinks : ℕ → ℕ → List ℕ → ℕ → ℕ → Reading ScriptCounts → Reading ScriptCounts
 readLinks kinds cards script zero i done = done
 readLinks kinds cards script (suc n) i done =

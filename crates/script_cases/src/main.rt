@@ -1,12 +1,12 @@
-// "Read a script" and "Links of a card" on scripts at the edges of each refusal. A line for each case: what it is about, and
-// the answer.
+// "Read a script" and "Links of a card" on scripts at the edges of each refusal. A line for each case: what it is
+// about, and the answer.
 use libc::STDOUT_FILENO;
 use script::Card;
 use script::ScriptAnswer;
 ghost use mathlib.Core.Path.{_≡_};
 ghost use lib.ListN.{length};
 
-// Document 01's sample template: 2 kinds.
+// The sample template: 2 kinds.
 const SAMPLE: [u16; 15] = [2, 2, 10, 17, 2, 256, 1, 1, 1, 257, 0, 0, 1, 1, 0];
 
 fn text(bytes: &[u8]) {

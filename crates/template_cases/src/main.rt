@@ -1,4 +1,4 @@
-// Reading templates at the boundaries of document 01: each refusal from 1 to 12 on both sides, and the first fault.
+// Reading templates at the boundaries of the format: each refusal from 1 to 12 on both sides, and the first fault.
 // A case's line is its label, and `counts KINDS SHAPES` or `refused NUMBER PLACE`.
 use libc::STDOUT_FILENO;
 use template::TemplateAnswer;

@@ -3,14 +3,13 @@
 --   bookings-asked  one that passes the bookings' refusals is the sheet before them, and the bookings are in it
 -- Assumes nothing.
 use Prim.Native.Nat.{ℕ}
-use mathlib.Core.Path.{_≡_, refl, subst, ap, _∙_}
+use mathlib.Core.Path.{_≡_, subst, ap, _∙_}
 use mathlib.Core.Bool.{not}
 use mathlib.Core.List.{List}
 use lib.ListN.{length}
 use lib.Dec.{eqb}
-use borrow.Author.Tests.{eqb-true}
+use borrow.Author.Tests.{eqb-true, not-false}
 use Rattle.words.specs.Reading.{Reading, accepted, then}
-use Rattle.words.proofs.Bools.{never-both, is-true, not-of-false}
 use Rattle.words.proofs.Readings.{accepted-same, passed, then-accepted}
 use Rattle.sheet.specs.Sheet.{Sheet, size}
 use Rattle.sheet.proofs.Accepted.{mapped-accepted}
@@ -24,7 +23,7 @@ pub grid-asked : (grid : List ℕ) (r : Reading Sheet) (s : Sheet) → then r (w
 grid-asked grid r s e =
     let (q, read, rest) = then-accepted r (withGrid grid) s e in
     let (other, last) = passed 40 0 (not (eqb (length grid) (size q))) (accepted q) s rest in
-    let full = eqb-true (length grid) (size q) (is-true (λ f. never-both (not-of-false f) other)) in
+    let full = eqb-true (length grid) (size q) (not-false _ other) in
     (read ∙ last, subst (λ (x : Sheet). length grid ≡ size x) (accepted-same last) full)
 
 pub bookings-asked : (bookings : List ℕ) (r : Reading Sheet) (s : Sheet) → then r (withBookings bookings) ≡ accepted s

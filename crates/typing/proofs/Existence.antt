@@ -5,7 +5,7 @@
 --   largest-no-choice, smallest-no-choice, both-no-choice   two answers to one call are the same, and so are the grids
 -- Assumes nothing.
 use Prim.Native.Nat.{ℕ, zero, suc, _+_, _*_, _/_, _%_, _≤_, _<_}
-use mathlib.Core.Path.{_≡_, refl, sym, ap, _∙_}
+use mathlib.Core.Path.{_≡_, refl, sym, ap, ap₂, _∙_}
 use mathlib.Core.Logic.{⊎-elim}
 use mathlib.Core.Bool.{Bool, true, false}
 use mathlib.Core.List.{List, [], _∷_}
@@ -14,7 +14,7 @@ use native.Mathlib.Nat.{le-of-suc-le-suc, not-suc-le-zero}
 use lib.ListN.{length, getD}
 use Rattle.words.specs.Limits.{maxKinds}
 use Rattle.bags.specs.Part.{named}
-use Rattle.bags.specs.Interval.{fits}
+use Rattle.bags.specs.Interval.{count, fits}
 use Rattle.bags.specs.Choice.{labelCount}
 use Rattle.template.specs.Template.{Tabled}
 use Rattle.script.specs.Link.{neighbours}
@@ -66,9 +66,12 @@ namesOf s = listOf (λ p. named (partOf s (p / maxKinds)) (p % maxKinds)) (s .sh
 countsOf : Sheet → ℕ → ℕ → List ℕ
 countsOf s kinds n = listOf (λ k. labelCount (neighbours (s .script) n (s .links)) k) kinds
 
--- 1 where a card's counts fit a shape.
+-- The test of a card's counts against a shape, and the grid of these: 1 where they fit.
+abbrev fitsAt : Sheet → ℕ → ℕ → ℕ → Bool
+fitsAt s kinds n t = let counts = countsOf s kinds n in fits (length counts) (partOf s t) (count counts)
+
 fitsOf : Sheet → ℕ → List ℕ
-fitsOf s kinds = listOf (λ p. bit (fits (partOf s (p % s .shapes)) (countsOf s kinds (p / s .shapes)))) (size s)
+fitsOf s kinds = listOf (λ p. bit (fitsAt s kinds (p / s .shapes) (p % s .shapes))) (size s)
 
 module _ {words : List ℕ} {kinds : ℕ} {s : Sheet} (read : SheetAccepted words kinds s) where
   names-tabled : Tabled (s .parts) (namesOf s)
@@ -94,17 +97,15 @@ module _ {words : List ℕ} {kinds : ℕ} {s : Sheet} (read : SheetAccepted word
 
   fits-right : FitsGrid s (fitsOf s kinds)
   unfolding fitsOf
-  fits-right = fits-grid read (fitsOf s kinds) (λ n t ln lt.
-      let f : ℕ → ℕ = λ p. bit (fits (partOf s (p % s .shapes)) (countsOf s kinds (p / s .shapes))) in (
-        countsOf s kinds n,
-        counts-right n,
-        on-bit (fitsOf s kinds) (place s n t) (fits (partOf s t) (countsOf s kinds n))
-            (list-at f (size s) (place s n t) (place-in (s .cards) (s .shapes) n t ln lt)
-            ∙ ap (λ (x : ℕ). bit (fits (partOf s x) (countsOf s kinds (place s n t / s .shapes))))
-            (shape-of (s .shapes) (read .shapes .shapes-low) n t lt)
-            ∙ ap (λ (x : ℕ). bit (fits (partOf s t) (countsOf s kinds x)))
-            (card-of (s .shapes) (read .shapes .shapes-low) n t lt)),
-      ))
+  fits-right = fits-grid read (fitsOf s kinds) (λ n t ln lt. (
+    countsOf s kinds n,
+    counts-right n,
+    on-bit (fitsOf s kinds) (place s n t) (fitsAt s kinds n t)
+        (list-at (λ p. bit (fitsAt s kinds (p / s .shapes) (p % s .shapes))) (size s) (place s n t)
+        (place-in (s .cards) (s .shapes) n t ln lt)
+        ∙ ap₂ (λ (x y : ℕ). bit (fitsAt s kinds x y)) (card-of (s .shapes) (read .shapes .shapes-low) n t lt)
+        (shape-of (s .shapes) (read .shapes .shapes-low) n t lt)),
+  ))
 
   some-board : (B : Board) × Represents s B
   some-board = (

@@ -20,7 +20,7 @@ use Rattle.bags.specs.Interval.{count, fits}
 use Rattle.bags.specs.Choice.{to, labelCount}
 use Rattle.bags.proofs.Naming.{names-dec, names-declares, declares-below, declares-unique, named-exact}
 use Rattle.bags.proofs.Exact.{fits-exact}
-use Rattle.bags.proofs.Decide.{fits-decided}
+use Rattle.bags.proofs.Decide.{list-decided}
 use Rattle.bags.proofs.Choosing.{met-exact}
 use Rattle.template.specs.Template.{Tabled}
 use Rattle.script.specs.Link.{label, far, neighbours}
@@ -61,17 +61,20 @@ module _ {words : List ℕ} {kinds : ℕ} {s : Sheet} (read : SheetAccepted word
       (le-or-lt (length counts) k)
 
   fits-counted : (n t : ℕ) (counts : List ℕ) → t < s .shapes → CountsOf s n counts
-      → (fits (partOf s t) counts ≡ true) ↔ Fits (s .shapes) (partOf s t) (labelCount (neighboursOf s n t))
+      → (fits (length counts) (partOf s t) (count counts) ≡ true)
+      ↔ Fits (s .shapes) (partOf s t) (labelCount (neighboursOf s n t))
   fits-counted n t counts lt c =
       let same : count counts ≡ labelCount (neighboursOf s n t) = fun-ext c in
-      let decided = fits-decided (s .shapes) (partOf s t) counts (read .shapes .single t lt)
+      let decided = list-decided (s .shapes) (partOf s t) counts (read .shapes .single t lt)
       (read .shapes .shapes-below t lt) in (
         λ e. subst (λ (w : ℕ → ℕ). Fits (s .shapes) (partOf s t) w) same (decided .1 e),
         λ f. decided .0 (subst (λ (w : ℕ → ℕ). Fits (s .shapes) (partOf s t) w) (sym same) f),
       )
 
   pub fits-grid : (grid : List ℕ) → ((n t : ℕ) → n < s .cards → t < s .shapes
-      → (counts : List ℕ) × CountsOf s n counts × (on grid (place s n t) ≡ fits (partOf s t) counts)) → FitsGrid s grid
+      → (counts : List ℕ) × CountsOf s n counts
+      × (on grid (place s n t) ≡ fits (length counts) (partOf s t) (count counts)))
+      → FitsGrid s grid
   fits-grid grid tested n t ln lt =
       let (counts, those, here) = tested n t ln lt in
       let exact = fits-counted n t counts lt those in

@@ -1,8 +1,8 @@
 -- The theory of the two typings, lowest first.
--- Places: the place of a pair tells the pair. Represents: a board stands for a sheet. Rounds: a sheet's rounds are
--- the board's. Largest, Smallest: the two typings. Demand: demand 3. Booked: bookings of a list that is read. Unique:
--- two answers to one call are the same. Neighbours, Instance: the board of a template and a script. Existence: every
--- sheet has one, so no contract leaves a choice.
+-- Boards: the board of a script and a table of names. Represents: a board stands for a sheet. Rounds: a sheet's rounds
+-- are the board's. Largest, Smallest: the two typings. Demand: both together. Booked: bookings of a list that is read.
+-- Unique: two answers to one call are the same. Neighbours, Instance: the board of a template and a script. Existence:
+-- every sheet has one, so no contract leaves a choice.
 pub mod Boards
 pub mod Represents
 pub mod Rounds

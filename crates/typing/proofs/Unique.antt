@@ -171,8 +171,9 @@ grids-unique {g} {h} e f =
     ∙ ap (λ (z : List ℕ). record { small = h .small; large = z }) f
 
 module _ (Wanted : ℕ → ℕ → Type 0) where
-  smallest-answered-unique : (r : Reading Sheet) → Represented r → ListedIn r Wanted → (before g h : List ℕ) (a b : Said)
-      → SmallestAnswered r Wanted before g a → SmallestAnswered r Wanted before h b → (a ≡ b) × (g ≡ h)
+  smallest-answered-unique : (r : Reading Sheet) → Represented r → ListedIn r Wanted
+      → (before g h : List ℕ) (a b : Said) → SmallestAnswered r Wanted before g a → SmallestAnswered r Wanted before h b
+      → (a ≡ b) × (g ≡ h)
   smallest-answered-unique (turnedDown number at) sheets inside before g h a b x y =
       (x .0 ∙ sym (y .0), x .1 ∙ sym (y .1))
   smallest-answered-unique (accepted s) sheets inside before g h a b x y =

@@ -1,5 +1,5 @@
--- What the operations for the largest, the smallest and both typings answer, and what becomes of the grids, on all inputs
--- (docs/FORMAT.md, "Operations").
+-- What the operations for the largest, the smallest and both typings answer, and what becomes of the grids, on all
+-- inputs (docs/FORMAT.md, "Operations").
 -- withBookings, withGrid                            the refusals of a list of bookings and of a grid
 -- largestReading, smallestReading, bothReading      the sheet of what is lent, or the first refusal
 -- LargestFound, SmallestFound, BothFound            what is said and written where nothing is refused

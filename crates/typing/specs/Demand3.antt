@@ -1,5 +1,5 @@
--- What holds of the two typings together (demand 3 of the product; docs/FORMAT.md, "Largest" and "Smallest"), over the two
--- grids and the numbers that the calls leave.
+-- What holds of the two typings together (docs/FORMAT.md, "Largest" and "Smallest"), over the two grids and the numbers
+-- that the calls leave.
 -- Outcome, Refused   how the bookings fared: the number of pairs, or the card and shape of 50
 -- Demand3            a field for each thing that is promised
 -- Assumes nothing.

@@ -12,7 +12,7 @@ use Rattle.board.specs.Grid.{tally}
 use Rattle.sheet.specs.Sheet.{Sheet, place, size}
 use Rattle.typing.specs.Typing.{Pairs, Has, Met, Sound}
 
--- A round strikes just the pairs that are not met under the set that it starts from: of X the pairs met under X are in Y.
+-- A round strikes just the pairs that are not met under the set that it starts from: of X those met under X are in Y.
 pub record Round (s : Sheet) (X Y : Pairs) : Type 0 where
   pub keeps : (n t : ℕ) → n < s .cards → t < s .shapes → Has s X n t → Met s X n t → Has s Y n t
   pub strikes : (n t : ℕ) → n < s .cards → t < s .shapes → (Met s X n t → ⊥) → Y (place s n t) ≡ false

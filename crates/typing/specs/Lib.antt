@@ -1,3 +1,5 @@
+-- The promise: Typing, Largest, Smallest, Demand3, what the typings are; Answer and Calls, what the calls answer.
+-- Needs: the board of a sheet; no part of a promise.
 pub mod Needs
 pub mod Typing
 pub mod Largest

@@ -13,8 +13,8 @@ use Rattle.script.specs.Link.{near, label, far}
 use Rattle.sheet.specs.Sheet.{Sheet, partOf, place, size}
 use Rattle.typing.specs.Typing.{Pairs, Has, Met, Typing}
 
--- The bookings are in it. Where a pair of a card and a shape is in it, and the shape names a label of the card's links with
--- some shape, the far end of each such link is in it with that shape. Nothing else is.
+-- The bookings are in it. Where a pair of a card and a shape is in it, and the shape names the label of a link of the
+-- card with some shape, the link's far end is in it with that shape. Nothing else is.
 pub data Closure (s : Sheet) (Booked : ℕ → ℕ → Type 0) : ℕ → ℕ → Type 0 where
   booked : {n t : ℕ} → Booked n t → Closure s Booked n t
   follow : {n t u : ℕ} → Closure s Booked n t → (i : ℕ) → i < s .links → near (s .script) i ≡ n

@@ -23,8 +23,8 @@ Pairs = ℕ → Bool
 abbrev pub Has : Sheet → Pairs → ℕ → ℕ → Type 0
 Has s X n t = X (place s n t) ≡ true
 
--- For each of the card's neighbours a shape that the set gives it can be chosen, so that the bag of labels and shapes chosen
--- belongs to the shape's part.
+-- For each of the card's neighbours a shape that the set gives it can be chosen, so that the bag of labels and shapes
+-- chosen belongs to the shape's part.
 abbrev pub Met : Sheet → Pairs → ℕ → ℕ → Type 0
 Met s X n t = choice.Met (s .shapes) (Has s X) (neighboursOf s n t) (partOf s t)
 

@@ -1,5 +1,5 @@
-// The two typings of a script: the largest that it allows, and the smallest that holds the bookings. Here are the answers of
-// the calls; the definitions are in specs/, the theory up to demand 3 in proofs/.
+// The two typings of a script: the largest that it allows, and the smallest that holds the bookings. Here are the
+// answers of the calls; the definitions are in specs/, the theory in proofs/.
 use script::Card;
 use template::Shape;
 
@@ -16,8 +16,8 @@ pub enum SmallestAnswer {
     Refused(u16, usize),
 }
 
-// Rounds, pairs struck, cards with no shape, and the number of pairs of the smallest or the pair that is not met; or what
-// else is refused: number and place.
+// Rounds, pairs struck, cards with no shape, and the number of pairs of the smallest or the pair that is not met; or
+// what else is refused: number and place.
 pub enum BothAnswer {
     Typed(usize, usize, usize, usize),
     NotMet(usize, usize, usize, Card, Shape),

@@ -1,5 +1,5 @@
--- `bookings::read_pairs` reads the bookings one by one: before booking i the reading from there on is the whole reading.
--- Assumes nothing.
+-- `bookings::read_pairs` reads the bookings one by one: before booking i the reading from there on is the whole
+-- reading. Assumes nothing.
 use Prim.Native.Nat.{_-_, _≤_}
 use mathlib.Core.Path.{_≡_, refl, sym, _∙_}
 use native.Mathlib.Omega.{arith}

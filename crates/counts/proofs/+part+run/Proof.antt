@@ -1,10 +1,11 @@
--- The proof of the cycle of calls {part, run}. The measure is the words left, times more than a count of parts can be, and
--- the count of a run.
+-- The proof of the cycle of calls {part, run}. The measure is the words left, times more than a count of parts can be,
+-- and the count of a run.
 -- Assumes nothing.
 use Prim.Native.Nat.{ℕ, _<_, _≤_, _+_, _-_, _*_}
 use borrow.Author.Needs.{needs}
 use native.Mathlib.Omega.{arith}
 use lib.ListN.{length}
+use Rattle.words.specs.Limits.{maxTemplate}
 use Rattle.counts.proofs.Sizes.{next-bound}
 use Rattle.counts.proofs.Evaluations.{part-small, run-small}
 use Rattle.counts.proofs.Steps.{part-deep, part-past, part-nothing, part-low, part-middle, part-high}
@@ -205,7 +206,7 @@ module _ (t : ℕ) where
   run-join-requires : run-lts.Need-join-requires (run-claims t) (run-at t) run.Post
   run-join-requires c κs =
       let a = c .before .before .before .before .before .args in
-      let b : length (a .words .now) ≤ 4096 = omega arith in (
+      let b : length (a .words .now) ≤ maxTemplate = omega arith in (
         part-small _ _ _ b _ _ (c .before .part .ensures),
         run-small _ _ _ b _ _ (a .code) _ (c .run .ensures),
       )

@@ -1,8 +1,8 @@
 -- `fit_accepted` meets its contract. Assumes nothing.
 use native.Mathlib.Omega.{arith}
-use Prim.Native.Nat.{_+_, _-_, _*_, _≤_, _<_}
+use Prim.Native.Nat.{_+_, _-_, _*_}
 use mathlib.Core.Path.{_≡_}
-use lib.ListN.{length}
+use Rattle.words.specs.Limits.{maxKinds}
 use Rattle.template.proofs.Accepted.{template-accepted}
 use Rattle.template.proofs.Answers.{template-read}
 use Rattle.counts.proofs.Fitting.{fits-asks, fit-shape, fit-length, fit-over, fit-yes, fit-no}
@@ -13,8 +13,8 @@ use Rattle.counts.proofs.fit_accepted.Tie as tie
 returns : tie.Need-returns
 returns c =
     let start = c .before .before .before .before in
-    let past : start .args .shapes ≤ start .args .shape .0 = omega arith in
-    fit-shape _ _ _ (start .args .kinds) (start .args .shapes) (start .pre .0) past
+    let (t, e, kinds, shapes) = template-read _ _ _ (start .pre .said) in
+    fit-shape _ _ _ t e (omega arith)
 
 wide-requires : tie.Need-wide-requires
 wide-requires c κs = search needs
@@ -22,9 +22,8 @@ wide-requires c κs = search needs
 returns-2 : tie.Need-returns-2
 returns-2 c =
     let start = c .before .before .before .before .before .before in
-    let below : start .args .shape .0 < start .args .shapes = omega arith in
-    let other : length (start .args .counts .now) ≡ start .args .kinds → ⊥ = omega arith in
-    fit-length _ _ _ (start .args .kinds) (start .args .shapes) (start .pre .0) below other
+    let (t, e, kinds, shapes) = template-read _ _ _ (start .pre .said) in
+    fit-length _ _ _ t e (omega arith) (omega arith)
 
 first-over-requires : tie.Need-first-over-requires
 first-over-requires c κs = search needs
@@ -32,10 +31,8 @@ first-over-requires c κs = search needs
 returns-3 : tie.Need-returns-3
 returns-3 c =
     let start = c .before .before .before .before .before .before .before .before in
-    let below : start .args .shape .0 < start .args .shapes = omega arith in
-    let all : length (start .args .counts .now) ≡ start .args .kinds = omega arith in
-    fit-over _ _ _ (start .args .kinds) (start .args .shapes) (start .pre .0) below all _ (c .before .first-over .ensures)
-    (c .if3 .taken)
+    let (t, e, kinds, shapes) = template-read _ _ _ (start .pre .said) in
+    fit-over _ _ _ t e (omega arith) (omega arith) _ (c .before .first-over .ensures) (c .if3 .taken)
 
 wide-requires-2 : tie.Need-wide-requires-2
 wide-requires-2 c κs = search needs
@@ -58,30 +55,27 @@ part-fits-start c = search needs
 part-fits-end : tie.Need-part-fits-end
 part-fits-end c =
     let start = c .before .before .before .before .before .before .before .before .before .before in
-    let (trees, e) = template-read _ _ _ (start .pre .0) in
-    let high = template-accepted _ _ _ trees e .shapes-high in
+    let (t, e, kinds, shapes) = template-read _ _ _ (start .pre .said) in
+    let high = template-accepted _ t e .shapes-high in
     omega arith
 
 fits-requires : tie.Need-fits-requires
 fits-requires c κs =
     let start = c .before .before .before .before .before .before .before .before .before .before .before in
-    let (trees, e) = template-read _ _ _ (start .pre .0) in
-    let below : start .args .shape .0 < start .args .shapes = omega arith in
-    let all : length (start .args .counts .now) ≡ start .args .kinds = omega arith in
-    let row = c .before .before .wide2 .result * 64 in
-    let base : row ≡ start .args .shape .0 * 64 = omega arith in
-    let size : row + 64 - row ≡ 64 = omega arith in
-    fits-asks _ _ _ trees e _ below (start .args .counts .now) (start .args .names .now) _ _ _ (start .pre .2 trees e)
-    (start .pre .1) all (c .before .shape-place .ensures) base size
+    let (t, e, kinds, shapes) = template-read _ _ _ (start .pre .said) in
+    let row = c .before .before .wide2 .result * maxKinds in
+    let base : row ≡ start .args .shape .0 * maxKinds = omega arith in
+    let size : row + maxKinds - row ≡ maxKinds = omega arith in
+    fits-asks _ t e _ (omega arith) (start .args .counts .now) (start .args .names .now) _ _ _ (start .pre .table t e)
+    (start .pre .size) (omega arith) (c .before .shape-place .ensures) base size
 
 returns-4 : tie.Need-returns-4
 returns-4 c =
     let place = c .before .before .before in
     let over = place .before .before .before in
     let start = over .before .before .before .before .before .before .before in
-    let below : start .args .shape .0 < start .args .shapes = omega arith in
-    let all : length (start .args .counts .now) ≡ start .args .kinds = omega arith in
-    fit-yes _ _ _ (start .args .kinds) (start .args .shapes) (start .pre .0) below all _ (over .first-over .ensures)
+    let (t, e, kinds, shapes) = template-read _ _ _ (start .pre .said) in
+    fit-yes _ _ _ t e (omega arith) (omega arith) _ (over .first-over .ensures)
     (place .before .before .if3 .left) _ _ (place .shape-place .ensures) (c .before .fits2 .ensures) (c .if4 .taken)
 
 returns-5 : tie.Need-returns-5
@@ -89,9 +83,8 @@ returns-5 c =
     let place = c .before .before .before in
     let over = place .before .before .before in
     let start = over .before .before .before .before .before .before .before in
-    let below : start .args .shape .0 < start .args .shapes = omega arith in
-    let all : length (start .args .counts .now) ≡ start .args .kinds = omega arith in
-    fit-no _ _ _ (start .args .kinds) (start .args .shapes) (start .pre .0) below all _ (over .first-over .ensures)
+    let (t, e, kinds, shapes) = template-read _ _ _ (start .pre .said) in
+    fit-no _ _ _ t e (omega arith) (omega arith) _ (over .first-over .ensures)
     (place .before .before .if3 .left) _ _ (place .shape-place .ensures) (c .before .fits2 .ensures) (c .if4 .left)
 
 pub fit-accepted-spec : {M : Type 1} → statement M

@@ -23,11 +23,12 @@ slice-aggregate-fit-accepted c = search needs
 
 fit-accepted-requires : tie.Need-fit-accepted-requires
 fit-accepted-requires c κs =
-    let read = c .before .before .before .before .before .read-names .ensures in (
-      sym (ap templateSaid (c .before .before .read2 .given .1)) ∙ read .0,
-      search needs,
-      λ trees e. read .1 _ _ trees e,
-    )
+    let read = c .before .before .before .before .before .read-names .ensures in
+    record {
+      said = sym (ap templateSaid (c .before .before .read2 .given .1)) ∙ read .0;
+      size = search needs;
+      table = read .1;
+    }
 
 returns : tie.Need-returns
 returns c =

@@ -1,5 +1,8 @@
 -- `fits` meets its contract. Assumes nothing.
 use Prim.Native.Nat.{_+_}
+use lib.ListN.{length}
+use Rattle.words.specs.Limits.{maxDepth}
+use Rattle.bags.specs.Interval.{count}
 use Rattle.counts.specs.Trees.{treeAt}
 use Rattle.counts.proofs.Evaluations.{fits-one, fits-not}
 use borrow.Author.Needs.{needs}
@@ -22,15 +25,18 @@ returns : tie.Need-returns
 returns c =
     let others = c .before .before .before .before in
     let start = others .before .before .before .before in
-    let t = treeAt 12 (start .args .words .now) (start .args .at + 1) in
-    fits-one (start .args .counts .now) _ t _ (others .others-zero .ensures (t .tree) (start .pre .3)) _ _
+    let counts = start .args .counts .now in
+    let t = treeAt maxDepth (start .args .words .now) (start .args .at + 1) in
+    fits-one (count counts) (length counts) _ t _ (others .others-zero .ensures (t .value) (start .pre .row-of)) _ _
     (c .before .before .part .ensures) (c .has-one .ensures) (c .before .before .before .if1 .taken)
 
 returns-2 : tie.Need-returns-2
 returns-2 c =
     let start = c .before .before .before .before .before in
-    let t = treeAt 12 (start .args .words .now) (start .args .at + 1) in
-    fits-not (start .args .counts .now) 0 t _ (c .before .others-zero .ensures (t .tree) (start .pre .3)) (c .if1 .left)
+    let counts = start .args .counts .now in
+    let t = treeAt maxDepth (start .args .words .now) (start .args .at + 1) in
+    fits-not (count counts) (length counts) 0 t _ (c .before .others-zero .ensures (t .value) (start .pre .row-of))
+    (c .if1 .left)
 
 pub fits-spec : {M : Type 1} → statement M
 fits-spec =

@@ -28,8 +28,8 @@ add-t8 c = search needs
 returns : tie.Need-returns
 returns c =
     rw (← c .before .before .word .ensures, ← c .before .word2 .ensures)
-    (link-evaluates _ _ _ _ _ _ _ _ (c .before .before .before .count-of .ensures) (search needs) (c .link-span .ensures .0)
-    (c .link-span .ensures .1))
+    (link-evaluates _ _ _ _ _ _ _ _ (c .before .before .before .count-of .ensures) (search needs)
+    (c .link-span .ensures .0) (c .link-span .ensures .1))
 
 pub link-spec : {M : Type 1} → statement M
 link-spec =

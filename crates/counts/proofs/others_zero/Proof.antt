@@ -1,21 +1,22 @@
--- `others_zero` meets its contract. The invariant: from here on the test says what it says from the first label. The measure
--- is the counts left. Assumes nothing.
+-- `others_zero` meets its contract. The invariant: the labels passed that are not named count 0. The measure is the
+-- counts left. Assumes nothing.
 use borrow.Author.Needs.{needs}
 use native.Mathlib.Omega.{arith}
-use Prim.Native.Nat.{ℕ, _-_, _≤_, _<_}
-use mathlib.Core.Path.{_≡_, refl, _∙_}
-use lib.ListN.{length, getD, drop}
-use Rattle.bags.specs.Part.{Part, named}
-use Rattle.bags.specs.Interval.{othersZero}
-use Rattle.counts.proofs.Counts.{others-done, others-step, others-not}
+use Prim.Native.Nat.{_-_, _≤_, _<_}
+use mathlib.Core.Path.{_≡_, refl, sym}
+use mathlib.Core.Bool.{true}
+use lib.ListN.{length}
+use Rattle.bags.specs.Part.{Part}
+use Rattle.bags.specs.Interval.{count, othersZero}
+use Rattle.counts.specs.Machine.{RowOf}
+use Rattle.counts.proofs.Counts.{others-step, others-not}
 use Rattle.counts.proofs.others_zero.Statement.{statement}
 use Rattle.counts.proofs.others_zero.Tie as tie
 
 abbrev Inv-loop : tie.InvT-loop
 Inv-loop row counts i₀ i =
     (i ≤ length counts)
-    × ((p : Part) → ((k : ℕ) → k < length counts → getD row k 0 ≡ named p k) →
-    othersZero p i (drop i counts) ≡ othersZero p 0 counts)
+    × ((p : Part) → RowOf row (length counts) p → othersZero i p (count counts) ≡ true)
 
 abbrev μ-loop : tie.MeasureT-loop
 μ-loop row counts i₀ i = length counts - i
@@ -45,24 +46,26 @@ loop-again : tie.Need-loop-again Inv-loop μ-loop
 loop-again c =
     let at = c .before .before .before .before .before in
     let i = at .loop .i in
-    let below : i < length (at .before .before .before .args .counts .now) = omega arith in (
+    let counts = at .before .before .before .args .counts .now in
+    let below : i < length counts = omega arith in (
       omega arith,
-      λ p h. others-step p _ i _ _ below (h i below) (c .before .allowed .ensures) (c .if1 .taken)
-          ∙ at .loop .inv .1 p h,
+      λ p h. others-step p (count counts) i _ _ (h i below) (c .before .allowed .ensures) (c .if1 .taken)
+          (at .loop .inv .1 p h),
     )
 
 returns : tie.Need-returns Inv-loop μ-loop
 returns c p h =
     let at = c .before .before .before .before .before in
     let i = at .loop .i in
-    let below : i < length (at .before .before .before .args .counts .now) = omega arith in
-    others-not p _ i _ _ below (h i below) (c .before .allowed .ensures) (c .if1 .left) ∙ at .loop .inv .1 p h
+    let counts = at .before .before .before .args .counts .now in
+    let below : i < length counts = omega arith in
+    others-not p (count counts) i _ _ (h i below) (c .before .allowed .ensures) (length counts) below (c .if1 .left)
 
 returns-2 : tie.Need-returns-2 Inv-loop μ-loop
 returns-2 c p h =
     let counts = c .before .before .before .before .args .counts .now in
     let end : c .before .loop .i ≡ length counts = omega arith in
-    others-done p counts _ end ∙ c .before .loop .inv .1 p h
+    sym (rw end at (c .before .loop .inv .1 p h))
 
 pub others-zero-spec : {M : Type 1} → statement M
 others-zero-spec =

@@ -4,7 +4,7 @@ use borrow.Author.Needs.{needs}
 use native.Mathlib.Omega.{arith}
 use Prim.Native.Nat.{_+_, _*_, _≤_}
 use mathlib.Core.Path.{_≡_, refl, _∙_}
-use Rattle.template.specs.Template.{shapePlace}
+use Rattle.template.specs.Machine.{shapePlace}
 use Rattle.counts.proofs.ShapePlaces.{place-done, place-next}
 use Rattle.counts.proofs.shape_place.Statement.{statement}
 use Rattle.counts.proofs.shape_place.Tie as tie
@@ -39,7 +39,8 @@ loop-less c = search needs
 
 loop-again : tie.Need-loop-again Inv-loop μ-loop
 loop-again c = (
-  place-next _ _ _ _ (omega arith) (c .wide .ensures .0 ∙ c .before .word .ensures) ∙ c .before .before .before .loop .inv .0,
+  place-next _ _ _ _ (omega arith) (c .wide .ensures .0 ∙ c .before .word .ensures)
+      ∙ c .before .before .before .loop .inv .0,
   omega arith,
 )
 

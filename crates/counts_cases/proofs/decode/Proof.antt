@@ -1,5 +1,5 @@
--- `decode` meets its contract. The invariant: no more words are written than there are, and their list keeps its length.
--- Assumes nothing.
+-- `decode` meets its contract. The invariant: no more words are written than there are, and their list keeps its
+-- length. Assumes nothing.
 use borrow.Author.Needs.{needs}
 use native.Mathlib.Omega.{arith}
 use Prim.Native.Nat.{_≤_, _-_}

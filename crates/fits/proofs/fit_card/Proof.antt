@@ -1,4 +1,4 @@
--- `pairs::fit_card` meets its contract. The invariant: the loop is at the shape's place, and the shapes before it have
+-- `fits::fit_card` meets its contract. The invariant: the loop is at the shape's place, and the shapes before it have
 -- their bytes. The measure is the count of shapes left. Assumes nothing.
 use Prim.Native.Nat.{_-_}
 use mathlib.Core.Logic.{⊎-elim}
@@ -16,16 +16,20 @@ Inv-loop template names shapes counts row₀ at₀ t₀ row at t = FittedBelow t
 abbrev μ-loop : tie.MeasureT-loop
 μ-loop template names shapes counts row₀ at₀ t₀ row at t = shapes - t
 
+-- The function's start, from the loop.
+abbrev start : tie.At-loop Inv-loop μ-loop → tie.Start Inv-loop μ-loop
+start l = l .before .before .before .before .before
+
 -- Where the words of the shape lie that the loop is at.
 shape-in : (c : tie.In-loop Inv-loop μ-loop) →
-    let s = c .before .before .before .before .before .before in
+    let s = start (c .before) in
     ShapeWithin (now (s .args .template)) (s .args .shapes) (c .before .loop .at)
 shape-in c =
-    let s = c .before .before .before .before .before .before in
-    shape-within _ _ _ _ _ _ (c .before .loop .inv) (omega arith) (s .pre .0)
+    let s = start (c .before) in
+    shape-within _ _ _ _ _ _ (c .before .loop .inv) (omega arith) (s .pre .shaped)
 
 loop-holds : tie.Need-loop-holds Inv-loop μ-loop
-loop-holds c = fitted-start _ _ _ _ (c .before .before .before .before .pre .4)
+loop-holds c = fitted-start _ _ _ _ (c .before .before .before .before .pre .size)
 
 mul-base : tie.Need-mul-base Inv-loop μ-loop
 mul-base c = let w = shape-in c in search needs
@@ -45,15 +49,19 @@ part-fits-end c = let w = shape-in c in search needs
 fits-requires : tie.Need-fits-requires Inv-loop μ-loop
 fits-requires c κs =
     let w = shape-in (c .before) in
-    let s = c .before .before .before .before .before .before .before in
-    let inv = c .before .before .loop .inv in
+    let l = c .before .before in
+    let s = start l in
+    let inv = l .loop .inv in
     let names = now (s .args .names) in
-    let row = shape-row _ _ _ _ _ _ inv (omega arith) names (s .pre .0) (s .pre .2) in (
-      w .short,
-      w .start,
-      omega arith,
-      λ k h. shape-names _ _ _ _ _ _ inv (omega arith) names (s .pre .0) (s .pre .1) (s .pre .2) k (omega arith),
-    )
+    let row = shape-row _ _ _ _ _ _ inv (omega arith) names (s .pre .shaped) (s .pre .room) in
+    record {
+      words-high = w .short;
+      at-in = w .start;
+      labels-in = omega (arith, row, s .pre .few);
+      row-of = λ k h.
+          shape-names _ _ _ _ _ _ inv (omega arith) names (s .pre .shaped) (s .pre .table) (s .pre .room) k
+          (omega (arith, s .pre .few));
+    }
 
 slice-write-row : tie.Need-slice-write-row Inv-loop μ-loop
 slice-write-row c = search needs

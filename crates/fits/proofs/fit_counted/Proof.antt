@@ -1,4 +1,4 @@
--- `pairs::fit_counted` meets its contract: the counts are those of the card's labels, and the row fits them.
+-- `fits::fit_counted` meets its contract: the counts are those of the card's labels, and the row fits them.
 -- Assumes nothing.
 use borrow.Author.Needs.{needs}
 use mathlib.Core.Path.{sym, _∙_}
@@ -7,6 +7,10 @@ use Rattle.sheet.proofs.Openings.{opened-shaped}
 use Rattle.fits.proofs.CardCounts.{kinds-few, starts-within, kinds-within, counts-counted, card-fitted}
 use Rattle.fits.proofs.fit_counted.Statement.{statement}
 use Rattle.fits.proofs.fit_counted.Tie as tie
+
+-- The function's start, from the point where both starts are read.
+abbrev start : tie.After-wide2 → tie.Start
+start w = w .before .before .before .before .before .before .before .before .before .before
 
 mul-wide : tie.Need-mul-wide
 mul-wide c = search needs
@@ -31,12 +35,14 @@ wide-requires-2 c κs = search needs
 
 count-kinds-requires : tie.Need-count-kinds-requires
 count-kinds-requires c κs =
-    let s = c .before .before .before .before .before .before .before .before .before .before .before in
-    let low = c .before .before .before .wide .ensures .0 in
-    let high = c .before .wide2 .ensures .0 in
-    let w = starts-within _ _ _ _ _ _ _ (s .pre .0) (s .pre .3) (s .pre .4) low high in (
-      (w .order, w .few, w .end),
-      kinds-within _ _ _ _ _ _ _ (s .pre .0) (s .pre .3) (s .pre .4) low high _ (s .pre .6),
+    let w = c .before in
+    let s = start w in
+    let low = w .before .before .wide .ensures .0 in
+    let high = w .wide2 .ensures .0 in
+    let ready = s .pre .0 in
+    let card = s .pre .1 .card in (
+      starts-within _ _ _ _ _ _ _ (ready .known .opened) (ready .links) (card .below) low high,
+      kinds-within _ _ _ _ _ _ _ (ready .known .opened) (ready .links) (card .below) low high _ (s .pre .1 .kinds),
     )
 
 wide-requires-3 : tie.Need-wide-requires-3
@@ -45,14 +51,16 @@ wide-requires-3 c κs = search needs
 fit-card-requires : tie.Need-fit-card-requires
 fit-card-requires c κs =
     let a = c .before .before .before .before .before in
-    let s = a .before .before .before .before .before .before .before .before .before .before .before .before in
-    let shapes = c .before .before .wide3 .ensures .0 in (
-      opened-shaped _ _ _ _ (s .pre .0) shapes,
-      s .pre .1,
-      s .pre .2,
-      omega (arith, a .count-kinds .ensures .1, s .pre .6, kinds-few _ _ _ (s .pre .0)),
-      s .pre .5 ∙ sym shapes,
-    )
+    let s = start (a .before .before) in
+    let shapes = c .before .before .wide3 .ensures .0 in
+    let known = s .pre .0 .known in
+    record {
+      shaped = opened-shaped _ _ _ _ (known .opened) shapes;
+      table = known .table;
+      room = known .room;
+      few = omega (arith, a .count-kinds .ensures .1, s .pre .1 .kinds, kinds-few _ _ _ (known .opened));
+      size = s .pre .1 .card .size ∙ sym shapes;
+    }
 
 same-length : tie.Need-same-length
 same-length c = search needs
@@ -63,14 +71,16 @@ same-length-2 c = search needs
 returns : tie.Need-returns
 returns c =
     let a = c .before .before .before .before .before .before .before .before in
-    let s = a .before .before .before .before .before .before .before .before .before .before .before .before in
+    let w = a .before .before in
+    let s = start w in
     let counts = a .count-kinds .last .1 .1 .1 .0 in
     let size = a .count-kinds .ensures .1 in
-    let low = a .before .before .before .before .wide .ensures .0 in
-    let high = a .before .before .wide2 .ensures .0 in
+    let low = w .before .before .wide .ensures .0 in
+    let high = w .wide2 .ensures .0 in
+    let ready = s .pre .0 in
     let counted =
-    counts-counted _ _ _ _ _ _ _ (s .pre .0) (s .pre .3) (s .pre .4) low high counts (size ∙ s .pre .6)
-    (λ k h. a .count-kinds .ensures .0 k (omega (arith, size))) in
+    counts-counted _ _ _ _ _ _ _ (ready .known .opened) (ready .links) (s .pre .1 .card .below) low high counts
+    (size ∙ s .pre .1 .kinds) (λ k h. a .count-kinds .ensures .0 k (omega (arith, size))) in
     let shapes = c .before .before .before .before .before .wide3 .ensures .0 in
     card-fitted _ _ _ _ _ _ counts _ shapes counted (c .before .before .fit-card .ensures)
 

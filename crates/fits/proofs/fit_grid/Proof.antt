@@ -1,9 +1,10 @@
--- `pairs::fit_grid` meets its contract. The invariant: the cards before the loop's have their rows. The measure is the
+-- `fits::fit_grid` meets its contract. The invariant: the cards before the loop's have their rows. The measure is the
 -- count of cards left. Assumes nothing.
 use Prim.Native.Nat.{ℕ, _*_, _-_, _≤_}
 use mathlib.Core.Path.{ap₂, _∙_}
 use native.Mathlib.Omega.{arith}
 use borrow.Author.Needs.{needs}
+use Rattle.words.specs.Limits.{maxShapes, maxGrid}
 use Rattle.fits.proofs.Cells.{RowsFitted, rows-start, row-inside, row-length, rows-next, rows-end, pairs-bound}
 use Rattle.fits.proofs.fit_grid.Statement.{statement}
 use Rattle.fits.proofs.fit_grid.Tie as tie
@@ -15,14 +16,18 @@ Inv-loop template script names starts e grid₀ cards shapes n₀ grid n =
 abbrev μ-loop : tie.MeasureT-loop
 μ-loop template script names starts e grid₀ cards shapes n₀ grid n = cards - n
 
+-- The function's start, from the point where both counts are read.
+abbrev start : tie.After-wide2 Inv-loop μ-loop → tie.Start Inv-loop μ-loop
+start a = a .before .before .before .before .before .before .before
+
 -- How many pairs lie before the card that the loop is at.
 bounds : (c : tie.In-loop Inv-loop μ-loop) →
     let shapes = c .before .before .wide2 .result in
-    (c .before .loop .n * shapes ≤ 32768) × (shapes ≤ 32)
+    (c .before .loop .n * shapes ≤ maxGrid) × (shapes ≤ maxShapes)
 bounds c =
     let a = c .before .before in
-    let s = a .before .before .before .before .before .before .before in
-    pairs-bound _ _ _ _ _ _ (s .pre .0) (a .before .wide .ensures .0) (a .wide2 .ensures .0) (omega arith)
+    let opened = start a .pre .0 .known .opened in
+    pairs-bound _ _ _ _ _ _ opened (a .before .wide .ensures .0) (a .wide2 .ensures .0) (omega arith)
 
 wide-requires : tie.Need-wide-requires Inv-loop μ-loop
 wide-requires c κs = search needs
@@ -32,8 +37,7 @@ wide-requires-2 c κs = search needs
 
 loop-holds : tie.Need-loop-holds Inv-loop μ-loop
 loop-holds c =
-    let s = c .before .before .before .before .before .before .before in
-    rows-start _ _ _ _ _ _ (rw (c .before .wide .ensures .0, c .wide2 .ensures .0) (s .pre .4))
+    rows-start _ _ _ _ _ _ (rw (c .before .wide .ensures .0, c .wide2 .ensures .0) (start c .pre .1))
 
 mul-base : tie.Need-mul-base Inv-loop μ-loop
 mul-base c = let b = bounds c in search needs
@@ -52,9 +56,10 @@ part-fit-row-end c = let b = row-inside _ _ _ _ _ _ _ (c .before .loop .inv) (om
 
 fit-row-requires : tie.Need-fit-row-requires Inv-loop μ-loop
 fit-row-requires c κs =
-    let s = c .before .before .before .before .before .before .before .before .before .before in
+    let a = c .before .before .before in
     let size = row-length _ _ _ _ _ _ _ (c .before .before .loop .inv) (omega arith) in
-    (s .pre .0, s .pre .1, s .pre .2, s .pre .3, omega arith, size ∙ c .before .before .before .wide2 .ensures .0)
+    let shapes = a .wide2 .ensures .0 in
+    (start a .pre .0, record { below = omega arith; size = size ∙ shapes })
 
 add-n : tie.Need-add-n Inv-loop μ-loop
 add-n c = search needs

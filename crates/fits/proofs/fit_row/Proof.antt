@@ -1,9 +1,13 @@
--- `pairs::fit_row` meets its contract: the counts have room for each kind of the template, and no more.
+-- `fits::fit_row` meets its contract: the counts have room for each kind of the template, and no more.
 -- Assumes nothing.
 use borrow.Author.Needs.{needs}
 use Rattle.fits.proofs.CardCounts.{kinds-few, counts-length}
 use Rattle.fits.proofs.fit_row.Statement.{statement}
 use Rattle.fits.proofs.fit_row.Tie as tie
+
+-- The function's start, from the point where the count of kinds is read.
+abbrev start : tie.After-wide → tie.Start
+start a = a .before .before .before .before .before .before
 
 wide-requires : tie.Need-wide-requires
 wide-requires c κs = search needs
@@ -16,15 +20,16 @@ part-counts-start c = search needs
 
 part-counts-end : tie.Need-part-counts-end
 part-counts-end c =
-    let few = kinds-few _ _ _ (c .before .before .before .before .before .before .pre .0) in
+    let few = kinds-few _ _ _ (start c .pre .0 .known .opened) in
     search needs
 
 fit-counted-requires : tie.Need-fit-counted-requires
 fit-counted-requires c κs =
-    let s = c .before .before .before .before .before .before .before .before in
-    let kinds = c .before .before .wide .ensures .0 in
-    let size = counts-length _ _ _ (s .pre .0) _ kinds in
-    (s .pre .0, s .pre .1, s .pre .2, s .pre .3, s .pre .4, s .pre .5, size)
+    let a = c .before .before in
+    let s = start a in
+    let kinds = a .wide .ensures .0 in
+    let size = counts-length _ _ _ (s .pre .0 .known .opened) _ kinds in
+    (s .pre .0, record { card = s .pre .1; kinds = size })
 
 same-length : tie.Need-same-length
 same-length c = search needs

@@ -21,19 +21,25 @@ Inv-loop script lo hi counts₀ i₀ counts i =
 abbrev μ-loop : tie.MeasureT-loop
 μ-loop script lo hi counts₀ i₀ counts i = hi - i
 
+-- The loop's point from the one where a kind is read, and the function's start.
+abbrev turn : tie.After-wide Inv-loop μ-loop → tie.At-loop Inv-loop μ-loop
+turn a = a .before .before .before
+
+abbrev start : tie.At-loop Inv-loop μ-loop → tie.Start Inv-loop μ-loop
+start l = l .before .before .before .before .before .before .before
+
 -- The kind of link i, and that it has a place among the counts.
 kind-is : (a : tie.After-wide Inv-loop μ-loop) →
-    let l = a .before .before .before in
-    a .wide .result ≡ kindAt (now (l .before .before .before .before .before .before .before .args .script)) (l .loop .i)
+    a .wide .result ≡ kindAt (now (start (turn a) .args .script)) (turn a .loop .i)
 unfolding kindAt
 kind-is a = a .wide .ensures .0
 
-kind-in : (a : tie.After-wide Inv-loop μ-loop) → a .wide .result < length (a .before .before .before .loop .counts)
+kind-in : (a : tie.After-wide Inv-loop μ-loop) → a .wide .result < length (turn a .loop .counts)
 kind-in a =
-    let l = a .before .before .before in
-    let s = l .before .before .before .before .before .before .before in
+    let l = turn a in
     let cleared = l .before .before .before .clear .ensures in
-    omega (arith, kind-is a, s .pre .1 (l .loop .i) (omega arith) (omega arith), l .loop .inv .2, cleared .1)
+    let below = start l .pre .1 (l .loop .i) (omega arith) (omega arith) in
+    omega (arith, kind-is a, below, l .loop .inv .2, cleared .1)
 
 clear-requires : tie.Need-clear-requires Inv-loop μ-loop
 clear-requires c κs = search needs
@@ -66,12 +72,12 @@ slice-read-counts c = kind-in (c .before)
 
 add-counts : tie.Need-add-counts Inv-loop μ-loop
 add-counts c =
-    let l = c .before .before .before .before in
-    let s = l .before .before .before .before .before .before .before in
+    let l = turn (c .before) in
+    let s = start l in
     let kind = c .before .wide .result in
     let counted = l .loop .inv .3 kind (kind-in (c .before)) in
     let bound = kind-count-bound (now (s .args .script)) kind (s .args .lo) (l .loop .i) in
-    omega (arith, counted, bound, s .pre .0)
+    omega (arith, counted, bound, s .pre .0 .few)
 
 slice-write-counts : tie.Need-slice-write-counts Inv-loop μ-loop
 slice-write-counts c = kind-in (c .before)
@@ -84,7 +90,7 @@ loop-less c = search needs
 
 loop-again : tie.Need-loop-again Inv-loop μ-loop
 loop-again c =
-    let l = c .before .before .before .before in
+    let l = turn (c .before) in
     let kind = c .before .wide .result in (
       omega arith,
       omega arith,
@@ -101,8 +107,7 @@ returns : tie.Need-returns Inv-loop μ-loop
 returns c =
     let l = c .before in
     let cleared = l .before .before .before .clear .ensures in
-    let s = l .before .before .before .before .before .before .before in
-    let e : l .loop .i ≡ s .args .hi = omega arith in
+    let e : l .loop .i ≡ start l .args .hi = omega arith in
     (λ k h. rw e at (l .loop .inv .3 k (omega (arith, cleared .1, l .loop .inv .2))), l .loop .inv .2 ∙ cleared .1)
 
 pub count-kinds-spec : {M : Type 1} → statement M

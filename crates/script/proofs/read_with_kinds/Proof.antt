@@ -42,7 +42,8 @@ add-if4 c = search needs
 returns-4 : tie.Need-returns-4
 returns-4 c =
     sym
-    (ap (saidOf scriptValues) (script-size _ _ (omega arith) (omega arith) (omega arith) (λ e. c .if4 .taken (omega arith))))
+    (ap (saidOf scriptValues)
+    (script-size _ _ (omega arith) (omega arith) (omega arith) (λ e. c .if4 .taken (omega arith))))
 
 read-links-requires : tie.Need-read-links-requires
 read-links-requires c κs = record { order = omega arith; few = omega arith; end = omega arith }

@@ -3,7 +3,7 @@
 use mathlib.Core.Path.{sym, _∙_}
 use native.Mathlib.Omega.{arith}
 use borrow.Author.Needs.{needs}
-use Rattle.words.proofs.Bools.{never-both, is-true, false-of-not, not-of-false}
+use borrow.Author.Tests.{not-true, not-false}
 use Rattle.script.specs.Link.{fromAt, kindAt, toAt}
 use Rattle.script.proofs.Reading.{link-from, link-kind, link-to, link-passes, link-order}
 use Rattle.script.proofs.test_link.Tie as tie
@@ -89,14 +89,14 @@ unfolding fromAt kindAt toAt
 returns-4 c =
     λ n done.
     link-order _ _ _ n _ done (omega arith) (omega arith) (omega arith)
-    (sym (c .before .is-above .ensures) ∙ false-of-not (c .if4 .taken))
+    (sym (c .before .is-above .ensures) ∙ not-true _ (c .if4 .taken))
 
 returns-5 : tie.Need-returns-5
 unfolding fromAt kindAt toAt
 returns-5 c =
     λ n done.
     link-passes _ _ _ n _ done (omega arith) (omega arith) (omega arith)
-    (sym (c .before .is-above .ensures) ∙ is-true (λ f. never-both (not-of-false f) (c .if4 .left)))
+    (sym (c .before .is-above .ensures) ∙ not-false _ (c .if4 .left))
 
 pub test-link-spec : {M : Type 1} → statement M
 test-link-spec =

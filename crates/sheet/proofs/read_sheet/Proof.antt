@@ -38,10 +38,11 @@ same-length-2 c = search needs
 
 returns-2 : tie.Need-returns-2
 returns-2 c =
-    let a = c .before .before .before .before .before in
+    let script = c .before .before .before in
+    let a = script .before .before in
     let names = a .before .before .before .before .read-names .ensures in
     let said = sym (ap templateSaid (a .first2 .given .1)) ∙ names .0 in
-    let refused = sym (ap scriptSaid (c .before .second .given .1)) ∙ c .before .before .before .read-with-kinds .ensures in
+    let refused = sym (ap scriptSaid (c .before .second .given .1)) ∙ script .read-with-kinds .ensures in
     (sheet-script _ _ _ _ _ _ said refused, names .1)
 
 same-length-3 : tie.Need-same-length-3
@@ -49,10 +50,11 @@ same-length-3 c = search needs
 
 returns-3 : tie.Need-returns-3
 returns-3 c =
-    let a = c .before .before .before .before .before in
+    let script = c .before .before .before in
+    let a = script .before .before in
     let names = a .before .before .before .before .read-names .ensures in
     let said = sym (ap templateSaid (a .first2 .given .1)) ∙ names .0 in
-    let counts = sym (ap scriptSaid (c .before .second2 .given .1)) ∙ c .before .before .before .read-with-kinds .ensures in
+    let counts = sym (ap scriptSaid (c .before .second2 .given .1)) ∙ script .read-with-kinds .ensures in
     (sheet-opened _ _ _ said counts, names .1)
 
 pub read-sheet-spec : {M : Type 1} → statement M

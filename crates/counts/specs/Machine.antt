@@ -1,0 +1,32 @@
+-- What the inner functions of "Fit counts" ask; no part of a promise.
+-- RowOf      a row has the names of a part, for so many labels
+-- Testable   what testing counts against a shape asks
+-- Known      what is known of a template that was read into a table of names
+-- Assumes nothing.
+use Prim.Native.Nat.{ℕ, _+_, _≤_, _<_}
+use mathlib.Core.Path.{_≡_}
+use mathlib.Core.List.{List, [], _∷_}
+use lib.ListN.{length, getD}
+use Rattle.words.specs.Said.{values}
+use Rattle.words.specs.Limits.{maxTemplate, maxDepth, tableSize}
+use Rattle.words.specs.Reading.{accepted}
+use Rattle.bags.specs.Part.{Part, named}
+use Rattle.template.specs.Template.{Template, readTemplate, templateSays, Tabled}
+use Rattle.counts.specs.Trees.{treeAt}
+
+-- A row has the names of a part for the labels below a number.
+abbrev pub RowOf : List ℕ → ℕ → Part → Type 0
+RowOf row labels p = (k : ℕ) → k < labels → getD row k 0 ≡ named p k
+
+-- The shape whose count of words stands at `at` is inside the words, and the row has its names for each of the labels.
+pub record Testable (words : List ℕ) (at : ℕ) (row : List ℕ) (labels : ℕ) : Type 0 where
+  pub words-high : length words ≤ maxTemplate
+  pub at-in : at < length words
+  pub labels-in : labels ≤ length row
+  pub row-of : RowOf row labels (treeAt maxDepth words (at + 1) .value)
+
+-- A template was read with these counts of kinds and shapes, and the table has its names.
+pub record Known (template names : List ℕ) (kinds shapes : ℕ) : Type 0 where
+  pub said : values (kinds ∷ shapes ∷ []) ≡ templateSays template
+  pub size : length names ≡ tableSize
+  pub table : (t : Template) → readTemplate template ≡ accepted t → Tabled (t .parts) names
