@@ -8,7 +8,7 @@ use crate::refusal::Refusal;
 use crate::script::{self, links_of_card};
 use crate::sheet::{self, Files};
 use crate::template;
-use crate::typing::{bookings, largest_by_rounds, met, smallest, Setting, Smallest};
+use crate::typing::{self, bookings, largest_by_rounds, met, smallest, Setting, Smallest};
 
 /// What a lent grid is filled with first.
 const FILLED: u8 = 9;
@@ -25,8 +25,9 @@ pub fn answer(question: &Question) -> Result<String, String> {
         Operation::Sheet => Ok(lines(&sheet::print(&files(question).bytes()))),
         Operation::Input => Ok(lines(&sheet::print(&question.input))),
         Operation::Round => round(question),
+        Operation::Closure => closure(question),
         Operation::Met => pair_is_met(question),
-        Operation::Sound | Operation::Holds | Operation::Between => typing(question),
+        Operation::Sound | Operation::Holds | Operation::Between => about_typing(question),
     }
 }
 
@@ -161,6 +162,14 @@ fn round(question: &Question) -> Result<String, String> {
     Ok(cells::shown(&grid, setting.template.shapes()))
 }
 
+/// The closure of the bookings.
+fn closure(question: &Question) -> Result<String, String> {
+    let setting = setting(question)?;
+    let booked = bookings::read(&setting, &question.bookings).map_err(refused)?;
+    let grid = typing::closure::closure(&setting, &booked);
+    Ok(cells::shown(&grid, setting.template.shapes()))
+}
+
 /// Whether the pair of a question is met, by trying every choice.
 fn pair_is_met(question: &Question) -> Result<String, String> {
     let setting = setting(question)?;
@@ -173,7 +182,7 @@ fn pair_is_met(question: &Question) -> Result<String, String> {
 }
 
 /// Whether the typing of a question is sound, holds the bookings, or lies between two others.
-fn typing(question: &Question) -> Result<String, String> {
+fn about_typing(question: &Question) -> Result<String, String> {
     let setting = setting(question)?;
     let grid = sized(&setting, &question.typing)?;
     let answer = match question.operation {

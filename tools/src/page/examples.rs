@@ -27,6 +27,8 @@ pub enum Operation {
     Input,
     /// The grid after a round of the largest typing.
     Round,
+    /// The closure of bookings.
+    Closure,
     /// Whether a pair is met under a typing.
     Met,
     /// Whether a typing is sound.
@@ -38,7 +40,7 @@ pub enum Operation {
 }
 
 /// The columns that ask, in the order of this list, and what they ask.
-const ASKED: [(&str, Operation); 14] = [
+const ASKED: [(&str, Operation); 15] = [
     ("template", Operation::Template),
     ("template counts", Operation::Fit),
     ("template shape counts", Operation::Fit),
@@ -49,6 +51,7 @@ const ASKED: [(&str, Operation); 14] = [
     ("template script bookings", Operation::Sheet),
     ("input", Operation::Input),
     ("template script round", Operation::Round),
+    ("template script closure", Operation::Closure),
     ("template script shape card typing", Operation::Met),
     ("template script typing", Operation::Sound),
     ("template script bookings typing", Operation::Holds),
@@ -56,9 +59,9 @@ const ASKED: [(&str, Operation); 14] = [
 ];
 
 /// The columns that ask, in the order in which `ASKED` names them.
-const COLUMNS: [&str; 12] = [
+const COLUMNS: [&str; 13] = [
     "input", "template", "script", "bookings", "shape", "counts", "card", "bytes", "round", "typing",
-    "lower", "upper",
+    "lower", "upper", "closure",
 ];
 
 /// The columns that only people read.
@@ -186,7 +189,7 @@ impl Question {
             "input" => self.input = cells::bytes(names, cell)?,
             "template" => self.template = cells::words(names, cell)?,
             "script" => self.script = cells::words(names, cell)?,
-            "bookings" => self.bookings = cells::words(names, cell)?,
+            "bookings" | "closure" => self.bookings = cells::words(names, cell)?,
             "counts" => self.counts = cells::words(names, cell)?,
             "shape" => self.shape = cells::number(cell)?,
             "card" => self.card = cells::number(cell)?,

@@ -6,12 +6,14 @@ use crate::numbers::Shape;
 use crate::script::{MOST_CARDS, MOST_LINKS};
 use crate::sheet::Files;
 use crate::template::{self, Link, Part, Template};
+use crate::typing::{bookings, Setting};
 
 /// The input whose sheet tells the answer, if there is one.
 pub fn input(question: &Question) -> Option<Vec<u8>> {
     let files = files(question);
     let sheet = match question.operation {
-        Operation::Template => Files {
+        Operation::Fit if template::read(&files.template).is_ok() => counted(question)?,
+        Operation::Template | Operation::Fit => Files {
             script: vec![1, 0],
             bookings: vec![0],
             ..files
@@ -20,12 +22,11 @@ pub fn input(question: &Question) -> Option<Vec<u8>> {
             bookings: vec![0],
             ..files
         },
-        Operation::Fit => counted(question)?,
-        Operation::Largest if has_size(question) => Files {
+        Operation::Largest if size_is_right(question) => Files {
             bookings: vec![0],
             ..files
         },
-        Operation::Smallest if has_size(question) => files,
+        Operation::Smallest if size_is_right(question) => files,
         Operation::Sheet => files,
         Operation::Input => return Some(question.input.clone()),
         _ => return None,
@@ -61,12 +62,14 @@ fn is_refused(text: &str) -> bool {
     text.starts_with("refused ")
 }
 
-/// Whether the lent grid has the right size, or something is refused before that is asked: a printer lends its own.
-fn has_size(question: &Question) -> bool {
-    let (Some(cards), Ok(template)) = (question.script.first(), template::read(&question.template)) else {
+/// Whether the lent grid has the right size, or something is refused before its size is: a printer lends its own.
+fn size_is_right(question: &Question) -> bool {
+    let Ok(setting) = Setting::read(&question.template, &question.script) else {
         return true;
     };
-    question.bytes == usize::from(*cards) * usize::from(template.shapes())
+    let is_booked = question.operation == Operation::Smallest;
+    let bookings_are_refused = is_booked && bookings::read(&setting, &question.bookings).is_err();
+    bookings_are_refused || question.bytes == setting.size()
 }
 
 /// A sheet whose bookings are met exactly if the counts fit: card 0 has that many links of each kind, all to cards
