@@ -56,8 +56,7 @@ pub fn run(words: &[&str], help: &str) -> Result<bool, String> {
             let outcome = compare::compare(program, seed, count, &mut io::stdout())?;
             return Ok(outcome.differ == 0);
         }
-        ["page", file] => return page(file, None),
-        ["page", file, "--printer", program] => return page(file, Some(program)),
+        ["page", file, options @ ..] => return prep_tools::page::run(file, &read_text(file)?, options),
         ["longest", cards, shapes] => write_to("-", &longest(cards, shapes)?)?,
         ["help"] | ["--help"] => write_to("-", help.as_bytes())?,
         _ => return Err(format!("these words ask for nothing that is known\n{help}")),
@@ -156,12 +155,6 @@ fn fit_lines() -> Result<(), String> {
         out.push('\n');
     }
     write_to("-", out.as_bytes())
-}
-
-/// Runs the examples of a page; whether the page is right.
-fn page(file: &str, printer: Option<&str>) -> Result<bool, String> {
-    let outcome = prep_tools::page::check(file, &read_text(file)?, printer, &mut io::stdout())?;
-    Ok(outcome.differ == 0)
 }
 
 fn longest(cards: &str, shapes: &str) -> Result<Vec<u8>, String> {

@@ -17,7 +17,7 @@ pub mod printed;
 
 use crate::compare;
 use examples::Example;
-use std::io::Write;
+use std::io::{self, Write};
 
 /// What came out of a page's examples.
 #[derive(Clone, Copy, PartialEq, Eq, Debug, Default)]
@@ -28,6 +28,17 @@ pub struct Outcome {
     pub shown: usize,
     /// Those of them for which the page is wrong, or the printer.
     pub differ: usize,
+}
+
+/// The command: runs a page with the options `--printer PROGRAM` or none, and tells whether all is right.
+pub fn run(name: &str, page: &str, options: &[&str]) -> Result<bool, String> {
+    let printer = match options {
+        [] => None,
+        ["--printer", program] => Some(*program),
+        _ => return Err("after the page only `--printer PROGRAM` is known".to_string()),
+    };
+    let outcome = check(name, page, printer, &mut io::stdout())?;
+    Ok(outcome.differ == 0)
 }
 
 /// Runs every example of a page. Each difference is told with a line that starts with the page's name and line.

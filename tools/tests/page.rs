@@ -93,6 +93,12 @@ fn the_command_shows_the_page_to_a_printer() {
 }
 
 #[test]
+fn an_option_that_is_not_known_is_an_error() {
+    let (output, text) = run(&["page", PAGE, "--printer"]);
+    assert_eq!((output.status.code(), text.as_str()), (Some(2), ""));
+}
+
+#[test]
 fn a_printer_that_prints_something_else_is_noticed() {
     let (output, text) = run(&["page", PAGE, "--printer", &format!("{PROGRAM} samples")]);
     assert_eq!(output.status.code(), Some(1));
