@@ -56,6 +56,7 @@ pub fn run(words: &[&str], help: &str) -> Result<bool, String> {
             let outcome = compare::compare(program, seed, count, &mut io::stdout())?;
             return Ok(outcome.differ == 0);
         }
+        ["page", file, options @ ..] => return prep_tools::page::run(file, &read_text(file)?, options),
         ["longest", cards, shapes] => write_to("-", &longest(cards, shapes)?)?,
         ["help"] | ["--help"] => write_to("-", help.as_bytes())?,
         _ => return Err(format!("these words ask for nothing that is known\n{help}")),

@@ -44,8 +44,8 @@ pub fn compare(program: &str, seed: u64, count: usize, tell: &mut dyn Write) -> 
     Ok(outcome)
 }
 
-/// What the program writes for this input.
-fn run(program: &str, input: &[u8]) -> Result<Vec<u8>, String> {
+/// What the program writes for this input. Words after the first in `program` are its arguments.
+pub fn run(program: &str, input: &[u8]) -> Result<Vec<u8>, String> {
     let mut words = program.split_whitespace();
     let name = words.next().ok_or("no program is named")?;
     let mut child = Command::new(name)

@@ -17,6 +17,7 @@
 //! | `compare`  | runs another program on random inputs and compares its text with ours       |
 //! | `text`     | sheets as readable text: to words and back, refusals in words               |
 //! | `draw`     | a sheet and its typings as a drawing                                        |
+//! | `page`     | runs the examples of a page, such as docs/FORMAT.md                         |
 
 pub mod cases;
 pub mod compare;
@@ -24,6 +25,7 @@ pub mod draw;
 pub mod fit;
 pub mod generate;
 pub mod numbers;
+pub mod page;
 pub mod random;
 pub mod refusal;
 pub mod samples;

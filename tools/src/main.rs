@@ -21,6 +21,7 @@ prep-tools fit-samples SEED COUNT       print COUNT small samples, answered by e
 prep-tools cases DIR SEED COUNT         write COUNT inputs as DIR/NAME and their texts as DIR/NAME.out
 prep-tools stream IN OUT SEED COUNT     write inputs, each after its length, and their texts, for stored cases
 prep-tools compare PROGRAM SEED COUNT   run PROGRAM on COUNT inputs and compare its text with ours
+prep-tools page FILE.md [--printer PROGRAM]   run every example of a page, here and by PROGRAM
 prep-tools longest CARDS SHAPES         write an input on which each round strikes one pair until none is left
 ";
 
