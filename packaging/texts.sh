@@ -7,9 +7,9 @@ fill prepConfigVersion.cmake "$folder/lib/cmake/prep/prepConfigVersion.cmake"
 fill README.md "$folder/README.md"
 install -m 644 docs/*.md CHANGELOG.md LICENCE.md "$folder/share/doc/prep/"
 
-# Only what git knows, so that nothing built or left lying about is passed on.
+# Only what git does not ignore, so that nothing built is passed on.
 for part in c:examples rust:rust python:python; do
-    git ls-files "examples/${part%%:*}" | while read -r file; do
+    git ls-files --cached --others --exclude-standard "examples/${part%%:*}" | while read -r file; do
         inside=${file#"examples/${part%%:*}/"}
         case $inside in .cargo/*) continue ;; esac
         install -D -m 644 "$file" "$folder/share/prep/${part##*:}/$inside"
