@@ -1,6 +1,7 @@
 /*
  * Checks of the library as a C caller sees it: an answer and a refusal of each function, arrays that
- * a refusal leaves alone, empty arrays given as NULL, and refusals in words. Builds as C and as C++.
+ * a refusal leaves alone, empty arrays given as NULL, refusals in words, and the layout of answers.
+ * Builds as C and as C++.
  */
 #include "prep.h"
 
@@ -169,8 +170,26 @@ static void check_words(void)
     CHECK(prep_version() == PREP_VERSION);
 }
 
+/* The layout that binary compatibility promises for this major version. */
+static void check_layout(void)
+{
+    CHECK(sizeof(struct prep_template_answer) == 16 && offsetof(struct prep_template_answer, place) == 8);
+    CHECK(offsetof(struct prep_template_answer, kinds) == 2 && offsetof(struct prep_template_answer, shapes) == 4);
+    CHECK(sizeof(struct prep_fit_answer) == 16 && offsetof(struct prep_fit_answer, place) == 8);
+    CHECK(sizeof(struct prep_script_answer) == 16 && offsetof(struct prep_script_answer, place) == 8);
+    CHECK(offsetof(struct prep_script_answer, cards) == 2 && offsetof(struct prep_script_answer, links) == 4);
+    CHECK(sizeof(struct prep_largest_answer) == 40 && offsetof(struct prep_largest_answer, bare) == 32);
+    CHECK(offsetof(struct prep_largest_answer, rounds) == 16 && offsetof(struct prep_largest_answer, struck) == 24);
+    CHECK(sizeof(struct prep_smallest_answer) == 24 && offsetof(struct prep_smallest_answer, pairs) == 16);
+    CHECK(offsetof(struct prep_smallest_answer, card) == 2 && offsetof(struct prep_smallest_answer, shape) == 4);
+    CHECK(sizeof(struct prep_both_answer) == 48 && offsetof(struct prep_both_answer, pairs) == 40);
+    CHECK(offsetof(struct prep_both_answer, rounds) == 16 && offsetof(struct prep_both_answer, struck) == 24);
+    CHECK(sizeof(enum prep_file) == 4);
+}
+
 int main(void)
 {
+    check_layout();
     check_readings();
     check_counts();
     check_links();

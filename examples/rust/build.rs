@@ -34,8 +34,9 @@ fn library_folder() -> Result<PathBuf, String> {
     let how = "It names the folder that has libprep.a: the lib folder of the package that ./package writes, \
                target/package/prep-VERSION-x86_64-linux/lib.";
     let name = env::var_os(VARIABLE).ok_or(format!("{VARIABLE} is not set. {how}"))?;
-    let folder = fs::canonicalize(&name)
-        .map_err(|e| format!("{VARIABLE} is {name:?}, and that folder cannot be found ({e}). {how}"))?;
+    let folder = fs::canonicalize(&name).map_err(|e| {
+        format!("{VARIABLE} is {name:?}, and that folder cannot be found ({e}); give its whole path. {how}")
+    })?;
     if !folder.join(LIBRARY).is_file() {
         return Err(format!("{VARIABLE} is {name:?}, but there is no {LIBRARY} in it. {how}"));
     }

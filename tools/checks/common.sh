@@ -35,7 +35,7 @@ prints_sheet() {
 check_programs() {
     missing=
     for program in rt "$cc" "$cxx" ar cargo python3 pkg-config cmake git; do
-        command -v "$program" >/dev/null || missing="$missing $program"
+        command -v "${program%% *}" >/dev/null || missing="$missing $program"
     done
     [ -z "$missing" ] || fail "these programs are missing:$missing"
 }

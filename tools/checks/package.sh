@@ -18,4 +18,15 @@ mkdir -p "$out/elsewhere"
 mv "$out/again/$name" "$out/elsewhere/"
 package=$PWD/$out/elsewhere/$name
 (cd "$package" && sha256sum --quiet -c SHA256SUMS) || fail 'the sums of the package are wrong'
-say "package: the sums hold, $(nm -D --defined-only "$package/lib/libprep.so" | wc -l) names are visible"
+sed -n 's/^[a-z].*\(prep_[a-z_]*\)(.*/\1/p' "$package/include/prep.h" | sort >"$out/declared"
+for library in "-D $package/lib/libprep.so" "-g $package/lib/libprep.a"; do
+    # $library is a list of words.
+    nm --defined-only $library | awk 'NF == 3 { print $3 }' | sort >"$out/defined"
+    same "$out/declared" "$out/defined" "$library has other names than prep.h"
+done
+for file in examples/checks.c rust/src/raw.rs python/prep.py; do
+    while read -r function; do
+        grep -qw "$function" "$package/share/prep/$file" || fail "$file lacks $function"
+    done <"$out/declared"
+done
+say "package: the sums hold; both libraries have the $(wc -l <"$out/declared") functions of prep.h and no other names"

@@ -8,9 +8,3 @@ say "tools: $(awk '/^test result: ok/ { n += $4 } END { print n }' "$out/printed
 
 quietly cargo build --quiet --manifest-path tools/Cargo.toml --target-dir "$cargo_folder"
 tools=$cargo_folder/debug/prep-tools
-
-# The page of the format runs its own examples, if the tools can.
-if "$tools" --help | grep -q '^prep-tools page '; then
-    quietly "$tools" page docs/FORMAT.md
-    say "tools: docs/FORMAT.md: $(tail -n 1 "$out/printed")"
-fi
