@@ -29,4 +29,7 @@ for file in examples/checks.c rust/src/raw.rs python/prep.py; do
         grep -qw "$function" "$package/share/prep/$file" || fail "$file lacks $function"
     done <"$out/declared"
 done
+for number in $(sed -n 's/^PREP_REFUSAL(\([0-9]*\),.*/\1/p' include/prep_refusals.def); do
+    grep -q "^| $number |" docs/FORMAT.md || fail "docs/FORMAT.md has no row for refusal $number"
+done
 say "package: the sums hold; both libraries have the $(wc -l <"$out/declared") functions of prep.h and no other names"

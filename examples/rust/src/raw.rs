@@ -1,9 +1,9 @@
 //! The library's functions as `include/prep.h` declares them, each behind a safe function on slices. The other modules
 //! are made of these; they are for callers who keep words and grids of their own.
 //!
-//! Why these calls are safe: a slice's pointer and length are those of memory that is lent for the whole call, a `&mut`
-//! slice overlaps no other, and the library asks nothing more of its callers, whatever the words are. Texts are the
-//! library's own, end with a zero byte and stay as long as the program runs.
+//! Why these calls are safe: a slice's pointer and length are those of memory that is lent for the whole call, a
+//! `&mut` slice overlaps no other, and the library asks nothing more of its callers, whatever the words are. Texts
+//! are the library's own, end with a zero byte and stay as long as the program runs.
 
 use std::ffi::{c_char, CStr};
 

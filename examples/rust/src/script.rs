@@ -71,8 +71,8 @@ impl Script {
         Largest { typing: self.typing(grid), rounds: answer.rounds, struck: answer.struck, bare: answer.bare }
     }
 
-    /// The smallest sound typing that has the booked pairs of card and shape. Refusals: 31 to 33, and 50 where there is
-    /// no such typing.
+    /// The smallest sound typing that has the booked pairs of card and shape. Refusals: 31 to 33, and 50 where there
+    /// is no such typing.
     pub fn smallest(&self, bookings: &[(u16, u16)]) -> Result<Smallest, Refusal> {
         let mut grid = self.grid();
         let answer = raw::smallest(self.template.words(), &self.words, &booking_words(bookings), &mut grid);
@@ -83,8 +83,8 @@ impl Script {
         Ok(Smallest { typing: self.typing(grid), pairs: answer.pairs })
     }
 
-    /// Both typings in one call. Where only the bookings are not met, the largest is there and the smallest is refusal
-    /// 50.
+    /// Both typings in one call. Where only the bookings are not met, the largest is there and the smallest is
+    /// refusal 50.
     pub fn both(&self, bookings: &[(u16, u16)]) -> Result<Both, Refusal> {
         let (mut small, mut large) = (self.grid(), self.grid());
         let list = booking_words(bookings);
