@@ -63,8 +63,8 @@ enum {
 
 /*
  * A stack that is enough for any call, for callers with small stacks. This figure is measured, not
- * proved: on inputs at the limits the call that took most took 134,927 bytes, and the rest is room
- * to spare. The example stack.c measures it again.
+ * proved: on inputs at the limits no call took more than some 135,000 bytes, and the rest is room to
+ * spare. The example stack.c measures it again.
  */
 enum { PREP_STACK_BYTES = 160 * 1024 };
 
