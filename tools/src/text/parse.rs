@@ -220,10 +220,17 @@ impl Parser<'_> {
         Ok((Expression::Group(code, parts, spot), higher(height, spot)?))
     }
 
-    /// The `)` of a bracket that opens at this spot.
+    /// The `)` of a bracket that opens at this spot. A word on a new line belongs to another statement, so then it is
+    /// the bracket that is at fault.
     fn close(&mut self, wanted: &str, start: Spot) -> Result<(), Fault> {
         if self.takes(')') {
             return Ok(());
+        }
+        let (token, spot) = self.peek();
+        let before = self.tokens[self.next.saturating_sub(1)].1;
+        if matches!(token, Token::Word(_)) && spot.line > before.line {
+            let message = format!("this `(` isn't closed before {spot}");
+            return Err(Fault::at(start, message));
         }
         let fault = self.unexpected(wanted);
         let message = format!("{}; the bracket at {start} is open", fault.message);
