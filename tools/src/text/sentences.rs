@@ -46,12 +46,12 @@ fn path(text: &Text, steps: &[Towards]) -> String {
         let kind = &text.kinds[kind.index()].text;
         format!("{kind} {}", called(text, *card))
     };
-    let told: Vec<String> = steps.iter().map(step).collect();
-    if told.len() <= MOST_STEPS {
-        return told.join(", ");
+    match steps {
+        [first, between @ .., last] if steps.len() > MOST_STEPS => {
+            format!("{}, {} more links, {}", step(first), between.len(), step(last))
+        }
+        _ => steps.iter().map(step).collect::<Vec<_>>().join(", "),
     }
-    let (first, last) = (&told[0], &told[told.len() - 1]);
-    format!("{first}, {} more links, {last}", told.len() - 2)
 }
 
 /// What is wrong with a card's links: how many are wanted, how many are there.
