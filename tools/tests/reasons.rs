@@ -114,47 +114,49 @@ fn unfit(part: &str, links: &str) -> String {
     cannot(&sheet.text, &reason)
 }
 
+/// A part, the links of a card, and what is wrong with them.
+const SENTENCES: &[(&str, &str, &str)] = &[
+    ("a[1;1]@None", "", "1 a wanted, 0 there"),
+    ("a[1;3]@None", "", "1 to 3 a wanted, 0 there"),
+    ("a[2;]@None", "a", "at least 2 a wanted, 1 there"),
+    ("a[0;1]@None", "aa", "at most 1 a wanted, 2 there"),
+    ("a[0;0]@None", "a", "no a wanted, 1 there"),
+    ("nothing", "ab", "no a wanted, 1 there; no b wanted, 1 there"),
+    (
+        "all(a[1;1]@None, b[2;2]@None)",
+        "b",
+        "1 a wanted, 0 there; 2 b wanted, 1 there",
+    ),
+    (
+        "choice(a[1;1]@None, all(b[1;1]@None, c[1;1]@None))",
+        "b",
+        "1 c wanted, 0 there (nearest choice: all(b[1;1]@None, c[1;1]@None))",
+    ),
+    (
+        "choice(a[1;1]@None, b[1;1]@None)",
+        "ab",
+        "no b wanted, 1 there (nearest choice: a[1;1]@None; as near: b[1;1]@None)",
+    ),
+    (
+        "choice(a[1;1]@None, b[2;2]@None)+",
+        "abbb",
+        "4 b wanted, 3 there (choice(a[1;1]@None, b[2;2]@None) 3 times)",
+    ),
+    (
+        "all(a[1;1]@None, b[1;1]@None)*",
+        "aab",
+        "2 b wanted, 1 there (all(a[1;1]@None, b[1;1]@None) 2 times)",
+    ),
+    (
+        "all(a[3;3]@None, b[1;1]@None)?",
+        "b",
+        "no b wanted, 1 there (without all(a[3;3]@None, b[1;1]@None))",
+    ),
+];
+
 #[test]
 fn sentences_say_what_is_wanted_and_what_is_there() {
-    let cases = [
-        ("a[1;1]@None", "", "1 a wanted, 0 there"),
-        ("a[1;3]@None", "", "1 to 3 a wanted, 0 there"),
-        ("a[2;]@None", "a", "at least 2 a wanted, 1 there"),
-        ("a[0;1]@None", "aa", "at most 1 a wanted, 2 there"),
-        ("a[0;0]@None", "a", "no a wanted, 1 there"),
-        ("nothing", "ab", "no a wanted, 1 there; no b wanted, 1 there"),
-        (
-            "all(a[1;1]@None, b[2;2]@None)",
-            "b",
-            "1 a wanted, 0 there; 2 b wanted, 1 there",
-        ),
-        (
-            "choice(a[1;1]@None, all(b[1;1]@None, c[1;1]@None))",
-            "b",
-            "1 c wanted, 0 there (nearest choice: all(b[1;1]@None, c[1;1]@None))",
-        ),
-        (
-            "choice(a[1;1]@None, b[1;1]@None)",
-            "ab",
-            "no b wanted, 1 there (nearest choice: a[1;1]@None; as near: b[1;1]@None)",
-        ),
-        (
-            "choice(a[1;1]@None, b[2;2]@None)+",
-            "abbb",
-            "4 b wanted, 3 there (choice(a[1;1]@None, b[2;2]@None) 3 times)",
-        ),
-        (
-            "all(a[1;1]@None, b[1;1]@None)*",
-            "aab",
-            "2 b wanted, 1 there (all(a[1;1]@None, b[1;1]@None) 2 times)",
-        ),
-        (
-            "all(a[3;3]@None, b[1;1]@None)?",
-            "b",
-            "no b wanted, 1 there (without all(a[3;3]@None, b[1;1]@None))",
-        ),
-    ];
-    for (part, links, wrong) in cases {
+    for (part, links, wrong) in SENTENCES {
         let expected = format!("The \"x\" can't be an Item: {wrong}");
         assert_eq!(unfit(part, links), expected, "{part} {links}");
     }

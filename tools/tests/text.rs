@@ -45,6 +45,17 @@ fn the_documents_sheet_has_its_words() {
 }
 
 #[test]
+fn the_example_of_the_description_has_the_same_words() {
+    let description = include_str!("../TEXT-FORM.md");
+    let lines = description.lines().skip_while(|line| !line.starts_with("    # "));
+    let example: Vec<&str> = lines.map_while(|line| line.strip_prefix("    ")).collect();
+    let source = example.join("\n");
+    assert_eq!(bytes(&source), document(&[1, 2, 1]).bytes());
+    let sheet = check::run("x.txt", &source).expect("the example is a sheet");
+    assert_eq!(sheet.text.card_title(1), "The card \"one\"");
+}
+
+#[test]
 fn words_come_back_from_their_text() {
     let mut compared = 0;
     for case in generate::cases(31, 600) {
@@ -103,62 +114,64 @@ fn roles_name_the_words_of_a_template() {
     assert_eq!(roles::booking_role(4), "the shape of booking 1, counted from 0");
 }
 
+/// A text with a fault, and what it is told with.
+const FAULTS: &[(&str, &str)] = &[
+    ("kind: a", "x.txt:1:1: a line starts with"),
+    (
+        "kinds: a\nshape A = b[0;1]@A",
+        "x.txt:2:11: no kind is named `b`, perhaps `a`",
+    ),
+    (
+        "kinds: guest\nshape A = gest[0;1]@A",
+        "x.txt:2:11: no kind is named `gest`, perhaps `guest`",
+    ),
+    (
+        "kinds: a\nshape A = a[0;1]@Xylophone",
+        "x.txt:2:18: no shape is named `Xylophone`",
+    ),
+    (
+        "kinds: a\nshape A = all(a[0;1]@A",
+        "x.txt:2:14: this `(` is never closed",
+    ),
+    (
+        "kinds: a\nshape A = a[0;65535]@A",
+        "x.txt:2:15: 65535 can't be written",
+    ),
+    ("kinds: a a", "x.txt:1:10: the kind `a` is named twice"),
+    ("kinds: all", "x.txt:1:8: a kind can't be named `all`"),
+    ("card \"x", "x.txt:1:6: the quotation isn't closed"),
+    ("card x & y", "x.txt:1:8: the sign '&' has no meaning"),
+    (
+        "kinds: a\nshape A = all(a[0;1@A)",
+        "x.txt:2:16: this `[` isn't closed before the `)` at line 2, column 22",
+    ),
+    (
+        "kinds: a\nshape A = all(a[0;1]@A\nshape B = nothing)",
+        "x.txt:2:14: this `(` isn't closed before line 3, column 1",
+    ),
+    (
+        "kinds: a\nshape A = all(nothing nothing)",
+        "x.txt:2:23: `,` or `)` is wanted here, not `nothing`; the bracket at line 2, column 14 is open",
+    ),
+    ("kinds: a)", "x.txt:1:9: this `)` closes nothing"),
+    (
+        "card x \"a\\b\"",
+        "x.txt:1:10: after a backslash in a quotation only",
+    ),
+    (
+        "card x \"a\u{1}\"",
+        "x.txt:1:10: the control character '\\u{1}' can't stand",
+    ),
+    (
+        "card x \"a\\\"",
+        "x.txt:1:8: the quotation isn't closed on its line",
+    ),
+    ("kind\u{1}s", "x.txt:1:5: the sign '\\u{1}' has no meaning"),
+];
+
 #[test]
 fn faults_are_told_at_line_and_column() {
-    let cases = [
-        ("kind: a", "x.txt:1:1: a line starts with"),
-        (
-            "kinds: a\nshape A = b[0;1]@A",
-            "x.txt:2:11: no kind is named `b`, perhaps `a`",
-        ),
-        (
-            "kinds: guest\nshape A = gest[0;1]@A",
-            "x.txt:2:11: no kind is named `gest`, perhaps `guest`",
-        ),
-        (
-            "kinds: a\nshape A = a[0;1]@Xylophone",
-            "x.txt:2:18: no shape is named `Xylophone`",
-        ),
-        (
-            "kinds: a\nshape A = all(a[0;1]@A",
-            "x.txt:2:14: this `(` is never closed",
-        ),
-        (
-            "kinds: a\nshape A = a[0;65535]@A",
-            "x.txt:2:15: 65535 can't be written",
-        ),
-        ("kinds: a a", "x.txt:1:10: the kind `a` is named twice"),
-        ("kinds: all", "x.txt:1:8: a kind can't be named `all`"),
-        ("card \"x", "x.txt:1:6: the quotation isn't closed"),
-        ("card x & y", "x.txt:1:8: the sign '&' has no meaning"),
-        (
-            "kinds: a\nshape A = all(a[0;1@A)",
-            "x.txt:2:16: this `[` isn't closed before the `)` at line 2, column 22",
-        ),
-        (
-            "kinds: a\nshape A = all(a[0;1]@A\nshape B = nothing)",
-            "x.txt:2:14: this `(` isn't closed before line 3, column 1",
-        ),
-        (
-            "kinds: a\nshape A = all(nothing nothing)",
-            "x.txt:2:23: `,` or `)` is wanted here, not `nothing`; the bracket at line 2, column 14 is open",
-        ),
-        ("kinds: a)", "x.txt:1:9: this `)` closes nothing"),
-        (
-            "card x \"a\\b\"",
-            "x.txt:1:10: after a backslash in a quotation only",
-        ),
-        (
-            "card x \"a\u{1}\"",
-            "x.txt:1:10: the control character '\\u{1}' can't stand",
-        ),
-        (
-            "card x \"a\\\"",
-            "x.txt:1:8: the quotation isn't closed on its line",
-        ),
-        ("kind\u{1}s", "x.txt:1:5: the sign '\\u{1}' has no meaning"),
-    ];
-    for (source, start) in cases {
+    for (source, start) in FAULTS {
         let message = fault(source);
         assert!(message.starts_with(start), "{message}");
     }

@@ -18,7 +18,7 @@ pub fn load_sheet(file: &str, bytes: &[u8]) -> Result<Sheet, Trouble> {
         Form::Words => of_words(bytes).map_err(|told| Trouble {
             file: file.to_string(),
             form: Form::Words,
-            why: Why::Refused(told),
+            why: Why::Refused(Box::new(told)),
         }),
     }
 }
@@ -54,13 +54,13 @@ pub fn tell_refusal(file: &str, bytes: &[u8], refusal: Refusal) -> Trouble {
     let form = form(bytes);
     let why = match form {
         Form::Text => match compiled(bytes) {
-            Ok((_, compiled)) => Why::Refused(explain::tell(&compiled, refusal)),
+            Ok((_, compiled)) => Why::Refused(Box::new(explain::tell(&compiled, refusal))),
             Err(why) => why,
         },
-        Form::Words => Why::Refused(match sheet::split(bytes) {
+        Form::Words => Why::Refused(Box::new(match sheet::split(bytes) {
             Ok(files) => roles::tell(&files, refusal),
             Err(_) => roles::tell_input(bytes),
-        }),
+        })),
     };
     let file = file.to_string();
     Trouble { file, form, why }
@@ -87,7 +87,7 @@ fn decode(bytes: &[u8]) -> Result<&str, Fault> {
 /// The sheet of a text.
 fn of_text(text: Text, compiled: Compiled) -> Result<Sheet, Why> {
     let files = compiled.files();
-    let told = |refusal| Why::Refused(explain::tell(&compiled, refusal));
+    let told = |refusal| Why::Refused(Box::new(explain::tell(&compiled, refusal)));
     sheet::split(&files.bytes()).map_err(told)?;
     let read = Read::of(&files).map_err(told)?;
     Ok(read.sheet(text, compiled, Form::Text))

@@ -17,14 +17,10 @@ use crate::typing::{Pair, Smallest};
 /// The outcome of a sheet.
 pub fn outcome(sheet: &Sheet, file: &str) -> Json {
     let roots = Roots::new(&sheet.setting);
-    let (largest, _) = sheet.both.largest;
-    let smallest = match sheet.both.smallest.0 {
-        Smallest::Pairs(pairs) => Json::Fields(vec![("pairs", Json::count(pairs))]),
-        Smallest::NotMet(..) => Json::Null,
-    };
-    let outcome = if sheet.not_met().is_some() { "unmet" } else { "met" };
+    let not_met = sheet.not_met();
+    let outcome = if not_met.is_some() { "unmet" } else { "met" };
     let text = &sheet.text;
-    Json::Fields(vec![
+    let mut fields = vec![
         ("file", Json::text(file)),
         ("form", form(sheet.form)),
         ("outcome", Json::text(outcome)),
@@ -37,21 +33,12 @@ pub fn outcome(sheet: &Sheet, file: &str) -> Json {
         ("links", Json::count(text.links.len())),
         (
             "bookings",
-            Json::list(&sheet.booked, |pair| pair_fields(sheet, *pair)),
+            Json::list(&sheet.booked, |pair| Json::Fields(pair_fields(sheet, *pair))),
         ),
-        (
-            "largest",
-            Json::Fields(vec![
-                ("rounds", Json::count(largest.rounds)),
-                ("struck", Json::count(largest.struck)),
-                ("bare", Json::count(largest.bare)),
-            ]),
-        ),
-        ("smallest", smallest),
-        (
-            "unmet",
-            Json::maybe(sheet.not_met(), |pair| unmet(sheet, &roots, pair)),
-        ),
+    ];
+    fields.extend(answers(sheet));
+    fields.extend([
+        ("unmet", Json::maybe(not_met, |pair| unmet(sheet, &roots, pair))),
         (
             "bare",
             Json::list(bare(sheet, &roots), |card| bare_card(sheet, card)),
@@ -60,7 +47,23 @@ pub fn outcome(sheet: &Sheet, file: &str) -> Json {
             "cards",
             Json::list(0..text.cards.len(), |number| card(sheet, number)),
         ),
-    ])
+    ]);
+    Json::Fields(fields)
+}
+
+/// The answers for both typings; null for the smallest if the bookings aren't met.
+fn answers(sheet: &Sheet) -> [(&'static str, Json); 2] {
+    let (largest, _) = sheet.both.largest;
+    let smallest = match sheet.both.smallest.0 {
+        Smallest::Pairs(pairs) => Json::Fields(vec![("pairs", Json::count(pairs))]),
+        Smallest::NotMet(..) => Json::Null,
+    };
+    let largest = Json::Fields(vec![
+        ("rounds", Json::count(largest.rounds)),
+        ("struck", Json::count(largest.struck)),
+        ("bare", Json::count(largest.bare)),
+    ]);
+    [("largest", largest), ("smallest", smallest)]
 }
 
 /// Why a file isn't a sheet.
@@ -113,11 +116,7 @@ fn refusal(told: &Told) -> Json {
 }
 
 /// A pair: numbers and names of its card and shape.
-fn pair_fields(sheet: &Sheet, pair: Pair) -> Json {
-    Json::Fields(pair_list(sheet, pair))
-}
-
-fn pair_list(sheet: &Sheet, (card, shape): Pair) -> Vec<(&'static str, Json)> {
+fn pair_fields(sheet: &Sheet, (card, shape): Pair) -> Vec<(&'static str, Json)> {
     vec![
         ("card", Json::count(card.index())),
         ("card_name", Json::text(&sheet.text.cards[card.index()].0.text)),
@@ -128,7 +127,7 @@ fn pair_list(sheet: &Sheet, (card, shape): Pair) -> Vec<(&'static str, Json)> {
 
 /// The pair of 50, why it isn't met, and the way to it from a booking, which is the first pair of the way.
 fn unmet(sheet: &Sheet, roots: &Roots, pair: Pair) -> Json {
-    let mut fields = pair_list(sheet, pair);
+    let mut fields = pair_fields(sheet, pair);
     fields.extend(place(sheet.card_spot(pair.0.index())));
     if let Some(reason) = reason(sheet, roots, pair) {
         fields.push(("reason", Json::text(because(&sheet.text, &reason))));
@@ -136,7 +135,7 @@ fn unmet(sheet: &Sheet, roots: &Roots, pair: Pair) -> Json {
     }
     let steps = way(&sheet.setting, &sheet.booked, pair).unwrap_or_default();
     let way = Json::list(steps, |(asking, kind)| {
-        let mut step = pair_list(sheet, asking);
+        let mut step = pair_fields(sheet, asking);
         step.push(("kind", Json::text(&sheet.text.kinds[kind.index()].text)));
         Json::Fields(step)
     });
@@ -160,7 +159,7 @@ fn bare_card(sheet: &Sheet, (number, reasons): (usize, Vec<Reason>)) -> Json {
 
 fn bare_reason(sheet: &Sheet, reason: &Reason) -> Json {
     let shape = reason.pair.1;
-    let mut root = pair_list(sheet, reason.root());
+    let mut root = pair_fields(sheet, reason.root());
     root.push(("reason", Json::text(wrong(&sheet.text, &reason.misfit))));
     root.push(("lacks", Json::list(&reason.misfit.lacks, |one| lack(sheet, one))));
     Json::Fields(vec![

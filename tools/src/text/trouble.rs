@@ -22,7 +22,7 @@ pub enum Why {
     /// The text says what no word can say.
     Fault(Fault),
     /// The words are refused.
-    Refused(Told),
+    Refused(Box<Told>),
 }
 
 impl fmt::Display for Trouble {
