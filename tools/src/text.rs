@@ -14,6 +14,7 @@
 //! | `told`       | a refusal with the word at fault, what it is for and where it stands       |
 //! | `roles`      | what the word at a place of a file is for                                  |
 //! | `explain`    | a refusal of a text's words                                                |
+//! | `hints`      | what a refusal means for the text that the words come from                 |
 //! | `check`      | a sheet that was loaded and run                                            |
 //! | `write`      | a sheet as text                                                            |
 //! | `costs`      | how far counts are from those that a part takes                            |
@@ -31,6 +32,7 @@ pub mod compile;
 pub mod costs;
 pub mod explain;
 pub mod form;
+pub mod hints;
 pub mod json;
 pub mod load;
 pub mod machine;

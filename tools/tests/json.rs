@@ -112,7 +112,7 @@ fn a_sheet_that_is_met() {
     let expected = "{\"file\":\"x.txt\",\"form\":\"text\",\"outcome\":\"met\",\
         \"title\":\"Say \\\"hello\\\"\",\"kinds\":[\"guest\"],\"shapes\":[\"Item\",\"Guest\"],\"links\":1,\
         \"bookings\":[{\"card\":0,\"card_name\":\"quiz\",\"shape\":0,\"shape_name\":\"Item\"}],\
-        \"largest\":{\"rounds\":2,\"struck\":2,\"bare\":0},\"smallest\":{\"pairs\":2},\"unmet\":null,\"bare\":[],\
+        \"largest\":{\"rounds\":2,\"struck\":2,\"bare\":0},\"smallest\":{\"pairs\":2},\"unmet\":null,\"also_unmet\":[],\"bare\":[],\
         \"cards\":[{\"name\":\"quiz\",\"title\":\"The quiz\",\"line\":5,\"column\":6,\
         \"largest\":[\"Item\"],\"smallest\":[\"Item\"]},\
         {\"name\":\"ann\",\"title\":null,\"line\":6,\"column\":6,\
@@ -134,7 +134,7 @@ fn a_sheet_that_is_not_met() {
          \"largest\":{{\"rounds\":2,\"struck\":3,\"bare\":1}},\"smallest\":null,\
          \"unmet\":{{\"card\":0,\"card_name\":\"quiz\",\"shape\":0,\"shape_name\":\"Item\",\"line\":5,\"column\":6,\
          \"reason\":\"2 guest wanted, 1 there\",{lacks},\"way\":[]}},\
-         \"bare\":[{{\"card\":0,\"card_name\":\"quiz\",\"line\":5,\"column\":6,\"reasons\":[\
+         \"also_unmet\":[],\"bare\":[{{\"card\":0,\"card_name\":\"quiz\",\"line\":5,\"column\":6,\"reasons\":[\
          {{\"shape\":0,\"shape_name\":\"Item\",\"distance\":1,\"reason\":\"2 guest wanted, 1 there\",\
          \"root\":{{\"card\":0,\"card_name\":\"quiz\",\"shape\":0,\"shape_name\":\"Item\",\
          \"reason\":\"2 guest wanted, 1 there\",{lacks}}}}},"
@@ -157,7 +157,8 @@ fn a_file_that_is_no_sheet() {
         told(b"kinds: a\nshape A = a[2;1]@A"),
         "{\"file\":\"x\",\"form\":\"text\",\"outcome\":\"refused\",\"refusal\":{\"number\":10,\"place\":5,\
          \"message\":\"a link's low or high is out of bounds\",\"section\":\"template\",\"word\":2,\
-         \"role\":\"the low of the link a in shape A\",\"note\":null,\"line\":2,\"column\":13}}"
+         \"role\":\"the low of the link a in shape A\",\
+         \"note\":\"the low 2 is above the high 1\",\"line\":2,\"column\":13}}"
     );
     assert_eq!(
         told(b""),

@@ -8,7 +8,7 @@ use prep_tools::random::Random;
 use prep_tools::text::check::{run, Sheet};
 use prep_tools::text::load::load_sheet;
 use prep_tools::text::misfit::misfit;
-use prep_tools::text::reasons::reason;
+use prep_tools::text::reasons::{all_not_met, reason};
 use prep_tools::text::report::bare;
 use prep_tools::text::roots::Roots;
 use prep_tools::text::sentences::cannot;
@@ -69,6 +69,8 @@ fn each_pair_that_is_struck_has_a_root() {
         };
         let sheet = load_sheet("x", &files.bytes()).expect("a generated sheet is well-formed");
         let roots = Roots::new(&sheet.setting);
+        let not_met = all_not_met(&sheet, &roots);
+        assert_eq!(not_met.first().map(|reason| reason.pair), sheet.not_met());
         for pair in sheet.setting.pairs() {
             let struck = !sheet.has(&sheet.both.largest.1, pair);
             let reason = reason(&sheet, &roots, pair);
@@ -197,6 +199,29 @@ fn cards_with_no_shape_come_nearest_to_the_blame_first() {
         assert_eq!(reasons.len(), 9);
         assert!(reasons.windows(2).all(|two| two[0].distance <= two[1].distance));
     }
+}
+
+#[test]
+fn all_that_bookings_ask_for_and_is_not_met_is_told() {
+    let source = include_str!("../../examples/prep/draft.txt");
+    let source = source
+        .replace("link theme     source label\n", "")
+        .replace("link mara      line  l-mara\n", "");
+    let sheet = run("draft.txt", &source).expect("the draft is a sheet");
+    let told = all_not_met(&sheet, &Roots::new(&sheet.setting));
+    assert_eq!(Some(told[0].pair), sheet.not_met());
+    let told: Vec<String> = told.iter().map(|reason| cannot(&sheet.text, reason)).collect();
+    let expected = [
+        "Mara Lindholm can't be a Host: 1 line wanted, 0 there",
+        "Guest to be found can't be a Guest: 1 line wanted, 0 there",
+        "Theme tune can't be a Music: 1 source wanted, 0 there",
+    ];
+    assert_eq!(told, expected);
+    let report = sheet.report("draft.txt");
+    for one in expected {
+        assert!(report.contains(&format!(": {one}\n")), "{report}");
+    }
+    assert_eq!(report.matches("refused 50").count(), 1);
 }
 
 #[test]

@@ -212,6 +212,65 @@ fn refusals_are_told_at_line_and_column() {
 }
 
 #[test]
+fn refusals_of_a_text_say_what_they_mean_there() {
+    let many = |line: &str, count: usize| {
+        (0..count)
+            .map(|number| line.replace('N', &number.to_string()))
+            .collect()
+    };
+    let start = "kinds: a\nshape A = nothing\ncard x\n";
+    let cases: [(String, &str); 12] = [
+        (
+            "card x".into(),
+            "no kind is named; a line `kinds: NAME ...` is missing",
+        ),
+        (many("kinds kN\n", 65), "there are 65 kinds; 64 is the most"),
+        (
+            "kinds: a".into(),
+            "there is no shape; a line `shape NAME = PART` is missing",
+        ),
+        (
+            "kinds: a\n".to_string() + &many("shape SN = nothing\n", 33),
+            "there are 33 shapes; 32 is the most",
+        ),
+        (
+            "kinds: a\nshape A = all(nothing)".into(),
+            "choice and all take 2 to 16 parts, not 1",
+        ),
+        (
+            "kinds: a\nshape A = a[2;1]@A".into(),
+            "the low 2 is above the high 1",
+        ),
+        (
+            "kinds: a\nshape A = a[8193;]@A".into(),
+            "the low is 8193; 8192 is the most",
+        ),
+        (
+            "kinds: a\nshape A = a[0;8193]@A".into(),
+            "no limit is written `[0;]`",
+        ),
+        (
+            "kinds: a\nshape A = choice(a[0;1]@A, a[0;1]@A)".into(),
+            "the kind stands earlier in this shape",
+        ),
+        (start.to_string() + "link x a x x", "this link stands twice"),
+        (
+            start.to_string() + &many("card cN\n", 1024),
+            "there are 1025 cards; 1024 is the most",
+        ),
+        (
+            start.to_string() + &"book x A\n".repeat(1025),
+            "there are 1025 bookings; 1024 is the most",
+        ),
+    ];
+    for (source, told) in cases {
+        let message = fault(&source);
+        let second = message.lines().nth(1).unwrap_or_default();
+        assert!(second.contains(told), "{message}");
+    }
+}
+
+#[test]
 fn fifty_is_told_with_its_reason_and_its_booking() {
     let source = DOCUMENT.replace("book two Second", "book zero First");
     let sheet = check::run("x.txt", &source).expect("the sheet is read");

@@ -1,17 +1,25 @@
 //! A refusal of a text's words: the word at fault, what it is for in the text's names, and its line and column.
 
 use super::compile::{Compiled, Section};
+use super::hints::hint;
 use super::roles;
 use super::told::{Told, Word};
 use crate::refusal::Refusal;
 
 /// The refusal of a text's words, told at its line and column.
 pub fn tell(compiled: &Compiled, refusal: Refusal) -> Told {
+    let told = tell_word(compiled, refusal);
+    Told {
+        note: hint(compiled, refusal),
+        ..told
+    }
+}
+
+fn tell_word(compiled: &Compiled, refusal: Refusal) -> Told {
     let (file, section): (&'static str, &Section) = match refusal.number {
         1..=12 => ("template", &compiled.template),
         20..=25 => ("script", &compiled.script),
         30..=33 => ("bookings", &compiled.bookings),
-        60 => return too_long(compiled, refusal),
         _ => return Told::without_word(refusal, None),
     };
     let Some(origin) = section.origins.get(refusal.place) else {
@@ -20,10 +28,4 @@ pub fn tell(compiled: &Compiled, refusal: Refusal) -> Told {
     let value = section.words.get(refusal.place).copied();
     let role = origin.role.clone();
     Told::at_word(refusal, Word { file, value, role }, Some(origin.spot))
-}
-
-/// A text gives whole files, so its words can only be too many.
-fn too_long(compiled: &Compiled, refusal: Refusal) -> Told {
-    let bytes = compiled.files().bytes().len();
-    Told::without_word(refusal, Some(format!("its words take {bytes} bytes")))
 }

@@ -4,7 +4,7 @@ use super::check::Sheet;
 use super::form::Form;
 use super::json::Json;
 use super::misfit::Lack;
-use super::reasons::{reason, way, Reason};
+use super::reasons::{all_not_met, way, Reason};
 use super::report::bare;
 use super::roots::Roots;
 use super::sentences::{because, wrong};
@@ -17,8 +17,8 @@ use crate::typing::{Pair, Smallest};
 /// The outcome of a sheet.
 pub fn outcome(sheet: &Sheet, file: &str) -> Json {
     let roots = Roots::new(&sheet.setting);
-    let not_met = sheet.not_met();
-    let outcome = if not_met.is_some() { "unmet" } else { "met" };
+    let not_met = all_not_met(sheet, &roots);
+    let outcome = if not_met.is_empty() { "met" } else { "unmet" };
     let text = &sheet.text;
     let mut fields = vec![
         ("file", Json::text(file)),
@@ -37,8 +37,16 @@ pub fn outcome(sheet: &Sheet, file: &str) -> Json {
         ),
     ];
     fields.extend(answers(sheet));
+    let others = not_met.iter().skip(1);
     fields.extend([
-        ("unmet", Json::maybe(not_met, |pair| unmet(sheet, &roots, pair))),
+        (
+            "unmet",
+            Json::maybe(not_met.first(), |reason| unmet(sheet, reason)),
+        ),
+        (
+            "also_unmet",
+            Json::list(others, |reason| Json::Fields(unmet_fields(sheet, reason))),
+        ),
         (
             "bare",
             Json::list(bare(sheet, &roots), |card| bare_card(sheet, card)),
@@ -125,15 +133,10 @@ fn pair_fields(sheet: &Sheet, (card, shape): Pair) -> Vec<(&'static str, Json)> 
     ]
 }
 
-/// The pair of 50, why it isn't met, and the way to it from a booking, which is the first pair of the way.
-fn unmet(sheet: &Sheet, roots: &Roots, pair: Pair) -> Json {
-    let mut fields = pair_fields(sheet, pair);
-    fields.extend(place(sheet.card_spot(pair.0.index())));
-    if let Some(reason) = reason(sheet, roots, pair) {
-        fields.push(("reason", Json::text(because(&sheet.text, &reason))));
-        fields.push(("lacks", Json::list(&reason.misfit.lacks, |one| lack(sheet, one))));
-    }
-    let steps = way(&sheet.setting, &sheet.booked, pair).unwrap_or_default();
+/// The pair of 50, and the way to it from a booking, which is the first pair of the way.
+fn unmet(sheet: &Sheet, reason: &Reason) -> Json {
+    let mut fields = unmet_fields(sheet, reason);
+    let steps = way(&sheet.setting, &sheet.booked, reason.pair).unwrap_or_default();
     let way = Json::list(steps, |(asking, kind)| {
         let mut step = pair_fields(sheet, asking);
         step.push(("kind", Json::text(&sheet.text.kinds[kind.index()].text)));
@@ -141,6 +144,15 @@ fn unmet(sheet: &Sheet, roots: &Roots, pair: Pair) -> Json {
     });
     fields.push(("way", way));
     Json::Fields(fields)
+}
+
+/// A pair that isn't met, and why.
+fn unmet_fields(sheet: &Sheet, reason: &Reason) -> Vec<(&'static str, Json)> {
+    let mut fields = pair_fields(sheet, reason.pair);
+    fields.extend(place(sheet.card_spot(reason.pair.0.index())));
+    fields.push(("reason", Json::text(because(&sheet.text, reason))));
+    fields.push(("lacks", Json::list(&reason.misfit.lacks, |one| lack(sheet, one))));
+    fields
 }
 
 /// A card with no shape, and for each shape why it hasn't that one.

@@ -3,8 +3,8 @@
 use super::check::Sheet;
 use super::misfit::{misfit, Misfit};
 use super::roots::{Roots, Step as Towards};
-use crate::numbers::{Kind, Shape};
-use crate::typing::{Pair, Setting};
+use crate::numbers::{Card, Kind, Shape};
+use crate::typing::{closure, Pair, Setting};
 use std::collections::{HashMap, VecDeque};
 
 /// Why a pair isn't in the largest typing.
@@ -50,13 +50,24 @@ pub fn reason(sheet: &Sheet, roots: &Roots, pair: Pair) -> Option<Reason> {
 
 /// Why a card has none of the shapes, the nearest shape first.
 pub fn reasons(sheet: &Sheet, roots: &Roots, card: usize) -> Vec<Reason> {
-    let card = crate::numbers::Card(card as u16);
+    let card = Card(card as u16);
     let shapes = (0..sheet.both.shapes).map(Shape);
     let mut reasons: Vec<Reason> = shapes
         .filter_map(|shape| reason(sheet, roots, (card, shape)))
         .collect();
     reasons.sort_by_key(|reason| reason.distance);
     reasons
+}
+
+/// Why pairs that bookings ask for aren't met, in the order of the pairs; the first is that of 50. Only those whose own
+/// links don't fit are told, because the others lead to one of them.
+pub fn all_not_met(sheet: &Sheet, roots: &Roots) -> Vec<Reason> {
+    let closure = closure::closure(&sheet.setting, &sheet.booked);
+    let asked = sheet.setting.pairs().filter(|pair| sheet.has(&closure, *pair));
+    asked
+        .filter_map(|pair| reason(sheet, roots, pair))
+        .filter(|reason| reason.steps.is_empty())
+        .collect()
 }
 
 /// Why the links of a card don't fit a shape by their counts; none if they do.

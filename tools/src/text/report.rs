@@ -1,8 +1,8 @@
-//! The outcome of a sheet in words: first the booking that can't be met, then the cards with no shape, those that are
-//! to blame themselves before those that only lead there.
+//! The outcome of a sheet in words: first what bookings ask for and can't be met, then the cards with no shape, those
+//! that are to blame themselves before those that only lead there.
 
 use super::check::Sheet;
-use super::reasons::{reason, reasons, way, Reason};
+use super::reasons::{all_not_met, reason, reasons, way, Reason};
 use super::roots::Roots;
 use super::sentences::{a_shape, because, booked_by, cannot};
 use super::trouble::place;
@@ -11,24 +11,40 @@ use crate::typing::{Pair, Smallest};
 /// The outcome in words.
 pub fn report(sheet: &Sheet, file: &str) -> String {
     let roots = Roots::new(&sheet.setting);
-    let (cards, links) = (sheet.text.cards.len(), sheet.text.links.len());
+    let cards = counted(sheet.text.cards.len(), "card");
+    let links = counted(sheet.text.links.len(), "link");
     let mut report = format!(
-        "{file}: {cards} cards, {links} links, {} bookings\n",
-        sheet.booked.len()
+        "{file}: {cards}, {links}, {}\n",
+        counted(sheet.booked.len(), "booking")
     );
-    match sheet.both.smallest.0 {
-        Smallest::Pairs(pairs) => report += &format!("smallest: {pairs} pairs, each of them met\n"),
-        Smallest::NotMet(card, shape) => report += &not_met(sheet, &roots, file, (card, shape)),
+    if let Smallest::Pairs(pairs) = sheet.both.smallest.0 {
+        report += &format!("smallest: {}, each of them met\n", counted(pairs, "pair"));
+    }
+    for (order, reason) in all_not_met(sheet, &roots).iter().enumerate() {
+        if order == 0 {
+            report += &not_met(sheet, &roots, file, reason.pair);
+        } else {
+            let start = place(file, sheet.card_spot(reason.pair.0.index()));
+            report += &format!("{start}: {}\n", cannot(&sheet.text, reason));
+        }
     }
     let (largest, _) = &sheet.both.largest;
     report += &format!(
-        "largest: {} rounds, {} pairs struck, {} of {cards} cards have no shape\n",
-        largest.rounds, largest.struck, largest.bare
+        "largest: {}, {} struck, {} of {cards} without a shape\n",
+        counted(largest.rounds, "round"),
+        counted(largest.struck, "pair"),
+        largest.bare
     );
     for (card, reasons) in bare(sheet, &roots) {
         report += &no_shape(sheet, file, card, &reasons);
     }
     report
+}
+
+/// A count of things.
+fn counted(count: usize, thing: &str) -> String {
+    let end = if count == 1 { "" } else { "s" };
+    format!("{count} {thing}{end}")
 }
 
 /// The cards with no shape, each with its reasons; the nearer to the card that is to blame, the earlier.

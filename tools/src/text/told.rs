@@ -54,15 +54,15 @@ impl fmt::Display for Told {
     fn fmt(&self, out: &mut fmt::Formatter<'_>) -> fmt::Result {
         let Refusal { number, place } = self.refusal;
         write!(out, "refused {number} {place}: {}", self.refusal.meaning())?;
-        if let Some(Word { file, value, role }) = &self.word {
-            match value {
-                Some(value) => write!(out, "\n  word {place} of the {file} is {value}: {role}")?,
-                None => write!(out, "\n  the {file} has no word {place}: {role}")?,
-            }
+        if let Some(note) = &self.note {
+            write!(out, "\n  {note}")?;
         }
-        match &self.note {
-            Some(note) => write!(out, "\n  {note}"),
+        match &self.word {
             None => Ok(()),
+            Some(Word { file, value, role }) => match value {
+                Some(value) => write!(out, "\n  word {place} of the {file} is {value}: {role}"),
+                None => write!(out, "\n  the {file} has no word {place}: {role}"),
+            },
         }
     }
 }
