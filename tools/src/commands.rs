@@ -1,7 +1,7 @@
 //! What each command does. An error is told in words.
 
 use crate::files::{read, show, write};
-use crate::usage::{self, perhaps, Choice, Command, Given, Outcome};
+use crate::usage::{self, perhaps, Command, Given, Outcome, Switch};
 use prep_tools::numbers::{Card, Shape};
 use prep_tools::refusal::Refusal;
 use prep_tools::text::form::{form, Form};
@@ -19,7 +19,7 @@ const COMMANDS: &[Command] = &[
     Command {
         name: "check",
         forms: &[&["FILE"]],
-        options: &[Choice {
+        options: &[Switch {
             name: "--json",
             value: None,
             about: "write the outcome as JSON; tools/README.md tells the fields",

@@ -23,7 +23,7 @@ pub struct Command {
     /// The ways to call it: the names of the arguments.
     pub forms: &'static [&'static [&'static str]],
     /// Its options.
-    pub options: &'static [Choice],
+    pub options: &'static [Switch],
     /// What it does, in one line.
     pub about: &'static str,
     /// What else there is to say about it.
@@ -33,7 +33,7 @@ pub struct Command {
 }
 
 /// An option of a command.
-pub struct Choice {
+pub struct Switch {
     /// Its name, with two dashes.
     pub name: &'static str,
     /// The name of its value, if it takes one.
@@ -47,8 +47,8 @@ pub struct Choice {
 pub struct Given<'a> {
     /// The arguments; their number is that of one of the forms.
     pub arguments: Vec<&'a str>,
-    /// The options with their values, empty for those that take none.
-    pub options: Vec<(&'static str, &'a str)>,
+    /// The options, each with its value after it if it takes one.
+    pub options: Vec<&'a str>,
 }
 
 impl<'a> Given<'a> {
@@ -59,13 +59,7 @@ impl<'a> Given<'a> {
 
     /// Whether an option is given.
     pub fn has(&self, option: &str) -> bool {
-        self.value(option).is_some()
-    }
-
-    /// The last value given for an option.
-    pub fn value(&self, option: &str) -> Option<&'a str> {
-        let found = self.options.iter().rev().find(|(name, _)| *name == option);
-        found.map(|(_, value)| *value)
+        self.options.contains(&option)
     }
 
     /// An argument that is a number.
@@ -86,20 +80,17 @@ impl Command {
                 given.arguments.push(word);
                 continue;
             }
-            let option = self.option(word)?;
-            let value = match option.value {
-                Some(value) => words
-                    .next()
-                    .ok_or_else(|| self.wrong(&format!("{value} is missing after {word}")))?,
-                None => "",
-            };
-            given.options.push((option.name, value));
+            given.options.push(word);
+            if let Some(value) = self.option(word)?.value {
+                let missing = || self.wrong(&format!("{value} is missing after {word}"));
+                given.options.push(words.next().ok_or_else(missing)?);
+            }
         }
         self.count(&given.arguments)?;
         Ok(given)
     }
 
-    fn option(&self, word: &str) -> Result<&Choice, String> {
+    fn option(&self, word: &str) -> Result<&Switch, String> {
         let found = self.options.iter().find(|option| option.name == word);
         found.ok_or_else(|| {
             let hint = perhaps(word, self.options.iter().map(|option| option.name));
@@ -138,7 +129,7 @@ impl Command {
         for argument in form {
             call += &format!(" {argument}");
         }
-        for Choice { name, value, .. } in self.options {
+        for Switch { name, value, .. } in self.options {
             let value = value.map(|value| format!(" {value}")).unwrap_or_default();
             call += &format!(" [{name}{value}]");
         }
