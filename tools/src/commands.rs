@@ -7,7 +7,7 @@ use prep_tools::refusal::Refusal;
 use prep_tools::text::form::{form, Form};
 use prep_tools::text::load::{load_input, load_sheet, tell_refusal};
 use prep_tools::text::roots::Roots;
-use prep_tools::text::trouble::Trouble;
+use prep_tools::text::trouble::{Trouble, Why};
 use prep_tools::text::{machine, report, write as writing};
 use prep_tools::typing::Pair;
 use prep_tools::{cases, compare, draw, fit, generate, samples, sheet};
@@ -202,7 +202,11 @@ fn run_explain(given: &Given) -> Result<Outcome, String> {
         }
         [_, _, file] => {
             let refusal = Refusal::at(given.number(0, "NUMBER")?, given.number(1, "PLACE")?);
-            show(format!("{}\n", tell_refusal(file, &read(file)?, refusal)))?;
+            let trouble = tell_refusal(file, &read(file)?, refusal);
+            if let Why::Fault(_) = trouble.why {
+                return Err(told(trouble));
+            }
+            show(format!("{trouble}\n"))?;
             Ok(Outcome::Fine)
         }
         ["50", _, _, file] => {

@@ -112,7 +112,8 @@ fn a_sheet_that_is_met() {
     let expected = "{\"file\":\"x.txt\",\"form\":\"text\",\"outcome\":\"met\",\
         \"title\":\"Say \\\"hello\\\"\",\"kinds\":[\"guest\"],\"shapes\":[\"Item\",\"Guest\"],\"links\":1,\
         \"bookings\":[{\"card\":0,\"card_name\":\"quiz\",\"shape\":0,\"shape_name\":\"Item\"}],\
-        \"largest\":{\"rounds\":2,\"struck\":2,\"bare\":0},\"smallest\":{\"pairs\":2},\"unmet\":null,\"also_unmet\":[],\"bare\":[],\
+        \"largest\":{\"rounds\":2,\"struck\":2,\"bare\":0},\"smallest\":{\"pairs\":2},\
+        \"unmet\":null,\"also_unmet\":[],\"bare\":[],\
         \"cards\":[{\"name\":\"quiz\",\"title\":\"The quiz\",\"line\":5,\"column\":6,\
         \"largest\":[\"Item\"],\"smallest\":[\"Item\"]},\
         {\"name\":\"ann\",\"title\":null,\"line\":6,\"column\":6,\

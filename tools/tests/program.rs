@@ -284,6 +284,8 @@ fn a_refusal_is_explained() {
     assert!(told(&["explain", "50", "1", "1", &name]).contains(":6:6: ann can be a Guest\n"));
     assert!(error(&["explain", "50", "2", "0", &name]).contains("has no such card or no such shape"));
     assert_eq!(told(&["explain", &name]), "nothing is wrong\n");
+    fs::write(&file, SHEET.replace("[1;2]", "[1;2")).expect("the file can be written");
+    assert!(error(&["explain", "10", "5", &name]).contains(":3:19: this `[` is never closed"));
     fs::remove_dir_all(folder).expect("the folder can be removed");
 }
 

@@ -211,63 +211,65 @@ fn refusals_are_told_at_line_and_column() {
     }
 }
 
+/// A text that is refused, and what that means there.
+const HINTS: &[(&str, &str)] = &[
+    ("card x", "no kind is named; a line `kinds: NAME ...` is missing"),
+    (
+        "kinds: a",
+        "there is no shape; a line `shape NAME = PART` is missing",
+    ),
+    (
+        "kinds: a\nshape A = all(nothing)",
+        "choice and all take 2 to 16 parts, not 1",
+    ),
+    ("kinds: a\nshape A = a[2;1]@A", "the low 2 is above the high 1"),
+    (
+        "kinds: a\nshape A = a[8193;]@A",
+        "the low is 8193; 8192 is the most",
+    ),
+    ("kinds: a\nshape A = a[0;8193]@A", "no limit is written `[0;]`"),
+    (
+        "kinds: a\nshape A = choice(a[0;1]@A, a[0;1]@A)",
+        "the kind stands earlier in this shape",
+    ),
+    (
+        "kinds: a\nshape A = nothing\ncard x\nlink x a x x",
+        "this link stands twice",
+    ),
+];
+
+/// What the second line of the message for a refused text says.
+fn hints(source: &str, told: &str) {
+    let message = fault(source);
+    let second = message.lines().nth(1).unwrap_or_default();
+    assert!(second.contains(told), "{message}");
+}
+
 #[test]
 fn refusals_of_a_text_say_what_they_mean_there() {
-    let many = |line: &str, count: usize| {
-        (0..count)
-            .map(|number| line.replace('N', &number.to_string()))
-            .collect()
+    for (source, told) in HINTS {
+        hints(source, told);
+    }
+    let many = |line: &str, count: usize| -> String {
+        let lines = (0..count).map(|number| line.replace('N', &number.to_string()));
+        lines.collect()
     };
     let start = "kinds: a\nshape A = nothing\ncard x\n";
-    let cases: [(String, &str); 12] = [
-        (
-            "card x".into(),
-            "no kind is named; a line `kinds: NAME ...` is missing",
-        ),
-        (many("kinds kN\n", 65), "there are 65 kinds; 64 is the most"),
-        (
-            "kinds: a".into(),
-            "there is no shape; a line `shape NAME = PART` is missing",
-        ),
-        (
-            "kinds: a\n".to_string() + &many("shape SN = nothing\n", 33),
-            "there are 33 shapes; 32 is the most",
-        ),
-        (
-            "kinds: a\nshape A = all(nothing)".into(),
-            "choice and all take 2 to 16 parts, not 1",
-        ),
-        (
-            "kinds: a\nshape A = a[2;1]@A".into(),
-            "the low 2 is above the high 1",
-        ),
-        (
-            "kinds: a\nshape A = a[8193;]@A".into(),
-            "the low is 8193; 8192 is the most",
-        ),
-        (
-            "kinds: a\nshape A = a[0;8193]@A".into(),
-            "no limit is written `[0;]`",
-        ),
-        (
-            "kinds: a\nshape A = choice(a[0;1]@A, a[0;1]@A)".into(),
-            "the kind stands earlier in this shape",
-        ),
-        (start.to_string() + "link x a x x", "this link stands twice"),
-        (
-            start.to_string() + &many("card cN\n", 1024),
-            "there are 1025 cards; 1024 is the most",
-        ),
-        (
-            start.to_string() + &"book x A\n".repeat(1025),
-            "there are 1025 bookings; 1024 is the most",
-        ),
-    ];
-    for (source, told) in cases {
-        let message = fault(&source);
-        let second = message.lines().nth(1).unwrap_or_default();
-        assert!(second.contains(told), "{message}");
-    }
+    let shapes = many("shape SN = nothing\n", 33);
+    let (cards, booked) = (many("card cN\n", 1024), many("book x A\n", 1025));
+    hints(&many("kinds kN\n", 65), "there are 65 kinds; 64 is the most");
+    hints(
+        &format!("kinds: a\n{shapes}"),
+        "there are 33 shapes; 32 is the most",
+    );
+    hints(
+        &format!("{start}{cards}"),
+        "there are 1025 cards; 1024 is the most",
+    );
+    hints(
+        &format!("{start}{booked}"),
+        "there are 1025 bookings; 1024 is the most",
+    );
 }
 
 #[test]

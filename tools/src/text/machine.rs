@@ -19,11 +19,39 @@ pub fn outcome(sheet: &Sheet, file: &str) -> Json {
     let roots = Roots::new(&sheet.setting);
     let not_met = all_not_met(sheet, &roots);
     let outcome = if not_met.is_empty() { "met" } else { "unmet" };
-    let text = &sheet.text;
+    let others = Json::list(not_met.iter().skip(1), |reason| {
+        Json::Fields(unmet_fields(sheet, reason))
+    });
     let mut fields = vec![
         ("file", Json::text(file)),
         ("form", form(sheet.form)),
         ("outcome", Json::text(outcome)),
+    ];
+    fields.extend(contents(sheet));
+    fields.extend(answers(sheet));
+    fields.extend([
+        (
+            "unmet",
+            Json::maybe(not_met.first(), |reason| unmet(sheet, reason)),
+        ),
+        ("also_unmet", others),
+        (
+            "bare",
+            Json::list(bare(sheet, &roots), |card| bare_card(sheet, card)),
+        ),
+        (
+            "cards",
+            Json::list(0..sheet.text.cards.len(), |number| card(sheet, number)),
+        ),
+    ]);
+    Json::Fields(fields)
+}
+
+/// What is in the sheet, apart from its cards.
+fn contents(sheet: &Sheet) -> [(&'static str, Json); 5] {
+    let text = &sheet.text;
+    let booked = Json::list(&sheet.booked, |pair| Json::Fields(pair_fields(sheet, *pair)));
+    [
         ("title", Json::maybe(text.title.as_deref(), Json::text)),
         ("kinds", Json::list(&text.kinds, |name| Json::text(&name.text))),
         (
@@ -31,32 +59,8 @@ pub fn outcome(sheet: &Sheet, file: &str) -> Json {
             Json::list(&text.shapes, |(name, _)| Json::text(&name.text)),
         ),
         ("links", Json::count(text.links.len())),
-        (
-            "bookings",
-            Json::list(&sheet.booked, |pair| Json::Fields(pair_fields(sheet, *pair))),
-        ),
-    ];
-    fields.extend(answers(sheet));
-    let others = not_met.iter().skip(1);
-    fields.extend([
-        (
-            "unmet",
-            Json::maybe(not_met.first(), |reason| unmet(sheet, reason)),
-        ),
-        (
-            "also_unmet",
-            Json::list(others, |reason| Json::Fields(unmet_fields(sheet, reason))),
-        ),
-        (
-            "bare",
-            Json::list(bare(sheet, &roots), |card| bare_card(sheet, card)),
-        ),
-        (
-            "cards",
-            Json::list(0..text.cards.len(), |number| card(sheet, number)),
-        ),
-    ]);
-    Json::Fields(fields)
+        ("bookings", booked),
+    ]
 }
 
 /// The answers for both typings; null for the smallest if the bookings aren't met.

@@ -59,8 +59,8 @@ pub fn reasons(sheet: &Sheet, roots: &Roots, card: usize) -> Vec<Reason> {
     reasons
 }
 
-/// Why pairs that bookings ask for aren't met, in the order of the pairs; the first is that of 50. Only those whose own
-/// links don't fit are told, because the others lead to one of them.
+/// Why pairs that bookings ask for aren't met, in the order of the pairs; the first is that of 50. Only those whose
+/// own links don't fit are told, because the others lead to one of them.
 pub fn all_not_met(sheet: &Sheet, roots: &Roots) -> Vec<Reason> {
     let closure = closure::closure(&sheet.setting, &sheet.booked);
     let asked = sheet.setting.pairs().filter(|pair| sheet.has(&closure, *pair));
