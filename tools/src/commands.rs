@@ -33,9 +33,12 @@ pub fn run(words: &[&str], help: &str) -> Result<bool, String> {
             let refusal = Refusal::at(number("refusal", refusal)?, number("place", place)?);
             write_to("-", explain_refusal(file, refusal)?.as_bytes())?;
         }
-        ["draw", file, out] => {
+        ["draw", file, out, options @ ..] => {
             let sheet = check::run(file, &read_text(file)?)?;
-            write_to(out, draw::draw(&sheet)?.as_bytes())?;
+            let choice = draw::choice::Choice::read(&sheet, options)?;
+            for (name, page) in draw::draw(&sheet, choice).files(out) {
+                write_to(&name, page.as_bytes())?;
+            }
         }
         ["print", file] => write_to("-", sheet::print(&input_of(file)?).as_bytes())?,
         ["fit"] => fit_lines()?,

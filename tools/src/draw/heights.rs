@@ -5,7 +5,7 @@ use super::nets::Slot;
 /// The height that the way of a net through a column takes.
 pub const PASS: f64 = 2.0;
 /// The gap between two cards.
-const GAP: f64 = 5.0;
+pub const GAP: f64 = 5.0;
 /// The gap beside a slot.
 const PASS_GAP: f64 = 2.0;
 

@@ -106,7 +106,8 @@ fn share_side(frame: &Frame, card: usize, side: Side, channels: &mut [Vec<Wire>]
     }
     ends.sort_by(|one, two| one.0.total_cmp(&two.0).then(one.1.cmp(&two.1)));
     let one = frame.find(Slot::Card(card), column);
-    let shares = cells(one.top, one.body, ends.len());
+    let labelled: Vec<bool> = ends.iter().map(|(_, _, end)| *end == 0).collect();
+    let shares = cells(one.top, one.body, &labelled);
     for ((_, wire, end), cell) in ends.into_iter().zip(shares) {
         wires[wire].ends[end].cell = cell;
     }

@@ -1,0 +1,177 @@
+//! Links that aren't drawn as arrows stand as lines below their cards: those to other pages, and those of a page
+//! that has too many. A card also says from which pages links lead to it.
+
+use super::graph::{Arrow, Graph};
+use super::measure::LIST;
+use super::wrap::{cut_off, wrap, Face};
+use crate::text::check::Sheet;
+use std::collections::{BTreeMap, BTreeSet};
+
+/// The most lines below one card.
+pub const MOST_LINES: usize = 24;
+/// The letters of the lines.
+pub const FACE: Face = Face {
+    height: LIST,
+    bold: false,
+};
+/// How far the further lines of a list stand in.
+pub const INDENT: f64 = 2.0;
+
+/// A sheet, and where each of its cards stands.
+#[derive(Clone, Debug)]
+pub struct Whole<'a> {
+    /// The sheet.
+    pub sheet: &'a Sheet,
+    /// All its cards and links.
+    pub graph: Graph,
+    /// The page of each card, from 1; none if it isn't drawn.
+    pub page_of: Vec<Option<usize>>,
+}
+
+impl Whole<'_> {
+    /// Notes which cards stand on which page.
+    pub fn set_pages<'a>(&mut self, pages: impl Iterator<Item = &'a [usize]>) {
+        self.page_of.fill(None);
+        for (number, cards) in (1..).zip(pages) {
+            for card in cards {
+                self.page_of[*card] = Some(number);
+            }
+        }
+    }
+}
+
+/// One line below a card.
+#[derive(Clone, PartialEq, Debug)]
+pub struct Line {
+    /// Its text.
+    pub text: String,
+    /// The kind whose colour it has.
+    pub kind: Option<usize>,
+    /// Whether it goes on with the line before it.
+    pub goes_on: bool,
+}
+
+/// The lines of all cards of a page, and what they had no room for.
+#[derive(Clone, Default, PartialEq, Debug)]
+pub struct Lists {
+    /// For each card of the page, its lines.
+    pub lines: Vec<Vec<Line>>,
+    /// How many links stand in lines.
+    pub listed: usize,
+    /// How many links are left out for want of room.
+    pub left_out: usize,
+}
+
+/// The lines for some cards, some of whose links are arrows. They have this much room from left to right.
+pub fn lists(whole: &Whole, cards: &[usize], drawn: &Graph, room: f64) -> Lists {
+    let arrow = |arrow: &Arrow| Arrow {
+        from: cards[arrow.from],
+        kind: arrow.kind,
+        to: cards[arrow.to],
+    };
+    let drawn: BTreeSet<Arrow> = drawn.arrows.iter().map(arrow).collect();
+    let arrows = &whole.graph.arrows;
+    let mut lists = Lists::default();
+    for card in cards {
+        let first = arrows.partition_point(|arrow| arrow.from < *card);
+        let own = arrows[first..].iter().take_while(|arrow| arrow.from == *card);
+        let mut kinds: BTreeMap<usize, Vec<usize>> = BTreeMap::new();
+        for arrow in own.filter(|arrow| !drawn.contains(arrow)) {
+            kinds.entry(arrow.kind).or_default().push(arrow.to);
+        }
+        let mut lines = lists.going_out(whole, *card, kinds, room);
+        lines.extend(coming_in(whole, *card, room));
+        lists.lines.push(lines);
+    }
+    lists
+}
+
+impl Lists {
+    /// The lines for the links of one card, by kind, as far as there is room below it.
+    fn going_out(
+        &mut self,
+        whole: &Whole,
+        card: usize,
+        kinds: BTreeMap<usize, Vec<usize>>,
+        room: f64,
+    ) -> Vec<Line> {
+        let mut lines = Vec::new();
+        let mut left_out = 0;
+        for (kind, targets) in kinds {
+            let name = cut_off(&whole.sheet.text.kinds[kind].text, room / 2.0, FACE);
+            let text = format!("{name} → {}", targets_text(whole, card, &targets));
+            let texts = wrap(&text, room - INDENT, FACE, usize::MAX);
+            if lines.len() + texts.len() > MOST_LINES {
+                left_out += targets.len();
+                continue;
+            }
+            self.listed += targets.len();
+            lines.extend(numbered(texts, Some(kind)));
+        }
+        if left_out > 0 {
+            self.left_out += left_out;
+            lines.extend(numbered(vec![format!("and {left_out} more links")], None));
+        }
+        lines
+    }
+}
+
+/// The lines of one text.
+fn numbered(texts: Vec<String>, kind: Option<usize>) -> impl Iterator<Item = Line> {
+    texts.into_iter().enumerate().map(move |(number, text)| Line {
+        text,
+        kind,
+        goes_on: number > 0,
+    })
+}
+
+/// Targets by page; a lone one by its title too.
+fn targets_text(whole: &Whole, card: usize, targets: &[usize]) -> String {
+    let page_of = &whole.page_of;
+    let here = page_of[card];
+    let place = |page: Option<usize>| match page {
+        None => " (not drawn)".to_string(),
+        Some(page) if Some(page) == here => String::new(),
+        Some(page) => format!(" (p.\u{a0}{page})"),
+    };
+    if let [to] = targets {
+        return format!("{to} {}{}", whole.sheet.text.card_title(*to), place(page_of[*to]));
+    }
+    let mut by_page: BTreeMap<Option<usize>, Vec<usize>> = BTreeMap::new();
+    for to in targets {
+        by_page.entry(page_of[*to]).or_default().push(*to);
+    }
+    let texts = by_page
+        .iter()
+        .map(|(page, targets)| runs(targets) + &place(*page));
+    texts.collect::<Vec<_>>().join("; ")
+}
+
+/// Ascending numbers, those in a row by the first and the last of them.
+pub fn runs(numbers: &[usize]) -> String {
+    let mut texts: Vec<String> = Vec::new();
+    for run in numbers.chunk_by(|one, two| one + 1 == *two) {
+        match run {
+            [first, _, .., last] => texts.push(format!("{first}–{last}")),
+            few => texts.extend(few.iter().map(usize::to_string)),
+        }
+    }
+    texts.join(", ")
+}
+
+/// The pages from which links lead to a card.
+fn coming_in(whole: &Whole, card: usize, room: f64) -> impl Iterator<Item = Line> {
+    let entering = whole.graph.arrows.iter().filter(|arrow| arrow.to == card);
+    let pages: BTreeSet<usize> = entering
+        .filter_map(|arrow| whole.page_of[arrow.from])
+        .filter(|page| Some(*page) != whole.page_of[card])
+        .collect();
+    let pages: Vec<usize> = pages.into_iter().collect();
+    let texts = if pages.is_empty() {
+        Vec::new()
+    } else {
+        let text = format!("← from p.\u{a0}{}", runs(&pages));
+        wrap(&text, room - INDENT, FACE, 3)
+    };
+    numbered(texts, None)
+}

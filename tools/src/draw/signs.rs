@@ -1,0 +1,120 @@
+//! What the signs of a picture mean; only those that it has.
+
+use super::cards::{body, chip_at, warning, CardMark, INK};
+use super::graph::Arrow;
+use super::layout::{Layout, Rect};
+use super::lists::Line;
+use super::measure::{sign_width, width, Chip, Mark, LIST};
+use super::page::SMALL;
+use super::picture::{is_blamed, BLAME};
+use super::svg::{round_path, Anchor, Svg};
+
+/// Where the meaning of a sign stands.
+const MEANING: f64 = 34.0;
+
+/// A sign with its meaning.
+#[derive(Clone, PartialEq, Debug)]
+pub enum Sign {
+    /// A chip, and what a card with it looks like.
+    Chip(Mark, bool, &'static str),
+    /// The broad line below arrows.
+    Blame,
+    /// A line below a card.
+    Line(&'static str, &'static str),
+}
+
+/// The signs that a picture has.
+pub fn signs(layout: &Layout, blamed: &[Arrow]) -> Vec<Sign> {
+    let has_chip = |mark: Mark, booked: bool| {
+        let mut chips = layout.blocks.iter().flat_map(|block| &block.chips);
+        chips.any(|(chip, _)| chip.mark == mark && (chip.booked || !booked))
+    };
+    let has_line = |is: &dyn Fn(&Line) -> bool| {
+        let mut lines = layout.blocks.iter().flat_map(|block| &block.lines);
+        lines.any(|(line, _)| is(line))
+    };
+    let mut signs = Vec::new();
+    for (mark, booked, meaning) in [
+        (Mark::Smallest, false, "in the smallest typing"),
+        (Mark::Largest, false, "only in the largest typing"),
+        (Mark::Smallest, true, "booked"),
+        (Mark::Largest, true, "booked, only in the largest"),
+        (Mark::Booked, true, "booked, but in no typing"),
+        (Mark::None, false, "a card with no shape"),
+        (Mark::NotMet, false, "the unmet pair of 50"),
+    ] {
+        if has_chip(mark, booked) {
+            signs.push(Sign::Chip(mark, booked, meaning));
+        }
+    }
+    if layout.routes.iter().any(|route| is_blamed(layout, route, blamed)) {
+        signs.push(Sign::Blame);
+    }
+    if has_line(&|line| line.kind.is_some()) {
+        signs.push(Sign::Line("kind → 7 (p.\u{a0}2)", "a link, with card and page"));
+    }
+    if has_line(&|line| line.text.starts_with('←')) {
+        signs.push(Sign::Line("← from p.\u{a0}2", "links from there lead here"));
+    }
+    signs
+}
+
+impl Sign {
+    fn meaning(&self) -> &'static str {
+        match self {
+            Sign::Chip(_, _, meaning) | Sign::Line(_, meaning) => meaning,
+            Sign::Blame => "how a booking asks for it",
+        }
+    }
+
+    /// The width of the sign with its meaning.
+    pub fn width(&self) -> f64 {
+        MEANING + width(self.meaning(), SMALL, false)
+    }
+
+    /// Draws the sign and its meaning.
+    pub fn draw(&self, svg: &mut Svg, (x, y): (f64, f64)) {
+        match self {
+            Sign::Chip(mark, booked, _) => chip(svg, *mark, *booked, (x, y)),
+            Sign::Blame => svg.path(&round_path(&[(x, y), (x + 28.0, y)], 0.0), BLAME),
+            Sign::Line(text, _) => {
+                svg.text((x, y), LIST, Anchor::Start, &format!("fill=\"{INK}\""), text);
+            }
+        }
+        let style = format!("fill=\"{INK}\"");
+        svg.text((x + MEANING, y), SMALL, Anchor::Start, &style, self.meaning());
+    }
+}
+
+/// A chip, and before it a small card.
+fn chip(svg: &mut Svg, mark: Mark, booked: bool, (x, y): (f64, f64)) {
+    let (text, letters) = match mark {
+        Mark::None => ("no shape", 15.0),
+        _ => ("Shape", 12.2),
+    };
+    let chip = Chip {
+        mark,
+        booked,
+        shape: None,
+        text: text.to_string(),
+        x: 0.0,
+        y: 0.0,
+        width: letters + sign_width(mark, booked),
+    };
+    chip_at(svg, &chip, (x + 13.0, y - 1.9));
+    let place = Rect {
+        x,
+        y: y - 1.7,
+        width: 10.0,
+        height: 3.4,
+    };
+    let mark = CardMark {
+        bare: mark == Mark::None || mark == Mark::Booked,
+        not_met: mark == Mark::NotMet,
+        needed: mark == Mark::Smallest,
+    };
+    body(svg, &place, mark);
+    if mark.not_met {
+        warning(svg, (x + 3.3, y), 1.25);
+    }
+}
