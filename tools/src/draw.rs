@@ -139,7 +139,7 @@ struct Draft<'a> {
 
 impl Draft<'_> {
     fn new<'a>(whole: &Whole, plan: &'a Plan, card_width: f64, around: &Around) -> Draft<'a> {
-        let (contents, lists) = contents::contents(whole, &plan.cards, &plan.graph, card_width);
+        let (contents, lists) = contents::contents(whole, plan, card_width);
         // The legend needs to know what is in the picture, not where.
         let layout = layout(whole.sheet, plan, &contents, card_width, 1.8);
         let signs = signs::signs(&layout, around.blamed);

@@ -1,9 +1,9 @@
 //! What each card of a page has to show: its title, its chips, and the links that aren't arrows.
 
-use super::graph::Graph;
 use super::heights::GAP;
 use super::lists::{lists, Line, Lists, Whole};
 use super::measure::{chips, height_below, room_below, title_height, title_lines, Chip};
+use super::plan::Plan;
 
 /// What a card has to show.
 #[derive(Clone, PartialEq, Debug)]
@@ -34,13 +34,14 @@ impl Content {
 }
 
 /// What the cards of a page have to show, and a tally of their lists.
-pub fn contents(whole: &Whole, cards: &[usize], drawn: &Graph, card_width: f64) -> (Vec<Content>, Lists) {
-    let mut lists = lists(whole, cards, drawn, room_below(card_width));
+pub fn contents(whole: &Whole, plan: &Plan, card_width: f64) -> (Vec<Content>, Lists) {
+    let room = (room_below(card_width), plan.most_lines);
+    let mut lists = lists(whole, &plan.cards, &plan.graph, room);
     let lines = std::mem::take(&mut lists.lines);
     let content = |(card, lines): (&usize, Vec<Line>)| Content {
         title: title_lines(whole.sheet, *card, card_width),
         chips: chips(whole.sheet, *card, card_width),
         lines,
     };
-    (cards.iter().zip(lines).map(content).collect(), lists)
+    (plan.cards.iter().zip(lines).map(content).collect(), lists)
 }

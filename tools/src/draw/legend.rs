@@ -51,7 +51,7 @@ impl Legend {
     pub fn new(sheet: &Sheet, layout: &Layout, signs: Vec<Sign>) -> Legend {
         let kinds: BTreeSet<usize> = layout.routes.iter().map(|route| route.arrow.kind).collect();
         let chips = layout.blocks.iter().flat_map(|block| &block.chips);
-        let shapes: BTreeSet<usize> = chips.filter_map(|(chip, _)| chip.shape).collect();
+        let shapes: BTreeSet<usize> = chips.flat_map(|(chip, _)| chip.shapes.clone()).collect();
         let shapes: Vec<usize> = shapes.into_iter().collect();
         let name = |kind: usize| {
             let name = cut_off(&sheet.text.kinds[kind].text, WIDEST_KIND, KIND_FACE);
@@ -81,15 +81,22 @@ impl Legend {
 
     /// The width of everything in so many rows.
     fn width(&self, rows: usize) -> f64 {
-        let kinds = self.kinds.len().div_ceil(rows) as f64 * self.kind_width();
         let signs = self.signs.len().div_ceil(rows) as f64 * self.sign_width();
         let shapes: f64 = self.shapes.chunks(rows).map(|lines| GAP + wide(lines)).sum();
-        kinds + signs + shapes
+        self.signs_left(rows) + signs + shapes
     }
 
     fn kind_width(&self) -> f64 {
         let names = self.kinds.iter().map(|(_, name)| KIND_FACE.width(name));
         names.fold(10.0, f64::max) + KIND_ARROW.0 + KIND_ARROW.1
+    }
+
+    /// Where the signs start.
+    fn signs_left(&self, rows: usize) -> f64 {
+        match self.kinds.len().div_ceil(rows) {
+            0 => 0.0,
+            columns => self.kind_width() * columns as f64 + 4.0,
+        }
     }
 
     fn sign_width(&self) -> f64 {
@@ -105,7 +112,7 @@ impl Legend {
             let x = MARGIN + self.kind_width() * (number / rows) as f64;
             kind_at(svg, *kind, name, (x, top + LINE * (number % rows) as f64));
         }
-        let left = MARGIN + self.kind_width() * columns as f64;
+        let left = MARGIN + self.signs_left(self.rows);
         for (number, sign) in self.signs.iter().enumerate() {
             let x = left + self.sign_width() * (number / self.rows) as f64;
             sign.draw(svg, (x, top + LINE * (number % self.rows) as f64));

@@ -7,8 +7,6 @@ use super::wrap::{cut_off, wrap, Face};
 use crate::text::check::Sheet;
 use std::collections::{BTreeMap, BTreeSet};
 
-/// The most lines below one card.
-pub const MOST_LINES: usize = 24;
 /// The letters of the lines.
 pub const FACE: Face = Face {
     height: LIST,
@@ -62,8 +60,11 @@ pub struct Lists {
     pub left_out: usize,
 }
 
-/// The lines for some cards, some of whose links are arrows. They have this much room from left to right.
-pub fn lists(whole: &Whole, cards: &[usize], drawn: &Graph, room: f64) -> Lists {
+/// The room for lines below a card: its width, and how many lines there may be.
+pub type Room = (f64, usize);
+
+/// The lines for some cards, some of whose links are arrows.
+pub fn lists(whole: &Whole, cards: &[usize], drawn: &Graph, room: Room) -> Lists {
     let arrow = |arrow: &Arrow| Arrow {
         from: cards[arrow.from],
         kind: arrow.kind,
@@ -80,7 +81,7 @@ pub fn lists(whole: &Whole, cards: &[usize], drawn: &Graph, room: f64) -> Lists 
             kinds.entry(arrow.kind).or_default().push(arrow.to);
         }
         let mut lines = lists.going_out(whole, *card, kinds, room);
-        lines.extend(coming_in(whole, *card, room));
+        lines.extend(coming_in(whole, *card, room.0));
         lists.lines.push(lines);
     }
     lists
@@ -93,7 +94,7 @@ impl Lists {
         whole: &Whole,
         card: usize,
         kinds: BTreeMap<usize, Vec<usize>>,
-        room: f64,
+        (room, most): Room,
     ) -> Vec<Line> {
         let mut lines = Vec::new();
         let mut left_out = 0;
@@ -101,7 +102,7 @@ impl Lists {
             let name = cut_off(&whole.sheet.text.kinds[kind].text, room / 2.0, FACE);
             let text = format!("{name} → {}", targets_text(whole, card, &targets));
             let texts = wrap(&text, room - INDENT, FACE, usize::MAX);
-            if lines.len() + texts.len() > MOST_LINES {
+            if lines.len() + texts.len() > most {
                 left_out += targets.len();
                 continue;
             }
@@ -130,7 +131,7 @@ fn targets_text(whole: &Whole, card: usize, targets: &[usize]) -> String {
     let page_of = &whole.page_of;
     let here = page_of[card];
     let place = |page: Option<usize>| match page {
-        None => " (not drawn)".to_string(),
+        None => " (not\u{a0}drawn)".to_string(),
         Some(page) if Some(page) == here => String::new(),
         Some(page) => format!(" (p.\u{a0}{page})"),
     };

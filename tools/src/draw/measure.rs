@@ -11,7 +11,7 @@ pub const TITLE: f64 = 3.6;
 /// The distance between the lines of a title.
 pub const TITLE_STEP: f64 = 4.3;
 /// The most lines of a title.
-const TITLE_LINES: usize = 3;
+const TITLE_LINES: usize = 4;
 /// Where a title starts within its card.
 pub const TITLE_LEFT: f64 = 4.6;
 /// Where it starts beside a warning.
@@ -34,6 +34,10 @@ pub const CARD: f64 = 7.4;
 pub const PORT: f64 = 3.4;
 /// How far from a card's right side a drop runs.
 pub const DROP: f64 = 4.5;
+/// From so many shapes on, a card that has all of them says so in one chip.
+const MANY_SHAPES: usize = 7;
+/// The width of cards some of which have this many chips or more.
+const MANY_CHIPS: (usize, f64) = (7, 46.0);
 /// The widest label of an arrow.
 pub const WIDEST_LABEL: f64 = 30.0;
 
@@ -75,8 +79,8 @@ pub struct Chip {
     pub mark: Mark,
     /// Whether the pair is booked.
     pub booked: bool,
-    /// The shape that it names.
-    pub shape: Option<usize>,
+    /// The shapes that it names.
+    pub shapes: Vec<usize>,
     /// Its text.
     pub text: String,
     /// Its left end.
@@ -104,12 +108,17 @@ pub fn width(text: &str, height: f64, bold: bool) -> f64 {
     letters * height * if bold { 1.1 } else { 1.0 }
 }
 
-/// The width of all cards: that of the longest title, within bounds.
+/// The width of all cards: that of the longest title, within bounds, and more if some have many chips.
 pub fn card_width(sheet: &Sheet, least: f64) -> f64 {
-    let longest = (0..sheet.text.cards.len())
-        .map(|card| TITLE_FACE.width(sheet.text.card_title(card)) + 13.0)
+    let cards = 0..sheet.text.cards.len();
+    let longest = cards
+        .clone()
+        .map(|card| title_left(sheet, card) + TITLE_FACE.width(sheet.text.card_title(card)) + 8.4)
         .fold(0.0, f64::max);
-    longest.clamp(least, 56.0)
+    let many = cards
+        .clone()
+        .any(|card| shapes(sheet, card).len() >= MANY_CHIPS.0);
+    longest.clamp(if many { least.max(MANY_CHIPS.1) } else { least }, 56.0)
 }
 
 /// The room of chips and lines below a card; right of it runs the drop.
@@ -119,10 +128,16 @@ pub fn room_below(card_width: f64) -> f64 {
 
 /// The title of a card in lines within the card's width.
 pub fn title_lines(sheet: &Sheet, card: usize, card_width: f64) -> Vec<String> {
-    let warned = sheet.not_met().is_some_and(|pair| pair.0.index() == card);
-    let left = if warned { TITLE_AFTER_WARNING } else { TITLE_LEFT };
-    let room = card_width - left - 7.4;
+    let room = card_width - title_left(sheet, card) - 7.4;
     wrap(sheet.text.card_title(card), room, TITLE_FACE, TITLE_LINES)
+}
+
+/// Where the title of a card starts.
+fn title_left(sheet: &Sheet, card: usize) -> f64 {
+    match sheet.not_met() {
+        Some((warned, _)) if warned.index() == card => TITLE_AFTER_WARNING,
+        _ => TITLE_LEFT,
+    }
 }
 
 /// The height that the lines of a title need.
@@ -135,7 +150,7 @@ pub fn chips(sheet: &Sheet, card: usize, card_width: f64) -> Vec<Chip> {
     let mut chips = Vec::new();
     let (mut x, mut y) = (0.0, CHIP_GAP);
     let room = room_below(card_width);
-    for (mark, booked, shape, text) in shapes(sheet, card) {
+    for (mark, booked, shapes, text) in shapes(sheet, card) {
         let around = 3.2 + sign_width(mark, booked);
         let text = cut_off(&text, room - around, CHIP_FACE);
         let width = CHIP_FACE.width(&text) + around;
@@ -146,7 +161,7 @@ pub fn chips(sheet: &Sheet, card: usize, card_width: f64) -> Vec<Chip> {
         chips.push(Chip {
             mark,
             booked,
-            shape,
+            shapes,
             text,
             x,
             y,
@@ -175,10 +190,13 @@ pub fn height_below(chips: &[Chip], lines: &[Line]) -> f64 {
     chips + CHIP_GAP + LIST_STEP * lines.len() as f64
 }
 
+/// A chip's mark, whether it is booked, its shapes and its text.
+type Shown = (Mark, bool, Vec<usize>, String);
+
 /// The shapes to show beside a card: first the smallest's, then what only the largest has, then faults.
-fn shapes(sheet: &Sheet, card: usize) -> Vec<(Mark, bool, Option<usize>, String)> {
+fn shapes(sheet: &Sheet, card: usize) -> Vec<Shown> {
     let card = Card(card as u16);
-    let mut shown = Vec::new();
+    let mut shown: Vec<Shown> = Vec::new();
     for (shape, (name, _)) in (0..).map(Shape).zip(&sheet.text.shapes) {
         let pair = (card, shape);
         let booked = sheet.booked.contains(&pair);
@@ -193,11 +211,24 @@ fn shapes(sheet: &Sheet, card: usize) -> Vec<(Mark, bool, Option<usize>, String)
         } else {
             continue;
         };
-        shown.push((mark, booked, Some(shape.index()), name.text.clone()));
+        shown.push((mark, booked, vec![shape.index()], name.text.clone()));
     }
     if sheet.bare(card.index()) {
-        shown.push((Mark::None, false, None, "no shape".to_string()));
+        shown.push((Mark::None, false, Vec::new(), "no shape".to_string()));
     }
     shown.sort_by_key(|(mark, _, _, _)| *mark);
-    shown
+    together(shown, sheet.text.shapes.len())
+}
+
+/// One chip for many that only say that the largest typing has all shapes.
+fn together(shown: Vec<Shown>, count: usize) -> Vec<Shown> {
+    let has = |(mark, _, _, _): &Shown| matches!(mark, Mark::Smallest | Mark::Largest);
+    if count < MANY_SHAPES || shown.iter().filter(|one| has(one)).count() < count {
+        return shown;
+    }
+    let plain = |(mark, booked, _, _): &Shown| *mark == Mark::Largest && !booked;
+    let mut kept: Vec<Shown> = shown.into_iter().filter(|one| !plain(one)).collect();
+    let text = format!("all {count} shapes");
+    kept.push((Mark::Largest, false, (0..count).collect(), text));
+    kept
 }

@@ -21,7 +21,7 @@ const STARTS: usize = 6;
 /// The columns with their slots, in a good order. The search may look at so many pairs of lines; large pages use
 /// that up before they are at their best.
 pub fn order(graph: &Graph, folded: &Folded, budget: usize) -> Vec<Vec<Slot>> {
-    let items = Items::new(graph, &folded.columns);
+    let items = Items::new(graph, folded);
     let mut search = Search::new(graph, folded, &items, budget);
     let mut random = Random::new(1);
     let mut best = search.improve(items.columns.clone());
@@ -41,6 +41,7 @@ pub fn order(graph: &Graph, folded: &Folded, budget: usize) -> Vec<Vec<Slot>> {
             (best, best_cost) = (other, cost);
         }
     }
+    items.sort_twins(&mut best, &|item| search.is_free(item));
     let slots = |column: &Vec<usize>| column.iter().map(|item| items.slots[*item]).collect();
     best.iter().map(slots).collect()
 }

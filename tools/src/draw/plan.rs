@@ -1,5 +1,5 @@
 //! Which cards stand on which page, and in which order in their columns. A page whose letters would be too small is
-//! made into two; if it has few cards, some of its arrows become lines.
+//! made into two; if it has few cards, its arrows become lines first.
 
 use super::columns::columns;
 use super::contents::{contents, Content};
@@ -19,8 +19,11 @@ pub const MOST_CARDS: usize = 160;
 pub const LEAST_SCALE: f64 = 0.5;
 /// Once there are several pages, this many cards of a page are enough.
 const ENOUGH_CARDS: usize = 80;
-/// A page with as few cards as this isn't made into two.
+/// A page with as few cards as this is made into two only if it isn't legible even without arrows.
 const FEW_CARDS: usize = 16;
+/// The most lines below a card, and how many it may always have.
+const MOST_LINES: usize = 200;
+const FEW_LINES: usize = 24;
 /// The least width of cards; that of cards with lines below them.
 const LEAST_WIDTH: (f64, f64) = (32.0, 46.0);
 /// How many pairs of lines the search for an order may look at, for all pages together, and at least for each.
@@ -33,6 +36,8 @@ pub struct Plan {
     pub cards: Vec<usize>,
     /// Its links that are drawn as arrows; cards are numbered by their places in `cards`.
     pub graph: Graph,
+    /// The most lines below a card.
+    pub most_lines: usize,
     /// What stands in each column, from the top.
     pub slots: Vec<Vec<Slot>>,
 }
@@ -55,13 +60,17 @@ pub fn plans(whole: &mut Whole, cards: &[usize]) -> (Vec<Plan>, f64) {
     let mut plans: Vec<Plan> = Vec::new();
     whole.set_pages(waiting.iter().map(Vec::as_slice));
     while let Some(piece) = waiting.pop_front() {
-        let plan = Plan::new(whole, &piece, width, budget);
-        if piece.len() > FEW_CARDS && !plan.is_legible(whole, width) {
+        let mut plan = Plan::new(whole, &piece, width, budget);
+        if piece.len() <= FEW_CARDS {
+            plan.thin_out(whole, width, budget);
+        }
+        if piece.len() > 1 && !plan.is_legible(whole, width) {
             for half in cut(&whole.graph, &piece, 2).into_iter().rev() {
                 waiting.push_front(half);
             }
         } else {
-            plans.push(plan.thinned_out(whole, width, budget));
+            plan.shorten(whole, width);
+            plans.push(plan);
         }
     }
     whole.set_pages(plans.iter().map(|plan| plan.cards.as_slice()));
@@ -72,31 +81,43 @@ impl Plan {
     fn new(whole: &Whole, cards: &[usize], width: f64, budget: usize) -> Plan {
         let mut cards = cards.to_vec();
         cards.sort_unstable();
-        let graph = whole.graph.part(&cards);
-        Plan::of(whole, cards, graph, width, budget)
+        let mut plan = Plan {
+            graph: whole.graph.part(&cards),
+            cards,
+            most_lines: MOST_LINES,
+            slots: Vec::new(),
+        };
+        plan.arrange(whole, width, budget);
+        plan
     }
 
-    fn of(whole: &Whole, cards: Vec<usize>, graph: Graph, width: f64, budget: usize) -> Plan {
-        let (contents, _) = contents(whole, &cards, &graph, width);
+    /// Puts the cards into columns.
+    fn arrange(&mut self, whole: &Whole, width: f64, budget: usize) {
+        let (contents, _) = contents(whole, self, width);
         let tall: Vec<f64> = contents.iter().map(Content::tall).collect();
-        let slots = order(&graph, &columns(&graph, &tall, width), budget);
-        Plan { cards, graph, slots }
+        self.slots = order(&self.graph, &columns(&self.graph, &tall, width), budget);
     }
 
     /// Whether the letters of the page are large enough.
     fn is_legible(&self, whole: &Whole, width: f64) -> bool {
-        let (contents, _) = contents(whole, &self.cards, &self.graph, width);
+        let (contents, _) = contents(whole, self, width);
         let layout = layout(whole.sheet, self, &contents, width, ROOM.0 / ROOM.1);
         scale(layout.width, layout.height) >= LEAST_SCALE
     }
 
-    /// The page with so few arrows that it is legible.
-    fn thinned_out(mut self, whole: &Whole, width: f64, budget: usize) -> Plan {
+    /// Makes arrows into lines as long as the page isn't legible.
+    fn thin_out(&mut self, whole: &Whole, width: f64, budget: usize) {
         while !self.graph.arrows.is_empty() && !self.is_legible(whole, width) {
-            let mut graph = self.graph.clone();
-            graph.thin_out(graph.arrows.len() / 2);
-            self = Plan::of(whole, self.cards, graph, width, budget);
+            let half = self.graph.arrows.len() / 2;
+            self.graph.thin_out(half);
+            self.arrange(whole, width, budget);
         }
-        self
+    }
+
+    /// Leaves out lines as long as the page isn't legible.
+    fn shorten(&mut self, whole: &Whole, width: f64) {
+        while self.most_lines > FEW_LINES && !self.is_legible(whole, width) {
+            self.most_lines = self.most_lines * 3 / 4;
+        }
     }
 }

@@ -95,7 +95,7 @@ fn chip(svg: &mut Svg, mark: Mark, booked: bool, (x, y): (f64, f64)) {
     let chip = Chip {
         mark,
         booked,
-        shape: None,
+        shapes: Vec::new(),
         text: text.to_string(),
         x: 0.0,
         y: 0.0,

@@ -10,10 +10,10 @@ pub struct Search<'a> {
     items: &'a Items,
     /// Cards that follow each other in a sequence.
     below: Vec<(usize, usize)>,
-    /// For each item, its band and its place along a sequence; none if it may stand anywhere.
+    /// For each item, its level and its place along a sequence; none if it may stand anywhere.
     rank: Vec<Option<(usize, usize)>>,
-    /// The band of each card.
-    band: Vec<usize>,
+    /// Which items are cards of a sequence.
+    sequence: Vec<bool>,
     /// Where each item stands, from 0 at the top to 1 at the bottom.
     heights: Vec<f64>,
     /// How many pairs of lines it may still look at.
@@ -26,25 +26,30 @@ impl<'a> Search<'a> {
         let arrows = graph.arrows.iter().filter(|arrow| graph.in_sequence(arrow));
         let below: Vec<(usize, usize)> = arrows.map(|arrow| (arrow.from, arrow.to)).collect();
         let is_folded = folded.band.iter().any(|band| *band > 0);
-        let mut sequence = vec![false; graph.cards];
+        let mut sequence = vec![false; items.slots.len()];
         for (from, to) in &below {
             (sequence[*from], sequence[*to]) = (true, true);
         }
         let mut rank = vec![None; items.slots.len()];
-        for (place, card) in folded.columns.iter().flatten().enumerate() {
-            if sequence[*card] || is_folded {
-                let along = if sequence[*card] { place } else { 0 };
-                rank[*card] = Some((folded.band[*card], along));
+        for (place, item) in items.columns.iter().flatten().enumerate() {
+            if sequence[*item] || is_folded {
+                let along = if sequence[*item] { place } else { 0 };
+                rank[*item] = Some((items.level[*item], along));
             }
         }
         Search {
             items,
             below,
             rank,
-            band: folded.band.clone(),
+            sequence,
             heights: vec![0.5; items.slots.len()],
             budget,
         }
+    }
+
+    /// Whether an item isn't bound to a place in a sequence.
+    pub fn is_free(&self, item: usize) -> bool {
+        !self.sequence[item]
     }
 
     /// Sweeps to and fro, and moves single items as long as that helps.
@@ -210,15 +215,18 @@ impl<'a> Search<'a> {
         for (one, two) in &self.items.within[column] {
             cost += 4.0 * (self.heights[*one] - self.heights[*two]).abs();
         }
-        let cards = self.band.len();
-        let mut row = vec![None; cards];
-        let mut band = 0;
-        for (number, card) in items.iter().filter(|item| **item < cards).enumerate() {
-            row[*card] = Some(number);
-            if self.band[*card] < band {
+        let slots = &self.items.slots;
+        let mut row = vec![None; slots.len()];
+        let (mut level, mut rows) = (0, 0);
+        for item in items {
+            if self.items.level[*item] < level {
                 cost += 200.0;
             }
-            band = band.max(self.band[*card]);
+            level = level.max(self.items.level[*item]);
+            if matches!(slots[*item], Slot::Card(_)) {
+                row[*item] = Some(rows);
+                rows += 1;
+            }
         }
         for (one, two) in &self.below {
             if let (Some(upper), Some(lower)) = (row[*one], row[*two]) {
