@@ -67,7 +67,7 @@ use layout::{layout, Layout};
 use legend::Legend;
 use listing::Listing;
 use lists::{Lists, Whole};
-use page::{Around, Page};
+use page::{counted, Around, Page};
 use plan::Plan;
 
 /// A drawing.
@@ -214,14 +214,19 @@ impl Writer<'_> {
         let drawn = draft.plan.graph.arrows.len();
         if inside > drawn {
             notes.push(format!(
-                "{} of the {inside} links between cards of this page are lines below their cards, not arrows.",
-                inside - drawn
+                "Of {} between cards of this page {} in lines below the cards, not as arrows.",
+                counted(inside, "link"),
+                if inside - drawn == 1 {
+                    "1 stands".to_string()
+                } else {
+                    format!("{} stand", inside - drawn)
+                }
             ));
         }
         if draft.lists.left_out > 0 {
             notes.push(format!(
-                "Left out: {} links of cards that have too many for the lines below them.",
-                draft.lists.left_out
+                "Left out: {} of cards that have too many for the lines below them.",
+                counted(draft.lists.left_out, "link")
             ));
         }
         if draft.legend.shapes_elsewhere {
@@ -238,8 +243,10 @@ fn choice_note(whole: &Whole, choice: Choice, drawn: usize) -> Option<String> {
     let links = whole.graph.arrows.iter().filter(left_out).count();
     let cards = whole.graph.cards;
     Some(format!(
-        "Drawn: {drawn} of {cards} cards, {words}. Left out: the other {} cards and their {links} links.",
-        cards - drawn
+        "Drawn: {drawn} of {}, {words}. Left out: {} and their {}.",
+        counted(cards, "card"),
+        counted(cards - drawn, "other card"),
+        counted(links, "link"),
     ))
 }
 

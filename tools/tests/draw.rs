@@ -215,7 +215,7 @@ fn a_choice_of_cards_says_what_is_left_out() {
     let drawing = draw(&sheet, around);
     let text = page(&drawing);
     assert!(text.contains("Drawn: 3 of 41 cards, “Quiz” (12) and those at most a link away from it."));
-    assert!(text.contains("Left out: the other 38 cards"));
+    assert!(text.contains("Left out: 38 other cards and their 4"));
     assert!(text.contains("(not\u{a0}drawn)"));
     let booked = draw(&sheet, Choice::read(&sheet, &["--booked"]).expect("an option"));
     assert!(page(&booked).contains("those that a booking touches."));

@@ -3,6 +3,7 @@
 
 use super::graph::{Arrow, Graph};
 use super::measure::LIST;
+use super::page::counted;
 use super::wrap::{cut_off, wrap, Face};
 use crate::text::check::Sheet;
 use std::collections::{BTreeMap, BTreeSet};
@@ -111,7 +112,10 @@ impl Lists {
         }
         if left_out > 0 {
             self.left_out += left_out;
-            lines.extend(numbered(vec![format!("and {left_out} more links")], None));
+            lines.extend(numbered(
+                vec![format!("and {}", counted(left_out, "more link"))],
+                None,
+            ));
         }
         lines
     }
@@ -160,19 +164,26 @@ pub fn runs(numbers: &[usize]) -> String {
     texts.join(", ")
 }
 
-/// The pages from which links lead to a card.
+/// The pages from which links lead to a card, and the cards that aren't drawn from which some do.
 fn coming_in(whole: &Whole, card: usize, room: f64) -> impl Iterator<Item = Line> {
-    let entering = whole.graph.arrows.iter().filter(|arrow| arrow.to == card);
-    let pages: BTreeSet<usize> = entering
-        .filter_map(|arrow| whole.page_of[arrow.from])
-        .filter(|page| Some(*page) != whole.page_of[card])
-        .collect();
-    let pages: Vec<usize> = pages.into_iter().collect();
-    let texts = if pages.is_empty() {
-        Vec::new()
-    } else {
-        let text = format!("← from p.\u{a0}{}", runs(&pages));
+    let (mut pages, mut absent) = (BTreeSet::new(), BTreeSet::new());
+    for arrow in whole.graph.arrows.iter().filter(|arrow| arrow.to == card) {
+        match whole.page_of[arrow.from] {
+            None => absent.insert(arrow.from),
+            Some(page) if Some(page) != whole.page_of[card] => pages.insert(page),
+            _ => false,
+        };
+    }
+    let text = |numbers: BTreeSet<usize>, before: &str, after: &str| {
+        let numbers: Vec<usize> = numbers.into_iter().collect();
+        let text = format!("← from {before}{}{after}", runs(&numbers));
+        let lines = if numbers.is_empty() { 0 } else { 3 };
         wrap(&text, room - INDENT, FACE, 3)
+            .into_iter()
+            .take(lines)
+            .collect()
     };
-    numbered(texts, None)
+    let pages: Vec<String> = text(pages, "p.\u{a0}", "");
+    let absent: Vec<String> = text(absent, "", " (not\u{a0}drawn)");
+    numbered(pages, None).chain(numbered(absent, None))
 }

@@ -25,9 +25,9 @@ pub const CHIP: f64 = 3.8;
 /// The gap between chips, and between a card and its chips.
 pub const CHIP_GAP: f64 = 0.9;
 /// The height of the letters of a line below the chips.
-pub const LIST: f64 = 2.4;
+pub const LIST: f64 = 2.6;
 /// The distance between such lines.
-pub const LIST_STEP: f64 = 3.2;
+pub const LIST_STEP: f64 = 3.4;
 /// The least height of a card.
 pub const CARD: f64 = 7.4;
 /// The least height that an arrow's end takes at a card's side.
@@ -37,7 +37,7 @@ pub const DROP: f64 = 4.5;
 /// From so many shapes on, a card that has all of them says so in one chip.
 const MANY_SHAPES: usize = 7;
 /// The width of cards some of which have this many chips or more.
-const MANY_CHIPS: (usize, f64) = (7, 46.0);
+const MANY_CHIPS: (usize, f64) = (5, 42.0);
 /// The widest label of an arrow.
 pub const WIDEST_LABEL: f64 = 30.0;
 

@@ -20,6 +20,8 @@ pub const MARGIN: f64 = 13.0;
 pub const LINE: f64 = 4.7;
 /// The height of the letters there.
 pub const SMALL: f64 = 2.9;
+/// The gap between the legend and the notes.
+const NOTE_GAP: f64 = 1.6;
 /// The largest scale of a picture.
 const MOST_SCALE: f64 = 1.5;
 /// The letters of the title, if it needs one line, and if it needs more.
@@ -63,8 +65,9 @@ pub struct Around<'a> {
 /// The room that a picture has on its page: its upper edge, width and height.
 pub fn room(around: &Around, legend: &Legend) -> (f64, f64, f64) {
     let top = heading(&mut Svg::default(), around) + 5.0;
-    let rows = legend.rows + note_lines(around).len();
-    let bottom = HEIGHT - MARGIN - rows as f64 * LINE - 2.0;
+    let notes = note_lines(around);
+    let gap = if notes.is_empty() { 0.0 } else { NOTE_GAP };
+    let bottom = HEIGHT - MARGIN - (legend.rows + notes.len()) as f64 * LINE - gap - 2.0;
     (top, WIDTH - 2.0 * MARGIN, bottom - top - 4.0)
 }
 
@@ -81,7 +84,7 @@ pub fn page(around: &Around, layout: Layout, legend: &Legend) -> Page {
     rule(&mut svg, bottom);
     legend.draw(&mut svg, bottom + 6.0);
     for (row, line) in note_lines(around).iter().enumerate() {
-        let y = bottom + 6.0 + LINE * (legend.rows + row) as f64;
+        let y = bottom + 6.0 + LINE * (legend.rows + row) as f64 + NOTE_GAP;
         let style = format!("fill=\"{INK}\"");
         svg.text((MARGIN, y), SMALL, Anchor::Start, &style, line);
     }
@@ -162,11 +165,18 @@ fn answers(svg: &mut Svg, sheet: &Sheet, y: f64) -> f64 {
     let largest = sheet.both.largest.0;
     let (cards, links) = (sheet.text.cards.len(), sheet.text.links.len());
     let left = format!(
-        "{cards} cards, {links} links.  Largest typing: {} rounds, {} pairs struck, {} without a shape.",
-        largest.rounds, largest.struck, largest.bare
+        "{}, {}.  Largest typing: {}, {} struck, {} without a shape.",
+        counted(cards, "card"),
+        counted(links, "link"),
+        counted(largest.rounds, "round"),
+        counted(largest.struck, "pair"),
+        largest.bare
     );
     let (right, colour) = match sheet.both.smallest.0 {
-        Smallest::Pairs(pairs) => (format!("Smallest typing: {pairs} pairs, each met."), INK),
+        Smallest::Pairs(pairs) => (
+            format!("Smallest typing: {}, each met.", counted(pairs, "pair")),
+            INK,
+        ),
         Smallest::NotMet(card, shape) => (
             format!(
                 "No smallest typing: “{}” can't be {} (50).",
@@ -199,6 +209,14 @@ fn answers(svg: &mut Svg, sheet: &Sheet, y: f64) -> f64 {
         svg.text(place, ANSWERS, Anchor::Start, &style, line);
     }
     y + 5.2 * lines.len() as f64
+}
+
+/// A number with the word for what it counts.
+pub fn counted(number: impl std::fmt::Display, word: &str) -> String {
+    match number.to_string() {
+        one if one == "1" => format!("1 {word}"),
+        many => format!("{many} {word}s"),
+    }
 }
 
 /// A line across the page.

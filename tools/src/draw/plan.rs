@@ -15,10 +15,10 @@ use std::collections::VecDeque;
 
 /// The most cards of a page.
 pub const MOST_CARDS: usize = 160;
-/// The smallest scale of a picture: titles have letters of 3.6 mm times this.
-pub const LEAST_SCALE: f64 = 0.5;
+/// The smallest scale of a picture: titles have letters of 3.6 mm times this. With several pages there is more room.
+pub const LEAST_SCALE: (f64, f64) = (0.5, 0.58);
 /// Once there are several pages, this many cards of a page are enough.
-const ENOUGH_CARDS: usize = 80;
+const ENOUGH_CARDS: usize = 72;
 /// A page with as few cards as this is made into two only if it isn't legible even without arrows.
 const FEW_CARDS: usize = 16;
 /// The most lines below a card, and how many it may always have.
@@ -49,7 +49,7 @@ pub fn plans(whole: &mut Whole, cards: &[usize]) -> (Vec<Plan>, f64) {
         whole.set_pages([&line[..]].into_iter());
         let width = card_width(whole.sheet, LEAST_WIDTH.0);
         let plan = Plan::new(whole, &line, width, BUDGET.0);
-        if plan.is_legible(whole, width) {
+        if plan.scale(whole, width) >= LEAST_SCALE.0 {
             return (vec![plan], width);
         }
     }
@@ -98,11 +98,16 @@ impl Plan {
         self.slots = order(&self.graph, &columns(&self.graph, &tall, width), budget);
     }
 
-    /// Whether the letters of the page are large enough.
-    fn is_legible(&self, whole: &Whole, width: f64) -> bool {
+    /// The scale at which the page has room for its picture.
+    fn scale(&self, whole: &Whole, width: f64) -> f64 {
         let (contents, _) = contents(whole, self, width);
         let layout = layout(whole.sheet, self, &contents, width, ROOM.0 / ROOM.1);
-        scale(layout.width, layout.height) >= LEAST_SCALE
+        scale(layout.width, layout.height)
+    }
+
+    /// Whether the letters of one of several pages are large enough.
+    fn is_legible(&self, whole: &Whole, width: f64) -> bool {
+        self.scale(whole, width) >= LEAST_SCALE.1
     }
 
     /// Makes arrows into lines as long as the page isn't legible.

@@ -51,10 +51,18 @@ pub fn signs(layout: &Layout, blamed: &[Arrow]) -> Vec<Sign> {
         signs.push(Sign::Blame);
     }
     if has_line(&|line| line.kind.is_some()) {
-        signs.push(Sign::Line("kind → 7 (p.\u{a0}2)", "a link, with card and page"));
+        let text = if has_line(&|line| line.text.contains("(p.\u{a0}")) {
+            "kind → 7 (p.\u{a0}2)"
+        } else {
+            "kind → 7"
+        };
+        signs.push(Sign::Line(text, "a link that isn't an arrow"));
     }
-    if has_line(&|line| line.text.starts_with('←')) {
-        signs.push(Sign::Line("← from p.\u{a0}2", "links from there lead here"));
+    if has_line(&|line| line.text.starts_with("← from p.")) {
+        signs.push(Sign::Line("← from p.\u{a0}2", "links from that page lead here"));
+    }
+    if has_line(&|line| line.text.starts_with('←') && !line.text.starts_with("← from p.")) {
+        signs.push(Sign::Line("← from 7", "links from that card lead here"));
     }
     signs
 }

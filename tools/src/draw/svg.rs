@@ -126,13 +126,13 @@ impl Svg {
     /// What lies around a text that follows: the same, but not counted as a text.
     pub fn halo(&mut self, (x, y): (f64, f64), height: f64, anchor: Anchor, attributes: &str, text: &str) {
         let anchor = match anchor {
-            Anchor::Start => "start",
-            Anchor::Middle => "middle",
-            Anchor::End => "end",
+            Anchor::Start => "",
+            Anchor::Middle => " text-anchor=\"middle\"",
+            Anchor::End => " text-anchor=\"end\"",
         };
         let _ = writeln!(
             self.out,
-            "<text x=\"{}\" y=\"{}\" font-size=\"{}\" text-anchor=\"{anchor}\" {attributes}>{}</text>",
+            "<text x=\"{}\" y=\"{}\" font-size=\"{}\"{anchor} {attributes}>{}</text>",
             short(x),
             short(y + 0.35 * height),
             short(height),
