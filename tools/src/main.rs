@@ -13,7 +13,7 @@ prep-tools text FILE                    words to text
 prep-tools check FILE.txt               run the sheet of a text and tell the outcome, or the fault, in words
 prep-tools explain FILE                 say what is wrong with a sheet, at which word and where
 prep-tools explain NUMBER PLACE FILE    say what a refusal means for a sheet; PLACE is CARD SHAPE for 50
-prep-tools draw FILE.txt OUT.svg        draw a sheet and its typings
+prep-tools draw FILE.txt OUT.svg        draw a sheet and its typings; --booked or --around CARD [--steps N] for a part
 prep-tools print FILE                   print the sheet
 prep-tools fit                          answer lines `T w w ... | shape | c c c` from standard input, by intervals
 prep-tools samples                      print P1 to P12, each answer computed both ways

@@ -36,3 +36,17 @@ fn the_files_of_the_example_belong_together() {
         );
     }
 }
+
+#[test]
+fn the_larger_drawings_belong_to_their_texts() {
+    for (name, cards, pages) in [("row", 40, 1), ("day", 100, 1), ("wiring", 32, 2)] {
+        let sheet = sheet_of(&folder("drawings").join(format!("{name}.txt")));
+        assert_eq!(sheet.text.cards.len(), cards);
+        let files = draw(&sheet, Choice::All).files(&format!("{name}.svg"));
+        assert_eq!(files.len(), pages);
+        for (file, drawing) in files {
+            let stored = fs::read_to_string(folder("drawings").join(&file)).expect("the drawing is there");
+            assert!(stored == drawing, "{file} isn't the drawing of {name}.txt");
+        }
+    }
+}

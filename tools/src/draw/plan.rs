@@ -16,7 +16,7 @@ use std::collections::VecDeque;
 /// The most cards of a page.
 pub const MOST_CARDS: usize = 160;
 /// The smallest scale of a picture: titles have letters of 3.6 mm times this. With several pages there is more room.
-pub const LEAST_SCALE: (f64, f64) = (0.5, 0.58);
+pub const LEAST_SCALE: (f64, f64) = (0.55, 0.58);
 /// Once there are several pages, this many cards of a page are enough.
 const ENOUGH_CARDS: usize = 72;
 /// A page with as few cards as this is made into two only if it isn't legible even without arrows.
