@@ -140,14 +140,12 @@ struct Draft<'a> {
 impl Draft<'_> {
     fn new<'a>(whole: &Whole, plan: &'a Plan, card_width: f64, around: &Around) -> Draft<'a> {
         let (contents, lists) = contents::contents(whole, plan, card_width);
-        // The legend needs to know what is in the picture, not where.
-        let layout = layout(whole.sheet, plan, &contents, card_width, 1.8);
-        let signs = signs::signs(&layout, around.blamed);
+        let legend = Legend::new(whole.sheet, plan, &contents, around.blamed);
         Draft {
             plan,
             lists,
             contents,
-            legend: Legend::new(whole.sheet, &layout, signs),
+            legend,
         }
     }
 }

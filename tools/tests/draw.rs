@@ -27,6 +27,12 @@ fn page(drawing: &Drawing) -> &str {
     &drawing.pages[0].svg
 }
 
+/// Its picture, with the scale of it.
+fn picture(drawing: &Drawing) -> &(Layout, f64) {
+    assert_eq!(drawing.pages.len(), 1);
+    drawing.pages[0].picture.as_ref().expect("the page has a picture")
+}
+
 fn apart(one: &Rect, two: &Rect) -> bool {
     one.x + one.width <= two.x
         || two.x + two.width <= one.x
@@ -70,7 +76,8 @@ fn is_sound(name: &str, sheet: &Sheet) -> Drawing {
         }
         let over = texts_over_texts(&page.texts);
         assert!(over.is_empty(), "{name}, page {number}: {:?}", over[0]);
-        if let Some(layout) = &page.layout {
+        if let Some((layout, scale)) = &page.picture {
+            assert!(*scale > 0.5, "{name}, page {number}: {scale}");
             picture_is_sound(layout);
             cards.extend(layout.blocks.iter().map(|block| block.card));
         }
@@ -87,18 +94,16 @@ fn the_example_is_sound_and_legible() {
         assert_eq!(sheet.text.cards.len(), 41);
         let drawing = is_sound("the example", &sheet);
         assert_eq!(drawing.tally.arrows, sheet.text.links.len());
-        let layout = drawing.pages[0].layout.as_ref().expect("the page has a picture");
-        // The picture's room on the page; a title has letters of 3.6 mm times the scale.
-        let scale = (394.0 / layout.width).min(218.0 / layout.height);
-        assert!(scale > 0.7, "{scale}");
-        assert_eq!(drawing.pages.len(), 1);
+        // A title has letters of 3.6 mm times the scale.
+        let (_, scale) = picture(&drawing);
+        assert!(*scale > 0.7, "{scale}");
     }
 }
 
 #[test]
 fn an_arrow_through_a_card_is_found() {
     let drawing = draw(&sheet(PROGRAMME), Choice::All);
-    let mut layout = drawing.pages[0].layout.clone().expect("the page has a picture");
+    let (mut layout, _) = picture(&drawing).clone();
     let route = layout.routes.iter().find(|route| route.points.len() > 2);
     let corner = route.expect("some arrow has a corner").points[1];
     let body = &mut layout.blocks[40].body;
@@ -183,8 +188,7 @@ fn generated_sheets_are_sound() {
 #[test]
 fn a_row_is_folded() {
     let drawing = draw(&sheet(&sheets::row(60)), Choice::All);
-    assert_eq!(drawing.pages.len(), 1);
-    let layout = drawing.pages[0].layout.as_ref().expect("the page has a picture");
+    let (layout, _) = picture(&drawing);
     let ratio = layout.width / layout.height;
     assert!(ratio > 1.0 && ratio < 2.5, "{ratio}");
 }

@@ -130,32 +130,35 @@ fn layers(cards: usize, group: &[usize], edges: &[(usize, usize)]) -> Vec<usize>
     }
     for _ in 0..4 {
         for which in (0..cards).filter(|which| size[*which] > 0) {
-            let before: Vec<usize> = edges
-                .iter()
-                .filter(|edge| edge.1 == which)
-                .map(|edge| layer[edge.0])
-                .collect();
-            let after: Vec<usize> = edges
-                .iter()
-                .filter(|edge| edge.0 == which)
-                .map(|edge| layer[edge.1])
-                .collect();
-            let lowest = before.iter().max().map_or(0, |most| most + 1);
-            let Some(highest) = after.iter().min().map(|least| least - 1) else {
-                continue;
-            };
-            let held = |place: usize| {
-                let others = (0..cards).filter(|other| *other != which && layer[*other] == place);
-                others.map(|other| size[other]).sum::<usize>()
-            };
-            let length = |place: usize| {
-                let left: usize = before.iter().map(|other| place - other).sum();
-                left + after.iter().map(|other| other - place).sum::<usize>()
-            };
-            if let Some(best) = (lowest..=highest).min_by_key(|place| (length(*place), held(*place))) {
+            if let Some(best) = best_layer(which, &layer, &size, edges) {
                 layer[which] = best;
             }
         }
     }
     layer
+}
+
+/// The column between its neighbours in which a group's links are shortest, and of those the one with fewest cards.
+fn best_layer(which: usize, layer: &[usize], size: &[usize], edges: &[(usize, usize)]) -> Option<usize> {
+    let before: Vec<usize> = edges
+        .iter()
+        .filter(|edge| edge.1 == which)
+        .map(|edge| layer[edge.0])
+        .collect();
+    let after: Vec<usize> = edges
+        .iter()
+        .filter(|edge| edge.0 == which)
+        .map(|edge| layer[edge.1])
+        .collect();
+    let lowest = before.iter().max().map_or(0, |most| most + 1);
+    let highest = after.iter().min().map(|least| least - 1)?;
+    let held = |place: usize| {
+        let others = (0..layer.len()).filter(|other| *other != which && layer[*other] == place);
+        others.map(|other| size[other]).sum::<usize>()
+    };
+    let length = |place: usize| {
+        let left: usize = before.iter().map(|other| place - other).sum();
+        left + after.iter().map(|other| other - place).sum::<usize>()
+    };
+    (lowest..=highest).min_by_key(|place| (length(*place), held(*place)))
 }

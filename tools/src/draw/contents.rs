@@ -36,7 +36,7 @@ impl Content {
 /// What the cards of a page have to show, and a tally of their lists.
 pub fn contents(whole: &Whole, plan: &Plan, card_width: f64) -> (Vec<Content>, Lists) {
     let room = (room_below(card_width), plan.most_lines);
-    let mut lists = lists(whole, &plan.cards, &plan.graph, room);
+    let mut lists = lists(whole, plan, room);
     let lines = std::mem::take(&mut lists.lines);
     let content = |(card, lines): (&usize, Vec<Line>)| Content {
         title: title_lines(whole.sheet, *card, card_width),

@@ -51,7 +51,7 @@ fn height(column: &[usize], tall: &[f64]) -> f64 {
 }
 
 /// The scale at which a picture of this size fits its room.
-pub fn scale(width: f64, height: f64) -> f64 {
+fn scale(width: f64, height: f64) -> f64 {
     (ROOM.0 / width.max(1.0)).min(ROOM.1 / height.max(1.0))
 }
 

@@ -2,11 +2,13 @@
 //! allows. Shapes that take too many rows stand on pages of their own.
 
 use super::cards::INK;
-use super::layout::Layout;
+use super::contents::Content;
+use super::graph::Arrow;
 use super::page::{LINE, MARGIN, SMALL, WIDTH};
 use super::picture::shortened;
+use super::plan::Plan;
 use super::shapes::shape_lines;
-use super::signs::Sign;
+use super::signs::{signs, Sign};
 use super::strokes::{colour, stroke};
 use super::svg::{head, round_path, Anchor, Svg, MONOSPACE};
 use super::wrap::{cut_off, Face};
@@ -47,11 +49,11 @@ pub struct Legend {
 }
 
 impl Legend {
-    /// The legend for a picture with these signs.
-    pub fn new(sheet: &Sheet, layout: &Layout, signs: Vec<Sign>) -> Legend {
-        let kinds: BTreeSet<usize> = layout.routes.iter().map(|route| route.arrow.kind).collect();
-        let chips = layout.blocks.iter().flat_map(|block| &block.chips);
-        let shapes: BTreeSet<usize> = chips.flat_map(|(chip, _)| chip.shapes.clone()).collect();
+    /// The legend of a page. The links in `blamed` are those from a booking to the unmet pair.
+    pub fn new(sheet: &Sheet, plan: &Plan, contents: &[Content], blamed: &[Arrow]) -> Legend {
+        let kinds: BTreeSet<usize> = plan.graph.arrows.iter().map(|arrow| arrow.kind).collect();
+        let chips = contents.iter().flat_map(|content| &content.chips);
+        let shapes: BTreeSet<usize> = chips.flat_map(|chip| chip.shapes.clone()).collect();
         let shapes: Vec<usize> = shapes.into_iter().collect();
         let name = |kind: usize| {
             let name = cut_off(&sheet.text.kinds[kind].text, WIDEST_KIND, KIND_FACE);
@@ -59,7 +61,7 @@ impl Legend {
         };
         let mut legend = Legend {
             kinds: kinds.into_iter().map(name).collect(),
-            signs,
+            signs: signs(contents, plan.arrows().any(|arrow| blamed.contains(&arrow))),
             shapes: shape_lines(sheet, &shapes, SHAPE_SIGNS),
             rows: 0,
             shapes_elsewhere: false,

@@ -4,6 +4,7 @@
 use super::graph::{Arrow, Graph};
 use super::measure::LIST;
 use super::page::counted;
+use super::plan::Plan;
 use super::wrap::{cut_off, wrap, Face};
 use crate::text::check::Sheet;
 use std::collections::{BTreeMap, BTreeSet};
@@ -65,16 +66,11 @@ pub struct Lists {
 pub type Room = (f64, usize);
 
 /// The lines for some cards, some of whose links are arrows.
-pub fn lists(whole: &Whole, cards: &[usize], drawn: &Graph, room: Room) -> Lists {
-    let arrow = |arrow: &Arrow| Arrow {
-        from: cards[arrow.from],
-        kind: arrow.kind,
-        to: cards[arrow.to],
-    };
-    let drawn: BTreeSet<Arrow> = drawn.arrows.iter().map(arrow).collect();
+pub fn lists(whole: &Whole, plan: &Plan, room: Room) -> Lists {
+    let drawn: BTreeSet<Arrow> = plan.arrows().collect();
     let arrows = &whole.graph.arrows;
     let mut lists = Lists::default();
-    for card in cards {
+    for card in &plan.cards {
         let first = arrows.partition_point(|arrow| arrow.from < *card);
         let own = arrows[first..].iter().take_while(|arrow| arrow.from == *card);
         let mut kinds: BTreeMap<usize, Vec<usize>> = BTreeMap::new();

@@ -45,8 +45,8 @@ pub struct Page {
     pub svg: String,
     /// Where its texts stand.
     pub texts: Vec<Words>,
-    /// Its picture; none on a page of lists.
-    pub layout: Option<Layout>,
+    /// Its picture and the scale of that; none on a page of lists.
+    pub picture: Option<(Layout, f64)>,
 }
 
 /// What stands around the picture.
@@ -88,7 +88,7 @@ pub fn page(around: &Around, layout: Layout, legend: &Legend) -> Page {
         let style = format!("fill=\"{INK}\"");
         svg.text((MARGIN, y), SMALL, Anchor::Start, &style, line);
     }
-    finish(svg, Some(layout))
+    finish(svg, Some((layout, scale)))
 }
 
 /// The notes in lines.
@@ -120,12 +120,12 @@ pub fn start(around: &Around) -> Svg {
 }
 
 /// The end of a page.
-pub fn finish(mut svg: Svg, layout: Option<Layout>) -> Page {
+pub fn finish(mut svg: Svg, picture: Option<(Layout, f64)>) -> Page {
     svg.raw("</svg>");
     Page {
         svg: svg.out,
         texts: svg.texts,
-        layout,
+        picture,
     }
 }
 
@@ -160,36 +160,13 @@ pub fn heading(svg: &mut Svg, around: &Around) -> f64 {
     below + 4.4
 }
 
-/// Both answers in words; on two lines if they are long. Tells where the last line is.
+/// Both answers, on two lines if they are long. Tells where the last line is.
 fn answers(svg: &mut Svg, sheet: &Sheet, y: f64) -> f64 {
-    let largest = sheet.both.largest.0;
-    let (cards, links) = (sheet.text.cards.len(), sheet.text.links.len());
-    let left = format!(
-        "{}, {}.  Largest typing: {}, {} struck, {} without a shape.",
-        counted(cards, "card"),
-        counted(links, "link"),
-        counted(largest.rounds, "round"),
-        counted(largest.struck, "pair"),
-        largest.bare
-    );
-    let (right, colour) = match sheet.both.smallest.0 {
-        Smallest::Pairs(pairs) => (
-            format!("Smallest typing: {}, each met.", counted(pairs, "pair")),
-            INK,
-        ),
-        Smallest::NotMet(card, shape) => (
-            format!(
-                "No smallest typing: “{}” can't be {} (50).",
-                sheet.text.card_title(card.index()),
-                sheet.text.shapes[shape.index()].0.text
-            ),
-            FAULT,
-        ),
-    };
     let face = |bold: bool| Face {
         height: ANSWERS,
         bold,
     };
+    let (left, (right, colour)) = (largest(sheet), smallest(sheet));
     svg.text(
         (MARGIN, y),
         ANSWERS,
@@ -209,6 +186,39 @@ fn answers(svg: &mut Svg, sheet: &Sheet, y: f64) -> f64 {
         svg.text(place, ANSWERS, Anchor::Start, &style, line);
     }
     y + 5.2 * lines.len() as f64
+}
+
+/// The largest typing in words.
+fn largest(sheet: &Sheet) -> String {
+    let largest = sheet.both.largest.0;
+    format!(
+        "{}, {}.  Largest typing: {}, {} struck, {} without a shape.",
+        counted(sheet.text.cards.len(), "card"),
+        counted(sheet.text.links.len(), "link"),
+        counted(largest.rounds, "round"),
+        counted(largest.struck, "pair"),
+        largest.bare
+    )
+}
+
+/// The smallest typing in words, or why there is none; and the colour of that.
+fn smallest(sheet: &Sheet) -> (String, &'static str) {
+    match sheet.both.smallest.0 {
+        Smallest::Pairs(pairs) => {
+            let pairs = counted(pairs, "pair");
+            (format!("Smallest typing: {pairs}, each met."), INK)
+        }
+        Smallest::NotMet(card, shape) => {
+            let (card, shape) = (
+                sheet.text.card_title(card.index()),
+                &sheet.text.shapes[shape.index()].0.text,
+            );
+            (
+                format!("No smallest typing: “{card}” can't be {shape} (50)."),
+                FAULT,
+            )
+        }
+    }
 }
 
 /// A number with the word for what it counts.

@@ -80,7 +80,7 @@ pub fn shortened(points: &[(f64, f64)]) -> Vec<(f64, f64)> {
 }
 
 /// Whether a route leads from a booking to the unmet pair.
-pub fn is_blamed(layout: &Layout, route: &Route, blamed: &[Arrow]) -> bool {
+fn is_blamed(layout: &Layout, route: &Route, blamed: &[Arrow]) -> bool {
     blamed.contains(&Arrow {
         from: layout.blocks[route.arrow.from].card,
         kind: route.arrow.kind,

@@ -3,13 +3,15 @@
 
 use super::columns::columns;
 use super::contents::{contents, Content};
-use super::fold::{scale, ROOM};
-use super::graph::Graph;
+use super::fold::ROOM;
+use super::graph::{Arrow, Graph};
 use super::layout::layout;
+use super::legend::Legend;
 use super::lists::Whole;
 use super::measure::card_width;
 use super::nets::Slot;
 use super::order::order;
+use super::page::LINE;
 use super::share::{cut, line_up};
 use std::collections::VecDeque;
 
@@ -24,6 +26,8 @@ const FEW_CARDS: usize = 16;
 /// The most lines below a card, and how many it may always have.
 const MOST_LINES: usize = 200;
 const FEW_LINES: usize = 24;
+/// A legend with more rows takes room from the picture.
+const USUAL_ROWS: usize = 5;
 /// The least width of cards; that of cards with lines below them.
 const LEAST_WIDTH: (f64, f64) = (32.0, 46.0);
 /// How many pairs of lines the search for an order may look at, for all pages together, and at least for each.
@@ -101,8 +105,22 @@ impl Plan {
     /// The scale at which the page has room for its picture.
     fn scale(&self, whole: &Whole, width: f64) -> f64 {
         let (contents, _) = contents(whole, self, width);
-        let layout = layout(whole.sheet, self, &contents, width, ROOM.0 / ROOM.1);
-        scale(layout.width, layout.height)
+        let legend = Legend::new(whole.sheet, self, &contents, &[]);
+        let room = (
+            ROOM.0,
+            ROOM.1 - LINE * legend.rows.saturating_sub(USUAL_ROWS) as f64,
+        );
+        let layout = layout(whole.sheet, self, &contents, width, room.0 / room.1);
+        (room.0 / layout.width).min(room.1 / layout.height)
+    }
+
+    /// Its arrows, with cards by their numbers in the sheet.
+    pub fn arrows(&self) -> impl Iterator<Item = Arrow> + '_ {
+        self.graph.arrows.iter().map(|arrow| Arrow {
+            from: self.cards[arrow.from],
+            kind: arrow.kind,
+            to: self.cards[arrow.to],
+        })
     }
 
     /// Whether the letters of one of several pages are large enough.

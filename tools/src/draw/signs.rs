@@ -1,12 +1,12 @@
 //! What the signs of a picture mean; only those that it has.
 
 use super::cards::{body, chip_at, warning, CardMark, INK};
-use super::graph::Arrow;
-use super::layout::{Layout, Rect};
+use super::contents::Content;
+use super::layout::Rect;
 use super::lists::Line;
 use super::measure::{sign_width, width, Chip, Mark, LIST};
 use super::page::SMALL;
-use super::picture::{is_blamed, BLAME};
+use super::picture::BLAME;
 use super::svg::{round_path, Anchor, Svg};
 
 /// Where the meaning of a sign stands.
@@ -23,45 +23,48 @@ pub enum Sign {
     Line(&'static str, &'static str),
 }
 
-/// The signs that a picture has.
-pub fn signs(layout: &Layout, blamed: &[Arrow]) -> Vec<Sign> {
+/// What the chips mean.
+const CHIPS: [(Mark, bool, &str); 7] = [
+    (Mark::Smallest, false, "in the smallest typing"),
+    (Mark::Largest, false, "only in the largest typing"),
+    (Mark::Smallest, true, "booked"),
+    (Mark::Largest, true, "booked, only in the largest"),
+    (Mark::Booked, true, "booked, but in no typing"),
+    (Mark::None, false, "a card with no shape"),
+    (Mark::NotMet, false, "the unmet pair of 50"),
+];
+
+/// The signs that a page has; also that of the way to the unmet pair, if an arrow belongs to it.
+pub fn signs(contents: &[Content], blames: bool) -> Vec<Sign> {
     let has_chip = |mark: Mark, booked: bool| {
-        let mut chips = layout.blocks.iter().flat_map(|block| &block.chips);
-        chips.any(|(chip, _)| chip.mark == mark && (chip.booked || !booked))
+        let mut chips = contents.iter().flat_map(|content| &content.chips);
+        chips.any(|chip| chip.mark == mark && (chip.booked || !booked))
     };
-    let has_line = |is: &dyn Fn(&Line) -> bool| {
-        let mut lines = layout.blocks.iter().flat_map(|block| &block.lines);
-        lines.any(|(line, _)| is(line))
-    };
-    let mut signs = Vec::new();
-    for (mark, booked, meaning) in [
-        (Mark::Smallest, false, "in the smallest typing"),
-        (Mark::Largest, false, "only in the largest typing"),
-        (Mark::Smallest, true, "booked"),
-        (Mark::Largest, true, "booked, only in the largest"),
-        (Mark::Booked, true, "booked, but in no typing"),
-        (Mark::None, false, "a card with no shape"),
-        (Mark::NotMet, false, "the unmet pair of 50"),
-    ] {
-        if has_chip(mark, booked) {
-            signs.push(Sign::Chip(mark, booked, meaning));
-        }
-    }
-    if layout.routes.iter().any(|route| is_blamed(layout, route, blamed)) {
+    let chips = CHIPS.iter().filter(|(mark, booked, _)| has_chip(*mark, *booked));
+    let mut signs: Vec<Sign> = chips
+        .map(|(mark, booked, meaning)| Sign::Chip(*mark, *booked, meaning))
+        .collect();
+    if blames {
         signs.push(Sign::Blame);
     }
-    if has_line(&|line| line.kind.is_some()) {
-        let text = if has_line(&|line| line.text.contains("(p.\u{a0}")) {
+    let lines: Vec<&Line> = contents.iter().flat_map(|content| &content.lines).collect();
+    if lines.iter().any(|line| line.kind.is_some()) {
+        let has_page = |line: &&Line| line.kind.is_some() && line.text.contains("p.\u{a0}");
+        let text = if lines.iter().any(has_page) {
             "kind → 7 (p.\u{a0}2)"
         } else {
             "kind → 7"
         };
         signs.push(Sign::Line(text, "a link that isn't an arrow"));
     }
-    if has_line(&|line| line.text.starts_with("← from p.")) {
+    let from_page = |line: &&Line| line.text.starts_with("← from p.");
+    if lines.iter().any(from_page) {
         signs.push(Sign::Line("← from p.\u{a0}2", "links from that page lead here"));
     }
-    if has_line(&|line| line.text.starts_with('←') && !line.text.starts_with("← from p.")) {
+    if lines
+        .iter()
+        .any(|line| line.text.starts_with('←') && !from_page(line))
+    {
         signs.push(Sign::Line("← from 7", "links from that card lead here"));
     }
     signs

@@ -4,10 +4,7 @@ use prep_tools::random::Random;
 use std::collections::BTreeSet;
 use std::fmt::Write;
 
-/// A rundown: programmes with items in a row, and for each item guests, films or music.
-pub fn rundown(cards: usize) -> String {
-    let mut text = format!("title \"A rundown of {cards} cards\"\n");
-    text += "kinds: opens next guest film line source\n\
+const RUNDOWN: &str = "kinds: opens next guest film line source\n\
         shape Programme = opens[1;1]@Item\n\
         shape Item = all(guest[0;2]@Guest, film[0;1]@Film, next[0;1]@Item)\n\
         shape Guest = line[1;1]@Line\n\
@@ -15,6 +12,10 @@ pub fn rundown(cards: usize) -> String {
         shape Line = nothing\n\
         shape Source = nothing\n\
         card crew \"Our own crew\"\nbook p0 Programme\n";
+
+/// A rundown: programmes with items in a row, and for each item guests, films or music.
+pub fn rundown(cards: usize) -> String {
+    let mut text = format!("title \"A rundown of {cards} cards\"\n{RUNDOWN}");
     let mut names = vec!["crew".to_string()];
     let mut links = Vec::new();
     let mut item = 0;
@@ -58,32 +59,23 @@ pub struct Size {
     pub shapes: usize,
 }
 
-/// A sheet with random links. Every third name is long.
-pub fn random(random: &mut Random, size: Size) -> String {
-    let long = |number: usize| {
-        if number % 3 == 2 {
-            "-with-a-name-that-goes-on"
-        } else {
-            ""
-        }
+/// A name with a number; every third one is long.
+fn name(letter: char, number: usize) -> String {
+    let more = if number % 3 == 2 {
+        "-with-a-name-that-goes-on"
+    } else {
+        ""
     };
-    let kind = |number: usize| format!("k{number}{}", long(number));
-    let shape = |number: usize| format!("S{number}{}", long(number));
-    let kinds: Vec<String> = (0..size.kinds).map(kind).collect();
+    format!("{letter}{number}{more}")
+}
+
+/// A sheet with random links.
+pub fn random(random: &mut Random, size: Size) -> String {
+    let kinds: Vec<String> = (0..size.kinds).map(|kind| name('k', kind)).collect();
     let mut text = "title \"A sheet of cards and links that has a title that goes on and on, ".to_string();
     let _ = writeln!(text, "{size:?}, to the end of it\"\nkinds: {}", kinds.join(" "));
-    for number in 0..size.shapes {
-        let mut parts = Vec::new();
-        let first = random.below(size.kinds);
-        for step in 0..size.kinds.min(1 + random.below(6)) {
-            let target = shape(random.below(size.shapes));
-            parts.push(format!("{}[0;]@{target}", kind((first + step) % size.kinds)));
-        }
-        let part = match &parts[..] {
-            [part] => part.clone(),
-            _ => format!("all({})", parts.join(", ")),
-        };
-        let _ = writeln!(text, "shape {} = {part}", shape(number));
+    for shape in 0..size.shapes {
+        let _ = writeln!(text, "shape {} = {}", name('S', shape), part(random, size));
     }
     for card in 0..size.cards {
         let more = " and what it says to those who read it".repeat(card % 3);
@@ -93,14 +85,28 @@ pub fn random(random: &mut Random, size: Size) -> String {
     while links.len() < size.links {
         links.insert([size.cards, size.kinds, size.cards].map(|bound| random.below(bound)));
     }
-    for [from, kind_number, to] in links {
-        let _ = writeln!(text, "link c{from} {} c{to}", kind(kind_number));
+    for [from, kind, to] in links {
+        let _ = writeln!(text, "link c{from} {} c{to}", name('k', kind));
     }
     for _ in 0..size.cards.min(4) {
-        let (card, number) = (random.below(size.cards), random.below(size.shapes));
-        let _ = writeln!(text, "book c{card} {}", shape(number));
+        let (card, shape) = (random.below(size.cards), random.below(size.shapes));
+        let _ = writeln!(text, "book c{card} {}", name('S', shape));
     }
     text
+}
+
+/// A part that names some kinds.
+fn part(random: &mut Random, size: Size) -> String {
+    let first = random.below(size.kinds);
+    let mut parts = Vec::new();
+    for step in 0..size.kinds.min(1 + random.below(6)) {
+        let target = name('S', random.below(size.shapes));
+        parts.push(format!("{}[0;]@{target}", name('k', (first + step) % size.kinds)));
+    }
+    match &parts[..] {
+        [part] => part.clone(),
+        _ => format!("all({})", parts.join(", ")),
+    }
 }
 
 const TWO_KINDS: &str = "kinds: a b\nshape A = all(a[0;]@A, b[0;]@A)\nshape B = nothing\n";
