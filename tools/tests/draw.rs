@@ -171,6 +171,25 @@ fn rows_stars_and_loose_cards_are_sound() {
 }
 
 #[test]
+fn extremes_are_sound() {
+    // One card with all links, to every other card but few in a row.
+    let hub = is_sound("hub", &sheet(&sheets::hub(1024, 64)));
+    assert!(hub.tally.left_out > 0);
+    let notes = hub.pages.iter().flat_map(|page| &page.texts);
+    let left_out = format!("Left out: {} links of cards", hub.tally.left_out);
+    assert!(notes.into_iter().any(|words| words.text.starts_with(&left_out)));
+    // Names and titles without an end, in other scripts, or empty.
+    let word = "endless".repeat(60);
+    let source = format!(
+        "title \"{word} {word}\"\nkinds: {word} b\nshape {word} = all({word}[1;1]@B, b[0;3]@B)\n\
+         shape B = nothing\ncard x \"{word}\"\ncard y \"{}\"\ncard z \"\"\n\
+         link x {word} y\nlink x b y\nlink x b z\nlink z b x\nbook x B\nbook y {word}\n",
+        "節目表".repeat(40)
+    );
+    is_sound("long names", &sheet(&source));
+}
+
+#[test]
 fn generated_sheets_are_sound() {
     let mut random = Random::new(41);
     for number in 0..40 {

@@ -127,6 +127,18 @@ pub fn star(count: usize) -> String {
     TWO_KINDS.to_string() + &cards(count) + &(1..count).map(link).collect::<String>()
 }
 
+/// One card that leads to 128 others by each of so many kinds.
+pub fn hub(count: usize, kinds: usize) -> String {
+    let names: Vec<String> = (0..kinds).map(|kind| format!("k{kind}")).collect();
+    let mut text = format!("kinds: {}\nshape A = nothing\n{}", names.join(" "), cards(count));
+    for (number, kind) in names.iter().enumerate() {
+        for step in 0..128 {
+            let _ = writeln!(text, "link c0 {kind} c{}", (number + step * 7) % count);
+        }
+    }
+    text
+}
+
 /// Cards without links.
 pub fn loose(count: usize) -> String {
     TWO_KINDS.to_string() + &cards(count)
