@@ -9,6 +9,8 @@ use super::wrap::{cut_off, wrap, Face};
 use crate::text::check::Sheet;
 use std::collections::{BTreeMap, BTreeSet};
 
+/// The most lines of a card that can't show all its links.
+const ENOUGH_LINES: usize = 72;
 /// The letters of the lines.
 pub const FACE: Face = Face {
     height: LIST,
@@ -93,17 +95,27 @@ impl Lists {
         kinds: BTreeMap<usize, Vec<usize>>,
         (room, most): Room,
     ) -> Vec<Line> {
+        let text = |(kind, targets): (&usize, &Vec<usize>)| {
+            let name = cut_off(&whole.sheet.text.kinds[*kind].text, room / 2.0, FACE);
+            let text = format!("{name} → {}", targets_text(whole, card, targets));
+            (*kind, targets.len(), wrap(&text, room - INDENT, FACE, usize::MAX))
+        };
+        let texts: Vec<(usize, usize, Vec<String>)> = kinds.iter().map(text).collect();
+        let needed: usize = texts.iter().map(|(_, _, texts)| texts.len()).sum();
+        // A card that can't show all its links leaves room for others beside it.
+        let most = if needed > most {
+            most.min(ENOUGH_LINES)
+        } else {
+            most
+        };
         let mut lines = Vec::new();
         let mut left_out = 0;
-        for (kind, targets) in kinds {
-            let name = cut_off(&whole.sheet.text.kinds[kind].text, room / 2.0, FACE);
-            let text = format!("{name} → {}", targets_text(whole, card, &targets));
-            let texts = wrap(&text, room - INDENT, FACE, usize::MAX);
+        for (kind, links, texts) in texts {
             if lines.len() + texts.len() > most {
-                left_out += targets.len();
+                left_out += links;
                 continue;
             }
-            self.listed += targets.len();
+            self.listed += links;
             lines.extend(numbered(texts, Some(kind)));
         }
         if left_out > 0 {
