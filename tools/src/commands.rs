@@ -31,9 +31,25 @@ const COMMANDS: &[Command] = &[
     Command {
         name: "draw",
         forms: &[&["FILE", "OUT.svg"]],
-        options: &[],
+        options: &[
+            Switch {
+                name: "--booked",
+                value: None,
+                about: "only what a booking touches",
+            },
+            Switch {
+                name: "--around",
+                value: Some("CARD"),
+                about: "only a card, by name or number, and what is linked with it",
+            },
+            Switch {
+                name: "--steps",
+                value: Some("N"),
+                about: "how many links away from CARD, 1 if it isn't given",
+            },
+        ],
         about: "draw a sheet and its typings",
-        more: "",
+        more: "A sheet that takes several pages is written as OUT-1.svg, OUT-2.svg and so on.",
         run: run_draw,
     },
     Command {
@@ -202,7 +218,10 @@ fn run_check(given: &Given) -> Result<Outcome, String> {
 fn run_draw(given: &Given) -> Result<Outcome, String> {
     let (file, out) = (given.at(0), given.at(1));
     let sheet = load_sheet(file, &read(file)?).map_err(told)?;
-    write(out, draw::draw(&sheet)?.as_bytes())?;
+    let choice = draw::choice::Choice::read(&sheet, &given.options)?;
+    for (name, page) in draw::draw(&sheet, choice).files(out) {
+        write(&name, page.as_bytes())?;
+    }
     Ok(Outcome::Fine)
 }
 
