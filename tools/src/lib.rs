@@ -1,7 +1,7 @@
-//! The other implementation of document 01 ("Prep sheet shapes"), written from that document alone.
+//! The other implementation of the format (docs/FORMAT.md), written from its text alone.
 //! It exists to be compared with the proved one, so it shares nothing with it.
 //!
-//! | module     | paragraph of document 01, or purpose                                        |
+//! | module     | section of docs/FORMAT.md, or purpose                                       |
 //! |------------|-----------------------------------------------------------------------------|
 //! | `numbers`  | card, kind and shape numbers: three lists, three types                      |
 //! | `refusal`  | a refusal's number, place and meaning                                       |
