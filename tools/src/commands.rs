@@ -1,201 +1,375 @@
-//! What each command does. An error is told in words; `false` is an outcome that a script should notice.
+//! What each command does. An error is told in words.
 
+use crate::files::{read, show, write};
+use crate::usage::{self, perhaps, Command, Given, Outcome, Switch};
 use prep_tools::numbers::{Card, Shape};
 use prep_tools::refusal::Refusal;
-use prep_tools::text::compile::{compile, Compiled};
-use prep_tools::text::parse::parse;
-use prep_tools::text::{check, explain, roles, write, Text};
-use prep_tools::typing::{bookings, Setting};
-use prep_tools::{cases, compare, draw, fit, generate, samples, sheet};
-use std::fs;
-use std::io::{self, Read, Write};
+use prep_tools::text::form::{form, Form};
+use prep_tools::text::load::{load_input, load_sheet, tell_refusal};
+use prep_tools::text::roots::Roots;
+use prep_tools::text::trouble::{Trouble, Why};
+use prep_tools::text::{machine, report, write as writing};
+use prep_tools::typing::Pair;
+use prep_tools::{cases, compare, draw, fit, generate, page, samples, sheet};
+use std::io;
 use std::path::Path;
 
+/// All commands.
+const COMMANDS: &[Command] = &[
+    Command {
+        name: "check",
+        forms: &[&["FILE"]],
+        options: &[Switch {
+            name: "--json",
+            value: None,
+            about: "write the outcome as JSON; tools/README.md tells the fields",
+        }],
+        about: "run a sheet and tell the outcome, or the fault, in words",
+        more: "Exit code: 0 if the bookings are met, 1 if they aren't, 2 if the file isn't a sheet.",
+        run: run_check,
+    },
+    Command {
+        name: "draw",
+        forms: &[&["FILE", "OUT.svg"]],
+        options: &[
+            Switch {
+                name: "--booked",
+                value: None,
+                about: "only what a booking touches",
+            },
+            Switch {
+                name: "--around",
+                value: Some("CARD"),
+                about: "only a card, by name or number, and what is linked with it",
+            },
+            Switch {
+                name: "--steps",
+                value: Some("N"),
+                about: "how many links away from CARD, 1 if it isn't given",
+            },
+        ],
+        about: "draw a sheet and its typings",
+        more: "A sheet that takes several pages is written as OUT-1.svg, OUT-2.svg and so on.",
+        run: run_draw,
+    },
+    Command {
+        name: "explain",
+        forms: &[
+            &["FILE"],
+            &["NUMBER", "PLACE", "FILE"],
+            &["50", "CARD", "SHAPE", "FILE"],
+        ],
+        options: &[],
+        about: "say what is wrong with a sheet, or what a refusal means for it",
+        more: "With FILE alone the exit code is 1 if something is wrong. NUMBER and PLACE are those of a refusal\n\
+               that some program printed for the sheet; the place of 50 is a card and a shape.",
+        run: run_explain,
+    },
+    Command {
+        name: "words",
+        forms: &[&["FILE", "OUT"]],
+        options: &[],
+        about: "text to words",
+        more: "Nothing is written for a text that is refused. Bookings that can't be met are no refusal of the text.",
+        run: run_words,
+    },
+    Command {
+        name: "text",
+        forms: &[&["FILE"]],
+        options: &[],
+        about: "words to text",
+        more: "Kinds, shapes and cards of words are named by their numbers. A text is written out evenly:\n\
+               names and titles stay, comments go, links are put in order.",
+        run: run_text,
+    },
+    Command {
+        name: "print",
+        forms: &[&["FILE"]],
+        options: &[],
+        about: "print the sheet",
+        more: "What is printed is what the sheet printer owes for the same words.",
+        run: run_print,
+    },
+    Command {
+        name: "fit",
+        forms: &[&[]],
+        options: &[],
+        about: "answer lines `T w w ... | shape | c c c` from standard input, by intervals",
+        more: "The words after T are those of a template; the counts are one per kind.",
+        run: run_fit,
+    },
+    Command {
+        name: "samples",
+        forms: &[&[]],
+        options: &[],
+        about: "print P1 to P12, each answer computed both ways",
+        more: "",
+        run: run_samples,
+    },
+    Command {
+        name: "fit-samples",
+        forms: &[&["SEED", "COUNT"]],
+        options: &[],
+        about: "print small samples, answered by enumeration of bags",
+        more: "",
+        run: run_fit_samples,
+    },
+    Command {
+        name: "cases",
+        forms: &[&["DIR", "SEED", "COUNT"]],
+        options: &[],
+        about: "write inputs as DIR/NAME and their texts as DIR/NAME.out",
+        more: "",
+        run: run_cases,
+    },
+    Command {
+        name: "stream",
+        forms: &[&["IN", "OUT", "SEED", "COUNT"]],
+        options: &[],
+        about: "write inputs, each after its length, and their texts, for stored cases",
+        more: "",
+        run: run_stream,
+    },
+    Command {
+        name: "compare",
+        forms: &[&["PROGRAM", "SEED", "COUNT"]],
+        options: &[],
+        about: "run PROGRAM on COUNT inputs and compare its text with ours",
+        more: "The exit code is 1 if texts differ.",
+        run: run_compare,
+    },
+    Command {
+        name: "page",
+        forms: &[&["FILE.md"]],
+        options: &[Switch {
+            name: "--printer",
+            value: Some("PROGRAM"),
+            about: "put the examples to a sheet printer too",
+        }],
+        about: "run every example of a page such as docs/FORMAT.md",
+        more: "The exit code is 1 if an answer differs from the page.",
+        run: run_page,
+    },
+    Command {
+        name: "longest",
+        forms: &[&["CARDS", "SHAPES"]],
+        options: &[],
+        about: "write an input on which each round strikes one pair until none is left",
+        more: "",
+        run: run_longest,
+    },
+];
+
 /// Does what the words ask for.
-pub fn run(words: &[&str], help: &str) -> Result<bool, String> {
-    match words {
-        ["words", file, out] => {
-            let (_, compiled) = compiled(file)?;
-            write_to(out, &compiled.files().bytes())?;
-        }
-        ["text", file] => write_to("-", write::text(&read_input(file)?)?.as_bytes())?,
-        ["check", file] => {
-            let sheet = check::run(file, &read_text(file)?)?;
-            write_to("-", sheet.report(file).as_bytes())?;
-            return Ok(sheet.not_met().is_none());
-        }
-        ["explain", file] => return explain_sheet(file),
-        ["explain", "50", card, shape, file] => {
-            let pair = (Card(number("card", card)?), Shape(number("shape", shape)?));
-            write_to("-", not_met(file, pair)?.as_bytes())?;
-        }
-        ["explain", refusal, place, file] => {
-            let refusal = Refusal::at(number("refusal", refusal)?, number("place", place)?);
-            write_to("-", explain_refusal(file, refusal)?.as_bytes())?;
-        }
-        ["draw", file, out] => {
-            let sheet = check::run(file, &read_text(file)?)?;
-            write_to(out, draw::draw(&sheet)?.as_bytes())?;
-        }
-        ["print", file] => write_to("-", sheet::print(&input_of(file)?).as_bytes())?,
-        ["fit"] => fit_lines()?,
-        ["samples"] => write_to("-", samples::table_text()?.as_bytes())?,
-        ["fit-samples", seed, count] => {
-            let text = samples::questions_text(number("seed", seed)?, number("count", count)?)?;
-            write_to("-", text.as_bytes())?;
-        }
-        ["stream", inputs, texts, seed, count] => {
-            let (inputs, texts) = (Path::new(inputs), Path::new(texts));
-            cases::stream(inputs, texts, number("seed", seed)?, number("count", count)?)?;
-        }
-        ["cases", folder, seed, count] => {
-            cases::write(Path::new(folder), number("seed", seed)?, number("count", count)?)?;
-        }
-        ["compare", program, seed, count] => {
-            let (seed, count) = (number("seed", seed)?, number("count", count)?);
-            let outcome = compare::compare(program, seed, count, &mut io::stdout())?;
-            return Ok(outcome.differ == 0);
-        }
-        ["longest", cards, shapes] => write_to("-", &longest(cards, shapes)?)?,
-        ["help"] | ["--help"] => write_to("-", help.as_bytes())?,
-        _ => return Err(format!("these words ask for nothing that is known\n{help}")),
-    }
-    Ok(true)
-}
-
-/// Whether a file holds a text.
-fn is_text(file: &str) -> bool {
-    file.ends_with(".txt")
-}
-
-/// A text and its words; a fault is told with its line and column.
-fn compiled(file: &str) -> Result<(Text, Compiled), String> {
-    let told = |fault: prep_tools::text::Fault| {
-        format!(
-            "{file}:{}:{}: {}",
-            fault.spot.line, fault.spot.column, fault.message
-        )
+pub fn run(words: &[&str]) -> Result<Outcome, String> {
+    let (first, rest) = match words {
+        [] => return Err(format!("COMMAND is missing\n{}", usage::help(COMMANDS))),
+        [first, rest @ ..] => (*first, rest),
     };
-    let text = parse(&read_text(file)?).map_err(told)?;
-    let compiled = compile(&text).map_err(told)?;
-    Ok((text, compiled))
-}
-
-/// The printer's input for a file of text or words.
-fn input_of(file: &str) -> Result<Vec<u8>, String> {
-    if is_text(file) {
-        return Ok(compiled(file)?.1.files().bytes());
-    }
-    read_input(file)
-}
-
-/// What is wrong with a sheet, if anything is.
-fn explain_sheet(file: &str) -> Result<bool, String> {
-    let input = input_of(file)?;
-    let both = match sheet::typings(&input) {
-        Ok(both) => both,
-        Err(refusal) => {
-            write_to("-", explain_refusal(file, refusal)?.as_bytes())?;
-            return Ok(false);
+    match (first, rest) {
+        ("--version" | "-V" | "version", []) => {
+            show(concat!("prep-tools ", env!("CARGO_PKG_VERSION"), "\n"))?;
         }
-    };
-    match both.smallest.0 {
-        prep_tools::typing::Smallest::Pairs(_) => write_to("-", b"nothing is wrong\n")?,
-        prep_tools::typing::Smallest::NotMet(card, shape) => {
-            write_to("-", not_met(file, (card, shape))?.as_bytes())?;
-            return Ok(false);
+        ("--help" | "-h" | "help", []) => show(usage::help(COMMANDS))?,
+        ("--help" | "-h" | "help", [name]) => show(command(name)?.help())?,
+        _ => {
+            let command = command(first)?;
+            if !rest.iter().any(|word| ["--help", "-h"].contains(word)) {
+                return (command.run)(&command.read(rest)?);
+            }
+            show(command.help())?;
         }
     }
-    Ok(true)
+    Ok(Outcome::Fine)
 }
 
-/// A refusal of the sheet in a file, in words.
-fn explain_refusal(file: &str, refusal: Refusal) -> Result<String, String> {
-    if is_text(file) {
-        let (_, compiled) = compiled(file)?;
-        return Ok(match explain::tell(&compiled, refusal) {
-            (Some(spot), message) => format!("{file}:{}:{}: {message}\n", spot.line, spot.column),
-            (None, message) => format!("{file}: {message}\n"),
-        });
-    }
-    let input = read_input(file)?;
-    Ok(match sheet::split(&input) {
-        Ok(files) => format!("{file}: {}\n", roles::tell(&files, refusal)),
-        Err(_) => format!("{file}: {}\n", roles::tell_input(&input)),
+/// The command with this name.
+fn command(name: &str) -> Result<&'static Command, String> {
+    let found = COMMANDS.iter().find(|command| command.name == name);
+    found.ok_or_else(|| {
+        let hint = perhaps(name, COMMANDS.iter().map(|command| command.name));
+        format!("no command is named {name}{hint}; prep-tools --help names them all")
     })
 }
 
-/// Refusal 50 of the sheet in a file, in words. Words are turned into a text first, for the sake of names.
-fn not_met(file: &str, pair: (Card, Shape)) -> Result<String, String> {
-    let source = if is_text(file) {
-        read_text(file)?
-    } else {
-        write::text(&read_input(file)?)?
+/// What is wrong with a file, as an error.
+fn told(trouble: Trouble) -> String {
+    trouble.to_string()
+}
+
+fn run_check(given: &Given) -> Result<Outcome, String> {
+    let (file, json) = (given.at(0), given.has("--json"));
+    let sheet = match load_sheet(file, &read(file)?) {
+        Ok(sheet) => sheet,
+        Err(trouble) if json => {
+            show(format!("{}\n", machine::trouble(&trouble)))?;
+            return Ok(Outcome::Failed);
+        }
+        Err(trouble) => return Err(told(trouble)),
     };
-    let text = parse(&source).map_err(|fault| format!("{file}: {fault}"))?;
-    let files = compile(&text)
-        .map_err(|fault| format!("{file}: {fault}"))?
-        .files();
-    let refused = |refusal: Refusal| format!("{file}: {refusal}");
-    let setting = Setting::read(&files.template, &files.script).map_err(refused)?;
-    let booked = bookings::read(&setting, &files.bookings).map_err(refused)?;
-    if pair.0 .0 >= setting.script.cards || pair.1 .0 >= setting.template.shapes() {
+    if json {
+        show(format!("{}\n", machine::outcome(&sheet, file)))?;
+    } else {
+        show(sheet.report(file))?;
+    }
+    Ok(noticed(sheet.not_met().is_some()))
+}
+
+fn run_draw(given: &Given) -> Result<Outcome, String> {
+    let (file, out) = (given.at(0), given.at(1));
+    let sheet = load_sheet(file, &read(file)?).map_err(told)?;
+    let choice = draw::choice::Choice::read(&sheet, &given.options)?;
+    for (name, page) in draw::draw(&sheet, choice).files(out) {
+        write(&name, page.as_bytes())?;
+    }
+    Ok(Outcome::Fine)
+}
+
+fn run_explain(given: &Given) -> Result<Outcome, String> {
+    match given.arguments[..] {
+        [file] => explain_sheet(file),
+        ["50", _, _] => {
+            Err(command("explain")?.wrong("the place of 50 is CARD and SHAPE; one of them is missing"))
+        }
+        [_, _, file] => {
+            let refusal = Refusal::at(given.number(0, "NUMBER")?, given.number(1, "PLACE")?);
+            let trouble = tell_refusal(file, &read(file)?, refusal);
+            if let Why::Fault(_) = trouble.why {
+                return Err(told(trouble));
+            }
+            show(format!("{trouble}\n"))?;
+            Ok(Outcome::Fine)
+        }
+        ["50", _, _, file] => {
+            let pair = (Card(given.number(1, "CARD")?), Shape(given.number(2, "SHAPE")?));
+            explain_pair(file, pair)
+        }
+        _ => Err(command("explain")?.wrong("only the place of 50 is a card and a shape")),
+    }
+}
+
+/// What is wrong with a sheet, if anything is.
+fn explain_sheet(file: &str) -> Result<Outcome, String> {
+    let wrong = match load_sheet(file, &read(file)?) {
+        Err(trouble) => format!("{trouble}\n"),
+        Ok(sheet) => match sheet.not_met() {
+            Some(pair) => report::not_met(&sheet, &Roots::new(&sheet.setting), file, pair),
+            None => {
+                show("nothing is wrong\n")?;
+                return Ok(Outcome::Fine);
+            }
+        },
+    };
+    show(wrong)?;
+    Ok(Outcome::Noticed)
+}
+
+/// Why a card can't have a shape.
+fn explain_pair(file: &str, pair: Pair) -> Result<Outcome, String> {
+    let sheet = load_sheet(file, &read(file)?).map_err(told)?;
+    if pair.0 .0 >= sheet.setting.script.cards || pair.1 .0 >= sheet.setting.template.shapes() {
         return Err(format!("the sheet in {file} has no such card or no such shape"));
     }
-    let message = explain::tell_not_met(&text, &setting, &booked, pair);
-    Ok(format!("{file}: {message}\n"))
+    show(report::not_met(&sheet, &Roots::new(&sheet.setting), file, pair))?;
+    Ok(Outcome::Fine)
+}
+
+fn run_words(given: &Given) -> Result<Outcome, String> {
+    let (file, out) = (given.at(0), given.at(1));
+    let bytes = read(file)?;
+    if form(&bytes) == Form::Words {
+        let trouble = load_sheet(file, &bytes).err();
+        let why = trouble.map_or("these words are a sheet already".to_string(), |why| {
+            why.to_string()
+        });
+        return Err(format!("the file {file} doesn't hold a text\n{why}"));
+    }
+    let sheet = load_sheet(file, &bytes).map_err(told)?;
+    write(out, &sheet.compiled.files().bytes())?;
+    Ok(Outcome::Fine)
+}
+
+fn run_text(given: &Given) -> Result<Outcome, String> {
+    let file = given.at(0);
+    let sheet = load_sheet(file, &read(file)?).map_err(told)?;
+    show(writing::sheet_text(&sheet))?;
+    Ok(Outcome::Fine)
+}
+
+fn run_print(given: &Given) -> Result<Outcome, String> {
+    let file = given.at(0);
+    let input = load_input(file, &read(file)?).map_err(told)?;
+    show(sheet::print(&input))?;
+    Ok(Outcome::Fine)
 }
 
 /// Answers the lines of standard input.
-fn fit_lines() -> Result<(), String> {
+fn run_fit(_: &Given) -> Result<Outcome, String> {
+    let text = String::from_utf8(read("-")?).map_err(|_| "standard input isn't a text".to_string())?;
     let mut out = String::new();
-    for (line, content) in read_text("-")?.lines().enumerate() {
+    for (line, content) in text.lines().enumerate() {
         out += &fit::lines::answer(content).map_err(|error| format!("line {}: {error}", line + 1))?;
         out.push('\n');
     }
-    write_to("-", out.as_bytes())
+    show(out)?;
+    Ok(Outcome::Fine)
 }
 
-fn longest(cards: &str, shapes: &str) -> Result<Vec<u8>, String> {
-    let (cards, shapes) = (
-        number("count of cards", cards)?,
-        number("count of shapes", shapes)?,
-    );
+fn run_samples(_: &Given) -> Result<Outcome, String> {
+    show(samples::table_text()?)?;
+    Ok(Outcome::Fine)
+}
+
+fn run_fit_samples(given: &Given) -> Result<Outcome, String> {
+    show(samples::questions_text(
+        given.number(0, "SEED")?,
+        given.number(1, "COUNT")?,
+    )?)?;
+    Ok(Outcome::Fine)
+}
+
+fn run_cases(given: &Given) -> Result<Outcome, String> {
+    cases::write(
+        Path::new(given.at(0)),
+        given.number(1, "SEED")?,
+        given.number(2, "COUNT")?,
+    )?;
+    Ok(Outcome::Fine)
+}
+
+fn run_stream(given: &Given) -> Result<Outcome, String> {
+    let (inputs, texts) = (Path::new(given.at(0)), Path::new(given.at(1)));
+    cases::stream(inputs, texts, given.number(2, "SEED")?, given.number(3, "COUNT")?)?;
+    Ok(Outcome::Fine)
+}
+
+fn run_compare(given: &Given) -> Result<Outcome, String> {
+    let (seed, count) = (given.number(1, "SEED")?, given.number(2, "COUNT")?);
+    let outcome = compare::compare(given.at(0), seed, count, &mut io::stdout())?;
+    Ok(noticed(outcome.differ > 0))
+}
+
+fn run_page(given: &Given) -> Result<Outcome, String> {
+    let file = given.at(0);
+    let text = String::from_utf8(read(file)?).map_err(|_| format!("{file} isn't a text"))?;
+    let right = page::run(file, &text, &given.options)?;
+    Ok(noticed(!right))
+}
+
+fn run_longest(given: &Given) -> Result<Outcome, String> {
+    let (cards, shapes) = (given.number(0, "CARDS")?, given.number(1, "SHAPES")?);
     if !(2..=1024).contains(&cards) || !(1..=32).contains(&shapes) {
         return Err("the cards must be 2 to 1024 and the shapes 1 to 32".to_string());
     }
-    Ok(generate::special::longest(cards, shapes).bytes())
+    show(generate::special::longest(cards, shapes).bytes())?;
+    Ok(Outcome::Fine)
 }
 
-/// A number among the words.
-fn number<T: std::str::FromStr>(what: &str, word: &str) -> Result<T, String> {
-    word.parse()
-        .map_err(|_| format!("the {what} isn't a number that fits: {word}"))
-}
-
-/// The bytes of a file, or of standard input for `-`.
-fn read_input(file: &str) -> Result<Vec<u8>, String> {
-    if file == "-" {
-        let mut bytes = Vec::new();
-        io::stdin()
-            .read_to_end(&mut bytes)
-            .map_err(|error| format!("standard input can't be read: {error}"))?;
-        return Ok(bytes);
+/// What a script should notice.
+fn noticed(something: bool) -> Outcome {
+    if something {
+        Outcome::Noticed
+    } else {
+        Outcome::Fine
     }
-    fs::read(file).map_err(|error| format!("the file {file} can't be read: {error}"))
-}
-
-/// The text of a file.
-fn read_text(file: &str) -> Result<String, String> {
-    String::from_utf8(read_input(file)?).map_err(|_| format!("the file {file} isn't a text"))
-}
-
-/// Writes a file, or standard output for `-`.
-fn write_to(file: &str, bytes: &[u8]) -> Result<(), String> {
-    if file == "-" {
-        return io::stdout()
-            .write_all(bytes)
-            .map_err(|error| format!("standard output can't be written: {error}"));
-    }
-    fs::write(file, bytes).map_err(|error| format!("the file {file} can't be written: {error}"))
 }

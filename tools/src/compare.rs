@@ -4,7 +4,7 @@ use crate::generate::{self, Case};
 use crate::sheet;
 use std::io::Write;
 use std::path::PathBuf;
-use std::process::{Command, Stdio};
+use std::process::{Command, Output, Stdio};
 use std::{env, fs, process, thread};
 
 /// How many inputs were compared, and for how many the texts differ.
@@ -44,8 +44,8 @@ pub fn compare(program: &str, seed: u64, count: usize, tell: &mut dyn Write) -> 
     Ok(outcome)
 }
 
-/// What the program writes for this input.
-fn run(program: &str, input: &[u8]) -> Result<Vec<u8>, String> {
+/// What the program writes for this input. Words after the first in `program` are its arguments.
+pub fn run(program: &str, input: &[u8]) -> Result<Vec<u8>, String> {
     let mut words = program.split_whitespace();
     let name = words.next().ok_or("no program is named")?;
     let mut child = Command::new(name)
@@ -60,9 +60,18 @@ fn run(program: &str, input: &[u8]) -> Result<Vec<u8>, String> {
         scope.spawn(move || stdin.map(|mut pipe| pipe.write_all(input)));
         let output = child.wait_with_output();
         output
-            .map(|output| output.stdout)
+            .map(written)
             .map_err(|error| format!("{name} can't be waited for: {error}"))
     })
+}
+
+/// What a program wrote. If it ended badly, a line that no sheet has says how, so that its text differs.
+fn written(output: Output) -> Vec<u8> {
+    let mut text = output.stdout;
+    if !output.status.success() {
+        text.extend(format!("{}\n", output.status).into_bytes());
+    }
+    text
 }
 
 /// Keeps an input in a file of the folder for temporary files.

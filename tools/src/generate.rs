@@ -6,7 +6,7 @@
 //! | `scripts`  | scripts derived from the shapes, and loose ones                   |
 //! | `bookings` | bookings that are met, and others                                 |
 //! | `heavy`    | the sheets that take longest, for timing                          |
-//! | `special`  | the sheets of document 01, long chains, everything at its limit   |
+//! | `special`  | the worked sheet, long chains       , everything at its limit   |
 //! | `layout`   | where the parts, links and groups of a template stand             |
 //! | `damage`   | faults aimed at one refusal, or several at once                   |
 //! | `knots`    | faults that meet at one place                                     |
@@ -85,7 +85,7 @@ pub const MIDDLE: Scale = Scale {
     links: 1500,
     bookings: 60,
 };
-/// Up to the limits of document 01.
+/// Up to the limits of the format.
 pub const FULL: Scale = Scale {
     name: "full",
     kinds: 64,

@@ -1,7 +1,7 @@
-//! The other implementation of document 01 ("Prep sheet shapes"), written from that document alone.
+//! The other implementation of the format (docs/FORMAT.md), written from its text alone.
 //! It exists to be compared with the proved one, so it shares nothing with it.
 //!
-//! | module     | paragraph of document 01, or purpose                                        |
+//! | module     | section of docs/FORMAT.md, or purpose                                       |
 //! |------------|-----------------------------------------------------------------------------|
 //! | `numbers`  | card, kind and shape numbers: three lists, three types                      |
 //! | `refusal`  | a refusal's number, place and meaning                                       |
@@ -17,6 +17,7 @@
 //! | `compare`  | runs another program on random inputs and compares its text with ours       |
 //! | `text`     | sheets as readable text: to words and back, refusals in words               |
 //! | `draw`     | a sheet and its typings as a drawing                                        |
+//! | `page`     | runs the examples of a page, such as docs/FORMAT.md                         |
 
 pub mod cases;
 pub mod compare;
@@ -24,6 +25,7 @@ pub mod draw;
 pub mod fit;
 pub mod generate;
 pub mod numbers;
+pub mod page;
 pub mod random;
 pub mod refusal;
 pub mod samples;

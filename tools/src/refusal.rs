@@ -1,4 +1,4 @@
-//! A refusal: document 01's number and the index of the word at fault.
+//! A refusal: its number in docs/FORMAT.md and the index of the word at fault.
 //! Only 50 is not one of these, because its place is a card and a shape (see `typing::Smallest`).
 
 use std::fmt;
@@ -6,7 +6,7 @@ use std::fmt;
 /// Why an operation turned its input down.
 #[derive(Clone, Copy, PartialEq, Eq, Debug)]
 pub struct Refusal {
-    /// The number that document 01 gives to this fault.
+    /// The number of this fault.
     pub number: u16,
     /// The index of the word at fault, counted in its own file.
     pub place: usize,
@@ -48,7 +48,7 @@ impl Refusal {
             42 => "the shape isn't below the count of shapes",
             43 => "a count is over 8,192",
             60 => "the input ends early, goes on, or passes 65,536 bytes",
-            _ => "a refusal that document 01 doesn't know",
+            _ => "a refusal that isn't known",
         }
     }
 }

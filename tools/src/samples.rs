@@ -1,4 +1,4 @@
-//! The count samples P1 to P12 of document 01, and random small samples answered by enumeration of bags.
+//! The count samples P1 to P12 of docs/FORMAT.md, and random small samples answered by enumeration of bags.
 
 use crate::fit;
 use crate::generate::parts::{draw, small_bounds, PartMaker};
@@ -7,18 +7,18 @@ use crate::random::Random;
 use crate::template::{self, Link, Part, Template};
 use std::collections::BTreeMap;
 
-/// One entry of the table: counts of kinds a and b under a part, and whether document 01 says that they fit.
+/// One entry of the table: counts of kinds a and b under a part, and whether the page says that they fit.
 #[derive(Clone, Debug)]
 pub struct Sample {
     /// The label, P1 to P12.
     pub label: &'static str,
-    /// The part, as document 01 writes it.
+    /// The part, as the page writes it.
     pub text: &'static str,
     /// The part.
     pub part: Part,
     /// The counts of a and b.
     pub counts: [u16; 2],
-    /// What document 01 says.
+    /// What the page says.
     pub fits: bool,
 }
 
@@ -43,7 +43,7 @@ pub struct Question {
     pub counts: Vec<u16>,
 }
 
-/// The table of document 01.
+/// The table of the page.
 pub fn table() -> Vec<Sample> {
     let a = |low, high| link(0, low, high);
     let b = |low, high| link(1, low, high);
@@ -109,7 +109,7 @@ pub fn table_text() -> Result<String, String> {
         );
         if (by_intervals, by_bags) != (sample.fits, sample.fits) {
             return Err(format!(
-                "{line}: document 01 says {}, intervals say {}, enumeration says {}",
+                "{line}: the page says {}, intervals say {}, enumeration says {}",
                 yes_or_no(sample.fits),
                 yes_or_no(by_intervals),
                 yes_or_no(by_bags)

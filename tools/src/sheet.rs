@@ -91,7 +91,7 @@ fn sheet_text(both: &Both) -> String {
 }
 
 /// A line per card: its shapes ascending, a space before each.
-fn card_lines(grid: &[u8], shapes: u16) -> String {
+pub fn card_lines(grid: &[u8], shapes: u16) -> String {
     let mut text = String::new();
     for (card, row) in grid.chunks(usize::from(shapes)).enumerate() {
         let _ = write!(text, "card {card}:");

@@ -1,5 +1,5 @@
 //! *Read a template*: the words of a template become a list of parts, one per shape, or the first fault is told.
-//! Refusals 1 to 12, in the order of document 01: left to right, shape by shape.
+//! Refusals 1 to 12, in the order of docs/FORMAT.md: left to right, shape by shape.
 
 use crate::numbers::{Kind, Shape};
 use crate::refusal::Refusal;

@@ -1,23 +1,53 @@
 //! The text form of a sheet: kinds, shapes and cards by name. TEXT-FORM.md tells how it is written.
 //!
-//! | here      | what                                                                    |
-//! |-----------|-------------------------------------------------------------------------|
-//! | `tokens`  | cuts a text into tokens, each with its line and column                  |
-//! | `parse`   | reads the lines of a text                                               |
-//! | `compile` | text to words; for each word, where it comes from                       |
-//! | `write`   | words to text                                                           |
-//! | `roles`   | what the word at a place of a file is for                               |
-//! | `explain` | a refusal told in words, with the word at fault and where it stands     |
-//! | `check`   | runs the sheet of a text and tells the outcome in words                 |
-//! | `reasons` | why a card's links don't fit a shape, and who asks for a pair           |
+//! | here         | what                                                                       |
+//! |--------------|----------------------------------------------------------------------------|
+//! | `quotations` | titles: how they are read and written                                      |
+//! | `brackets`   | which brackets are open, and how deep                                      |
+//! | `tokens`     | cuts a text into tokens, each with its line and column                     |
+//! | `parse`      | reads the lines of a text                                                  |
+//! | `nearest`    | the known word that was perhaps meant by an unknown one                    |
+//! | `compile`    | text to words; for each word, where it comes from                          |
+//! | `form`       | whether a file holds text or words                                         |
+//! | `load`       | loads a sheet from the bytes of a file, be they text or words              |
+//! | `trouble`    | why a file isn't a sheet                                                   |
+//! | `told`       | a refusal with the word at fault, what it is for and where it stands       |
+//! | `roles`      | what the word at a place of a file is for                                  |
+//! | `explain`    | a refusal of a text's words                                                |
+//! | `hints`      | what a refusal means for the text that the words come from                 |
+//! | `check`      | a sheet that was loaded and run                                            |
+//! | `write`      | a sheet as text                                                            |
+//! | `costs`      | how far counts are from those that a part takes                            |
+//! | `misfit`     | what a card's links lack for a shape                                       |
+//! | `roots`      | which card is to blame if another can't have a shape                       |
+//! | `reasons`    | why a card can't have a shape, and who asks for a pair                     |
+//! | `sentences`  | reasons in words                                                           |
+//! | `report`     | the outcome of a sheet in words                                            |
+//! | `json`       | writes JSON                                                                |
+//! | `machine`    | the outcome of a sheet as JSON                                             |
 
+pub mod brackets;
 pub mod check;
 pub mod compile;
+pub mod costs;
 pub mod explain;
+pub mod form;
+pub mod hints;
+pub mod json;
+pub mod load;
+pub mod machine;
+pub mod misfit;
+pub mod nearest;
 pub mod parse;
+pub mod quotations;
 pub mod reasons;
+pub mod report;
 pub mod roles;
+pub mod roots;
+pub mod sentences;
 pub mod tokens;
+pub mod told;
+pub mod trouble;
 pub mod write;
 
 use std::fmt;

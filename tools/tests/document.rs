@@ -1,4 +1,4 @@
-//! What document 01 says outright: its sheet with both booking lists, its scripts, and the samples P1 to P12.
+//! What the format says outright: the worked sheet with both booking lists, its scripts, and the samples P1 to P12.
 
 use prep_tools::fit;
 use prep_tools::generate::special::{document, DOCUMENT_SCRIPT, DOCUMENT_TEMPLATE};
@@ -106,7 +106,7 @@ fn the_samples_by_intervals_and_by_enumeration() {
 
 #[test]
 fn a_template_that_is_read_and_written_is_the_same() {
-    let read = template::read(&DOCUMENT_TEMPLATE).expect("document 01's template is well-formed");
+    let read = template::read(&DOCUMENT_TEMPLATE).expect("the worked sheet's template is well-formed");
     assert_eq!((read.kinds, read.shapes()), (2, 2));
     assert_eq!(template::write(&read), DOCUMENT_TEMPLATE);
 }

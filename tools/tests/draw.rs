@@ -1,18 +1,36 @@
-//! Drawings: no arrow runs through a card, all cards and arrows are there, and what has to be marked is.
+//! Drawings: no arrow runs through a card, no text stands over a text, all cards and links are there, and what has
+//! to be marked is. This holds for sheets of all sizes.
 
-use prep_tools::draw::layout::{layout, Layout, Rect};
-use prep_tools::draw::verify::arrows_through_cards;
-use prep_tools::draw::{draw, MOST_CARDS, MOST_LINKS};
-use prep_tools::generate::{derived, loose, SMALL, TINY};
+mod sheets;
+
+use prep_tools::draw::choice::Choice;
+use prep_tools::draw::layout::{Layout, Rect};
+use prep_tools::draw::page::{HEIGHT, WIDTH};
+use prep_tools::draw::verify::{arrows_through_cards, texts_over_texts};
+use prep_tools::draw::{draw, Drawing};
+use prep_tools::generate::{self, derived, SMALL, TINY};
 use prep_tools::random::Random;
 use prep_tools::text::check::{run, Sheet};
 use prep_tools::text::write;
+use sheets::Size;
 
 const PROGRAMME: &str = include_str!("../../examples/prep/programme.txt");
 const DRAFT: &str = include_str!("../../examples/prep/draft.txt");
 
 fn sheet(source: &str) -> Sheet {
     run("x.txt", source).expect("the text is a sheet")
+}
+
+/// The one page of a drawing.
+fn page(drawing: &Drawing) -> &str {
+    assert_eq!(drawing.pages.len(), 1);
+    &drawing.pages[0].svg
+}
+
+/// Its picture, with the scale of it.
+fn picture(drawing: &Drawing) -> &(Layout, f64) {
+    assert_eq!(drawing.pages.len(), 1);
+    drawing.pages[0].picture.as_ref().expect("the page has a picture")
 }
 
 fn apart(one: &Rect, two: &Rect) -> bool {
@@ -23,9 +41,7 @@ fn apart(one: &Rect, two: &Rect) -> bool {
 }
 
 /// What holds of every picture.
-fn is_sound(sheet: &Sheet, layout: &Layout) {
-    assert_eq!(layout.blocks.len(), sheet.text.cards.len());
-    assert_eq!(layout.routes.len(), sheet.setting.script.links.len());
+fn picture_is_sound(layout: &Layout) {
     assert_eq!(arrows_through_cards(layout), []);
     let places: Vec<Rect> = layout.blocks.iter().map(|block| block.body).collect();
     for (number, place) in places.iter().enumerate() {
@@ -45,18 +61,49 @@ fn is_sound(sheet: &Sheet, layout: &Layout) {
     }
 }
 
+/// What holds of every drawing of a whole sheet.
+fn is_sound(name: &str, sheet: &Sheet) -> Drawing {
+    let drawing = draw(sheet, Choice::All);
+    let tally = drawing.tally;
+    let links = sheet.setting.script.links.len();
+    assert_eq!(tally.arrows + tally.listed + tally.left_out, links, "{name}");
+    let mut cards = Vec::new();
+    for (number, page) in (1..).zip(&drawing.pages) {
+        for words in &page.texts {
+            let Rect { x, y, width, height } = words.place;
+            let inside = x >= 0.0 && y >= 0.0 && x + width <= WIDTH && y + height <= HEIGHT;
+            assert!(inside, "{name}, page {number}: {words:?} isn't on the page");
+        }
+        let over = texts_over_texts(&page.texts);
+        assert!(over.is_empty(), "{name}, page {number}: {:?}", over[0]);
+        if let Some((layout, scale)) = &page.picture {
+            assert!(*scale > 0.5, "{name}, page {number}: {scale}");
+            picture_is_sound(layout);
+            cards.extend(layout.blocks.iter().map(|block| block.card));
+        }
+    }
+    cards.sort_unstable();
+    assert!(cards.into_iter().eq(0..sheet.text.cards.len()), "{name}");
+    drawing
+}
+
 #[test]
-fn no_arrow_of_the_example_runs_through_a_card() {
+fn the_example_is_sound_and_legible() {
     for source in [PROGRAMME, DRAFT] {
         let sheet = sheet(source);
         assert_eq!(sheet.text.cards.len(), 41);
-        is_sound(&sheet, &layout(&sheet, 1.8));
+        let drawing = is_sound("the example", &sheet);
+        assert_eq!(drawing.tally.arrows, sheet.text.links.len());
+        // A title has letters of 3.6 mm times the scale.
+        let (_, scale) = picture(&drawing);
+        assert!(*scale > 0.7, "{scale}");
     }
 }
 
 #[test]
 fn an_arrow_through_a_card_is_found() {
-    let mut layout = layout(&sheet(PROGRAMME), 1.8);
+    let drawing = draw(&sheet(PROGRAMME), Choice::All);
+    let (mut layout, _) = picture(&drawing).clone();
     let route = layout.routes.iter().find(|route| route.points.len() > 2);
     let corner = route.expect("some arrow has a corner").points[1];
     let body = &mut layout.blocks[40].body;
@@ -65,43 +112,117 @@ fn an_arrow_through_a_card_is_found() {
 }
 
 #[test]
-fn forty_cards_fit_a_page_in_readable_letters() {
-    let sheet = sheet(PROGRAMME);
-    let layout = layout(&sheet, 1.8);
-    // The picture's room on the page; a title has letters of 3.6 mm times the scale.
-    let scale = (394.0 / layout.width).min(218.0 / layout.height);
-    assert!(scale > 0.7, "{scale}");
+fn a_text_over_a_text_is_found() {
+    let mut texts = draw(&sheet(PROGRAMME), Choice::All).pages[0].texts.clone();
+    let place = texts[20].place;
+    texts[40].place.x = place.x + place.width / 2.0;
+    texts[40].place.y = place.y;
+    assert!(!texts_over_texts(&texts).is_empty());
 }
 
 #[test]
-fn no_arrow_of_a_random_sheet_runs_through_a_card() {
+fn rundowns_of_all_sizes_are_sound() {
+    for (cards, most) in [(5, 1), (41, 1), (100, 4), (160, 5), (400, 10), (1024, 25)] {
+        let drawing = is_sound(&format!("a rundown of {cards}"), &sheet(&sheets::rundown(cards)));
+        assert_eq!(drawing.tally.left_out, 0);
+        let pages = drawing.pages.len();
+        assert!(pages <= most, "{cards} cards take {pages} pages");
+    }
+}
+
+#[test]
+fn random_sheets_of_all_sizes_are_sound() {
+    let mut random = Random::new(7);
+    for (cards, links, kinds, shapes) in [
+        (1, 3, 3, 2),
+        (5, 8, 3, 4),
+        (12, 8192, 64, 32),
+        (30, 40, 12, 32),
+        (41, 80, 8, 6),
+        (60, 90, 64, 6),
+        (100, 150, 20, 14),
+        (160, 480, 8, 16),
+        (400, 900, 64, 32),
+        (1024, 8192, 64, 32),
+    ] {
+        let size = Size {
+            cards,
+            links,
+            kinds,
+            shapes,
+        };
+        let sheet = sheet(&sheets::random(&mut random, size));
+        let drawing = is_sound(&format!("{size:?}"), &sheet);
+        assert_eq!(drawing.tally.left_out, 0, "{size:?}");
+    }
+}
+
+#[test]
+fn rows_stars_and_loose_cards_are_sound() {
+    for count in [2, 41, 160, 400, 1024] {
+        for (name, source) in [
+            ("row", sheets::row(count)),
+            ("star", sheets::star(count)),
+            ("loose", sheets::loose(count)),
+        ] {
+            is_sound(&format!("{name} of {count}"), &sheet(&source));
+        }
+    }
+}
+
+#[test]
+fn extremes_are_sound() {
+    // One card with all links, to every other card but few in a row.
+    let hub = is_sound("hub", &sheet(&sheets::hub(1024, 64)));
+    assert!(hub.tally.left_out > 0);
+    let notes = hub.pages.iter().flat_map(|page| &page.texts);
+    let left_out = format!("Left out: {} links of cards", hub.tally.left_out);
+    assert!(notes.into_iter().any(|words| words.text.starts_with(&left_out)));
+    // Names and titles without an end, in other scripts, or empty.
+    let word = "endless".repeat(60);
+    let source = format!(
+        "title \"{word} {word}\"\nkinds: {word} b\nshape {word} = all({word}[1;1]@B, b[0;3]@B)\n\
+         shape B = nothing\ncard x \"{word}\"\ncard y \"{}\"\ncard z \"\"\n\
+         link x {word} y\nlink x b y\nlink x b z\nlink z b x\nbook x B\nbook y {word}\n",
+        "節目表".repeat(40)
+    );
+    is_sound("long names", &sheet(&source));
+}
+
+#[test]
+fn generated_sheets_are_sound() {
     let mut random = Random::new(41);
-    let mut drawn = 0;
-    for number in 0..60 {
+    for number in 0..40 {
         let scale = if number % 3 == 0 { SMALL } else { TINY };
         let files = if number % 2 == 0 {
-            loose(&mut random, scale)
+            generate::loose(&mut random, scale)
         } else {
             derived(&mut random, scale)
         };
         let text = write::text(&files.bytes()).expect("a generated sheet is well-formed");
-        let sheet = sheet(&text);
-        let (cards, links) = (sheet.text.cards.len(), sheet.text.links.len());
-        if (1..=MOST_CARDS).contains(&cards) && links <= MOST_LINKS {
-            is_sound(&sheet, &layout(&sheet, 1.8));
-            drawn += 1;
-        }
+        is_sound(&format!("generated sheet {number}"), &sheet(&text));
     }
-    assert!(drawn > 40, "only {drawn} sheets were drawn");
+}
+
+#[test]
+fn a_row_is_folded() {
+    let drawing = draw(&sheet(&sheets::row(60)), Choice::All);
+    let (layout, _) = picture(&drawing);
+    let ratio = layout.width / layout.height;
+    assert!(ratio > 1.0 && ratio < 2.5, "{ratio}");
 }
 
 #[test]
 fn each_mark_is_drawn() {
-    let met = draw(&sheet(PROGRAMME)).expect("the sheet is drawn");
+    let met = draw(&sheet(PROGRAMME), Choice::All);
+    let met = page(&met);
     assert!(met.contains(">no shape<") && met.contains("url(#hatch)"));
     assert!(met.contains("Smallest typing: 38 pairs, each met."));
-    let not_met = draw(&sheet(DRAFT)).expect("the sheet is drawn");
+    assert!(!met.contains("the unmet pair of 50"));
+    let not_met = draw(&sheet(DRAFT), Choice::All);
+    let not_met = page(&not_met);
     assert!(not_met.contains("“Guest to be found” can't be Guest (50)."));
+    assert!(not_met.contains("the unmet pair of 50"));
     for kind in [
         "opens", "host", "next", "guest", "film", "music", "line", "source",
     ] {
@@ -111,9 +232,42 @@ fn each_mark_is_drawn() {
 }
 
 #[test]
+fn a_choice_of_cards_says_what_is_left_out() {
+    let sheet = sheet(PROGRAMME);
+    let around = Choice::read(&sheet, &["--around", "quiz"]).expect("there is such a card");
+    let drawing = draw(&sheet, around);
+    let text = page(&drawing);
+    assert!(text.contains("Drawn: 3 of 41 cards, “Quiz” (12) and those at most a link away from it."));
+    assert!(text.contains("Left out: 38 other cards and their 4"));
+    assert!(text.contains("(not\u{a0}drawn)"));
+    let booked = draw(&sheet, Choice::read(&sheet, &["--booked"]).expect("an option"));
+    assert!(page(&booked).contains("those that a booking touches."));
+    assert!(!page(&booked).contains(">Quiz<"));
+    let far = Choice::read(&sheet, &["--around", "12", "--steps", "3"]);
+    assert_eq!(far, Ok(Choice::Around(12, 3)));
+    assert!(Choice::read(&sheet, &["--around", "nobody"]).is_err());
+    assert!(Choice::read(&sheet, &["--wide"]).is_err());
+}
+
+#[test]
+fn pages_have_files_of_their_own() {
+    let drawing = draw(&sheet(&sheets::rundown(400)), Choice::All);
+    let count = drawing.pages.len();
+    let files = drawing.files("out.svg");
+    assert_eq!((files.len(), files[1].0.as_str()), (count, "out-2.svg"));
+    assert!(files[1].1.contains(&format!(">page 2 of {count}<")));
+    let stacked = &drawing.files("-")[..];
+    assert_eq!(stacked.len(), 1);
+    assert_eq!(stacked[0].1.matches("<svg ").count(), count + 1);
+    let one = draw(&sheet(PROGRAMME), Choice::All).files("out.svg");
+    assert_eq!((one.len(), one[0].0.as_str()), (1, "out.svg"));
+}
+
+#[test]
 fn signs_with_a_meaning_are_written_out() {
     let source = "kinds: a\nshape A = nothing\ncard x \"R & B <live>\"\n";
-    let drawing = draw(&sheet(source)).expect("the sheet is drawn");
-    assert!(drawing.contains(">R &amp; B &lt;live&gt;<"));
-    assert!(draw(&sheet("kinds: a\nshape A = nothing\n")).is_err());
+    let drawing = draw(&sheet(source), Choice::All);
+    assert!(page(&drawing).contains(">R &amp; B &lt;live&gt;<"));
+    let empty = draw(&sheet("kinds: a\nshape A = nothing\n"), Choice::All);
+    assert!(page(&empty).contains("0 cards, 0 links."));
 }

@@ -128,3 +128,185 @@ fn wrong_words_are_an_error_in_words() {
         assert!(String::from_utf8_lossy(&output.stderr).starts_with("prep-tools: "));
     }
 }
+
+/// Each command with its arguments.
+const COMMANDS: [(&str, &[&str]); 13] = [
+    ("check", &["FILE"]),
+    ("draw", &["FILE", "OUT.svg"]),
+    ("explain", &["FILE"]),
+    ("words", &["FILE", "OUT"]),
+    ("text", &["FILE"]),
+    ("print", &["FILE"]),
+    ("fit", &[]),
+    ("samples", &[]),
+    ("fit-samples", &["SEED", "COUNT"]),
+    ("cases", &["DIR", "SEED", "COUNT"]),
+    ("stream", &["IN", "OUT", "SEED", "COUNT"]),
+    ("compare", &["PROGRAM", "SEED", "COUNT"]),
+    ("longest", &["CARDS", "SHAPES"]),
+];
+
+fn error(words: &[&str]) -> String {
+    let output = run(words);
+    assert_eq!(output.status.code(), Some(2), "{words:?}");
+    String::from_utf8_lossy(&output.stderr).into_owned()
+}
+
+#[test]
+fn a_missing_argument_is_named() {
+    for (command, arguments) in COMMANDS {
+        for (count, name) in arguments.iter().enumerate() {
+            let mut words = vec![command];
+            words.extend(vec!["1"; count]);
+            let start = format!("prep-tools: {command}: {name} is missing\n  prep-tools {command}");
+            let told = error(&words);
+            assert!(told.starts_with(&start), "{told}");
+        }
+    }
+    assert!(error(&[]).starts_with("prep-tools: COMMAND is missing\n"));
+    assert!(error(&["explain", "10", "5"]).contains("FILE is missing"));
+    assert!(error(&["explain", "50", "1", "x"]).contains("CARD and SHAPE"));
+    assert!(error(&["explain", "10", "1", "2", "x"]).contains("only the place of 50"));
+    assert!(error(&["explain", "x", "1", "y"]).contains("NUMBER isn't a number that fits: x"));
+    assert!(error(&["check", "x", "y"]).contains("y is one argument too many"));
+    assert!(error(&["chek", "x"]).contains("no command is named chek, perhaps check"));
+    assert!(error(&["check", "--jsn", "x"]).contains("no option --jsn, perhaps --json"));
+}
+
+#[test]
+fn each_command_has_help() {
+    let all = text(&run(&["--help"]));
+    assert_eq!(all, text(&run(&["help"])));
+    for (command, _) in COMMANDS {
+        let call = format!("prep-tools {command}");
+        assert!(all.contains(&call), "{all}");
+        for words in [
+            &[command, "--help"][..],
+            &[command, "x", "-h"],
+            &["help", command],
+        ] {
+            let output = run(words);
+            assert!(output.status.success());
+            assert!(text(&output).starts_with(&format!("  {call}")), "{words:?}");
+            assert!(text(&output).lines().all(|line| line.len() < 120));
+        }
+    }
+    let version = format!("prep-tools {}\n", env!("CARGO_PKG_VERSION"));
+    assert_eq!(text(&run(&["--version"])), version);
+}
+
+/// A text whose booking is met, with a title that has quotation marks.
+const SHEET: &str = "\
+title \"The \\\"hour\\\"\"
+kinds: guest
+shape Item = guest[1;2]@Guest
+shape Guest = nothing
+card quiz \"The quiz\"
+card ann
+link quiz guest ann
+book quiz Item
+";
+
+#[test]
+fn text_and_words_serve_alike_whatever_their_names() {
+    let folder = folder("alike");
+    // The names say the opposite of what is in the files.
+    let (text_file, words_file) = (folder.join("sheet.bin"), folder.join("sheet.txt"));
+    let (in_text, in_words) = (text_file.to_string_lossy(), words_file.to_string_lossy());
+    for (source, code) in [(SHEET.to_string(), 0), (SHEET.replace("[1;2]", "[2;2]"), 1)] {
+        fs::write(&text_file, &source).expect("the file can be written");
+        assert!(run(&["words", &in_text, &in_words]).status.success());
+        let printed = text(&run(&["print", &in_text]));
+        assert!(printed.starts_with("largest 2 "));
+        assert_eq!(text(&run(&["print", &in_words])), printed);
+        for file in [&in_text, &in_words] {
+            assert_eq!(run(&["check", file]).status.code(), Some(code));
+            assert_eq!(run(&["check", file, "--json"]).status.code(), Some(code));
+            assert_eq!(run(&["explain", file]).status.code(), Some(code));
+            let out = folder.join("out.svg");
+            assert!(run(&["draw", file, &out.to_string_lossy()]).status.success());
+            let drawing = fs::read_to_string(&out).expect("the drawing is there");
+            assert!(drawing.starts_with("<svg"));
+        }
+        let written = text(&run(&["text", &in_text]));
+        assert!(
+            written.starts_with("title \"The \\\"hour\\\"\"\n\nkinds: guest\n"),
+            "{written}"
+        );
+        assert!(text(&run(&["text", &in_words])).starts_with("kinds: kind0\n"));
+    }
+    assert!(error(&["words", &in_words, "-"]).contains("doesn't hold a text"));
+    fs::remove_dir_all(folder).expect("the folder can be removed");
+}
+
+#[test]
+fn words_of_a_refused_text_are_not_written() {
+    let folder = folder("refused");
+    let (file, out) = (folder.join("sheet"), folder.join("out"));
+    let (file_name, out_name) = (file.to_string_lossy(), out.to_string_lossy());
+    for (source, told) in [
+        (SHEET.replace("[1;2]", "[2;1]"), ":3:20: refused 10 5: "),
+        (SHEET.replace("[1;2]", "[1;2"), ":3:19: this `[` is never closed"),
+    ] {
+        fs::write(&file, source).expect("the file can be written");
+        for command in ["words", "draw"] {
+            let message = error(&[command, &file_name, &out_name]);
+            assert!(message.contains(told), "{message}");
+        }
+        assert!(!out.exists());
+        assert!(error(&["check", &file_name]).contains(told));
+        assert!(error(&["text", &file_name]).contains(told));
+        let json = run(&["check", "--json", &file_name]);
+        assert_eq!((json.status.code(), json.stderr.len()), (Some(2), 0));
+        assert!(text(&json).starts_with("{\"file\":"));
+        let explained = run(&["explain", &file_name]);
+        assert_eq!(explained.status.code(), Some(1));
+        assert!(text(&explained).contains(told));
+    }
+    fs::remove_dir_all(folder).expect("the folder can be removed");
+}
+
+#[test]
+fn a_refusal_is_explained() {
+    let folder = folder("explain");
+    let file = folder.join("sheet");
+    let name = file.to_string_lossy();
+    fs::write(&file, SHEET).expect("the file can be written");
+    let told = |words: &[&str]| text(&run(words));
+    assert!(told(&["explain", "10", "5", &name]).contains(":3:20: refused 10 5: "));
+    let pair = told(&["explain", "50", "0", "1", &name]);
+    assert!(
+        pair.contains(
+            ":5:6: The quiz can't be a Guest: no guest wanted, 1 there\n  no booking asks for this\n"
+        ),
+        "{pair}"
+    );
+    assert!(told(&["explain", "50", "1", "1", &name]).contains(":6:6: ann can be a Guest\n"));
+    assert!(error(&["explain", "50", "2", "0", &name]).contains("has no such card or no such shape"));
+    assert_eq!(told(&["explain", &name]), "nothing is wrong\n");
+    fs::write(&file, SHEET.replace("[1;2]", "[1;2")).expect("the file can be written");
+    assert!(error(&["explain", "10", "5", &name]).contains(":3:19: this `[` is never closed"));
+    fs::remove_dir_all(folder).expect("the folder can be removed");
+}
+
+#[test]
+fn twenty_thousand_brackets_are_told_and_not_a_crash() {
+    let folder = folder("deep");
+    let file = folder.join("sheet");
+    let deep = format!("kinds: a\nshape A = {}", "(".repeat(20_000));
+    fs::write(&file, deep).expect("the file can be written");
+    for words in [
+        &["check"][..],
+        &["check", "--json"],
+        &["explain"],
+        &["text"],
+        &["print"],
+    ] {
+        let output = run(&[words, &[&file.to_string_lossy()]].concat());
+        let told = [output.stdout, output.stderr].concat();
+        let told = String::from_utf8_lossy(&told);
+        assert!(told.contains("more than 64 brackets"), "{words:?}: {told}");
+        assert!(matches!(output.status.code(), Some(1 | 2)));
+    }
+    fs::remove_dir_all(folder).expect("the folder can be removed");
+}

@@ -2,15 +2,18 @@
 
 use prep_tools::generate;
 use prep_tools::generate::special::document;
+use prep_tools::random::Random;
 use prep_tools::refusal::Refusal;
 use prep_tools::sheet;
 use prep_tools::text::check;
 use prep_tools::text::compile::compile;
-use prep_tools::text::parse::parse;
-use prep_tools::text::{roles, write};
+use prep_tools::text::form::{form, Form};
+use prep_tools::text::load::load_sheet;
+use prep_tools::text::parse::{parse, MOST_HEIGHT};
+use prep_tools::text::{quotations, roles, write};
 use prep_tools::typing::Smallest;
 
-/// Document 01's sheet; its links stand in another order than in the script.
+/// The sheet worked through in docs/FORMAT.md; its links stand in another order than in the script.
 const DOCUMENT: &str = "\
 # A comment.
 kinds: a b
@@ -42,6 +45,17 @@ fn the_documents_sheet_has_its_words() {
 }
 
 #[test]
+fn the_example_of_the_description_has_the_same_words() {
+    let description = include_str!("../TEXT-FORM.md");
+    let lines = description.lines().skip_while(|line| !line.starts_with("    # "));
+    let example: Vec<&str> = lines.map_while(|line| line.strip_prefix("    ")).collect();
+    let source = example.join("\n");
+    assert_eq!(bytes(&source), document(&[1, 2, 1]).bytes());
+    let sheet = check::run("x.txt", &source).expect("the example is a sheet");
+    assert_eq!(sheet.text.card_title(1), "The card \"one\"");
+}
+
+#[test]
 fn words_come_back_from_their_text() {
     let mut compared = 0;
     for case in generate::cases(31, 600) {
@@ -50,7 +64,7 @@ fn words_come_back_from_their_text() {
                 assert_eq!(bytes(&text), case.bytes, "{}", case.name);
                 compared += 1;
             }
-            Err(message) => assert!(message.starts_with("refused "), "{message}"),
+            Err(message) => assert!(message.starts_with("input: refused "), "{message}"),
         }
     }
     assert!(compared > 150, "only {compared} inputs are well-formed");
@@ -61,11 +75,11 @@ fn each_refusal_names_the_word_at_fault() {
     let mut told = 0;
     for case in generate::cases(32, 1500) {
         let Ok(files) = sheet::split(&case.bytes) else {
-            assert!(roles::tell_input(&case.bytes).contains("\n  "), "{}", case.name);
+            assert!(roles::tell_input(&case.bytes).note.is_some(), "{}", case.name);
             continue;
         };
         if let Err(refusal) = sheet::typings(&case.bytes) {
-            let message = roles::tell(&files, refusal);
+            let message = roles::tell(&files, refusal).to_string();
             let start = format!("refused {} {}: ", refusal.number, refusal.place);
             assert!(message.starts_with(&start), "{message}");
             assert!(message.contains(&format!("word {}", refusal.place)), "{message}");
@@ -100,36 +114,64 @@ fn roles_name_the_words_of_a_template() {
     assert_eq!(roles::booking_role(4), "the shape of booking 1, counted from 0");
 }
 
+/// A text with a fault, and what it is told with.
+const FAULTS: &[(&str, &str)] = &[
+    ("kind: a", "x.txt:1:1: a line starts with"),
+    (
+        "kinds: a\nshape A = b[0;1]@A",
+        "x.txt:2:11: no kind is named `b`, perhaps `a`",
+    ),
+    (
+        "kinds: guest\nshape A = gest[0;1]@A",
+        "x.txt:2:11: no kind is named `gest`, perhaps `guest`",
+    ),
+    (
+        "kinds: a\nshape A = a[0;1]@Xylophone",
+        "x.txt:2:18: no shape is named `Xylophone`",
+    ),
+    (
+        "kinds: a\nshape A = all(a[0;1]@A",
+        "x.txt:2:14: this `(` is never closed",
+    ),
+    (
+        "kinds: a\nshape A = a[0;65535]@A",
+        "x.txt:2:15: 65535 can't be written",
+    ),
+    ("kinds: a a", "x.txt:1:10: the kind `a` is named twice"),
+    ("kinds: all", "x.txt:1:8: a kind can't be named `all`"),
+    ("card \"x", "x.txt:1:6: the quotation isn't closed"),
+    ("card x & y", "x.txt:1:8: the sign '&' has no meaning"),
+    (
+        "kinds: a\nshape A = all(a[0;1@A)",
+        "x.txt:2:16: this `[` isn't closed before the `)` at line 2, column 22",
+    ),
+    (
+        "kinds: a\nshape A = all(a[0;1]@A\nshape B = nothing)",
+        "x.txt:2:14: this `(` isn't closed before line 3, column 1",
+    ),
+    (
+        "kinds: a\nshape A = all(nothing nothing)",
+        "x.txt:2:23: `,` or `)` is wanted here, not `nothing`; the bracket at line 2, column 14 is open",
+    ),
+    ("kinds: a)", "x.txt:1:9: this `)` closes nothing"),
+    (
+        "card x \"a\\b\"",
+        "x.txt:1:10: after a backslash in a quotation only",
+    ),
+    (
+        "card x \"a\u{1}\"",
+        "x.txt:1:10: the control character '\\u{1}' can't stand",
+    ),
+    (
+        "card x \"a\\\"",
+        "x.txt:1:8: the quotation isn't closed on its line",
+    ),
+    ("kind\u{1}s", "x.txt:1:5: the sign '\\u{1}' has no meaning"),
+];
+
 #[test]
 fn faults_are_told_at_line_and_column() {
-    let cases = [
-        ("kind: a", "x.txt:1:1: a line starts with"),
-        (
-            "kinds: a\nshape A = b[0;1]@A",
-            "x.txt:2:11: no kind is named `b`, perhaps `a`",
-        ),
-        (
-            "kinds: guest\nshape A = gest[0;1]@A",
-            "x.txt:2:11: no kind is named `gest`, perhaps `guest`",
-        ),
-        (
-            "kinds: a\nshape A = a[0;1]@Xylophone",
-            "x.txt:2:18: no shape is named `Xylophone`",
-        ),
-        (
-            "kinds: a\nshape A = all(a[0;1]@A",
-            "x.txt:3:1: `)` is wanted here, not the end of the line",
-        ),
-        (
-            "kinds: a\nshape A = a[0;65535]@A",
-            "x.txt:2:15: 65535 can't be written",
-        ),
-        ("kinds: a a", "x.txt:1:10: the kind `a` is named twice"),
-        ("kinds: all", "x.txt:1:8: a kind can't be named `all`"),
-        ("card \"x", "x.txt:1:6: the quotation isn't closed"),
-        ("card x & y", "x.txt:1:8: the sign '&' has no meaning"),
-    ];
-    for (source, start) in cases {
+    for (source, start) in FAULTS {
         let message = fault(source);
         assert!(message.starts_with(start), "{message}");
     }
@@ -169,29 +211,220 @@ fn refusals_are_told_at_line_and_column() {
     }
 }
 
+/// A text that is refused, and what that means there.
+const HINTS: &[(&str, &str)] = &[
+    ("card x", "no kind is named; a line `kinds: NAME ...` is missing"),
+    (
+        "kinds: a",
+        "there is no shape; a line `shape NAME = PART` is missing",
+    ),
+    (
+        "kinds: a\nshape A = all(nothing)",
+        "choice and all take 2 to 16 parts, not 1",
+    ),
+    ("kinds: a\nshape A = a[2;1]@A", "the low 2 is above the high 1"),
+    (
+        "kinds: a\nshape A = a[8193;]@A",
+        "the low is 8193; 8192 is the most",
+    ),
+    ("kinds: a\nshape A = a[0;8193]@A", "no limit is written `[0;]`"),
+    (
+        "kinds: a\nshape A = choice(a[0;1]@A, a[0;1]@A)",
+        "the kind stands earlier in this shape",
+    ),
+    (
+        "kinds: a\nshape A = nothing\ncard x\nlink x a x x",
+        "this link stands twice",
+    ),
+];
+
+/// What the second line of the message for a refused text says.
+fn hints(source: &str, told: &str) {
+    let message = fault(source);
+    let second = message.lines().nth(1).unwrap_or_default();
+    assert!(second.contains(told), "{message}");
+}
+
+#[test]
+fn refusals_of_a_text_say_what_they_mean_there() {
+    for (source, told) in HINTS {
+        hints(source, told);
+    }
+    let many = |line: &str, count: usize| -> String {
+        let lines = (0..count).map(|number| line.replace('N', &number.to_string()));
+        lines.collect()
+    };
+    let start = "kinds: a\nshape A = nothing\ncard x\n";
+    let shapes = many("shape SN = nothing\n", 33);
+    let (cards, booked) = (many("card cN\n", 1024), many("book x A\n", 1025));
+    hints(&many("kinds kN\n", 65), "there are 65 kinds; 64 is the most");
+    hints(
+        &format!("kinds: a\n{shapes}"),
+        "there are 33 shapes; 32 is the most",
+    );
+    hints(
+        &format!("{start}{cards}"),
+        "there are 1025 cards; 1024 is the most",
+    );
+    hints(
+        &format!("{start}{booked}"),
+        "there are 1025 bookings; 1024 is the most",
+    );
+}
+
 #[test]
 fn fifty_is_told_with_its_reason_and_its_booking() {
     let source = DOCUMENT.replace("book two Second", "book zero First");
     let sheet = check::run("x.txt", &source).expect("the sheet is read");
     assert!(matches!(sheet.both.smallest.0, Smallest::NotMet(..)));
     let report = sheet.report("x.txt");
-    assert!(report.contains("x.txt:6:6: refused 50 0 1: "), "{report}");
+    let told =
+        "x.txt:6:6: zero can't be a Second: no a wanted, 1 there; no b wanted, 1 there\n  refused 50 0 1: ";
+    assert!(report.contains(told), "{report}");
     assert!(
-        report.contains("it has a link of kind a, which Second doesn't name"),
-        "{report}"
-    );
-    assert!(
-        report.contains("booked: zero First -b-> one First -a-> zero Second"),
+        report.contains("\n  booked: zero First -b-> one First -a-> zero Second\n"),
         "{report}"
     );
 }
 
 #[test]
+fn depth_is_limited_while_a_text_is_read() {
+    let brackets = |count: usize| {
+        format!(
+            "kinds: a\nshape A = {}nothing{}",
+            "(".repeat(count),
+            ")".repeat(count)
+        )
+    };
+    assert!(check::run("x.txt", &brackets(64)).is_ok());
+    let deep = "x.txt:2:75: more than 64 brackets lie within each other here";
+    for count in [65, 20_000, 1_000_000] {
+        assert_eq!(fault(&brackets(count)), deep);
+    }
+    let open = format!("kinds: a\nshape A = {}", "choice(".repeat(20_000));
+    assert!(fault(&open).starts_with("x.txt:2:465: more than 64 brackets"));
+    let signs = format!("kinds: a\nshape A = nothing{}", "*".repeat(1_000_000));
+    let place = 18 + MOST_HEIGHT - 1;
+    assert!(fault(&signs).starts_with(&format!("x.txt:2:{place}: more than 64 parts lie")));
+    // Brackets and signs by turns.
+    let turns = format!(
+        "kinds: a\nshape A = {}nothing{}",
+        "(".repeat(60),
+        "**)".repeat(60)
+    );
+    assert!(fault(&turns).contains(": more than 64 parts lie within each other here; 12 is the most"));
+    let words = format!("kinds: a\nshape A = nothing{}", "?".repeat(MOST_HEIGHT - 1));
+    assert!(fault(&words).contains("refused 6 15"));
+}
+
+#[test]
+fn a_byte_order_mark_is_skipped() {
+    let marked = format!("\u{feff}{DOCUMENT}");
+    assert_eq!(bytes(&marked), bytes(DOCUMENT));
+    assert!(fault("\u{feff}kind: a").starts_with("x.txt:1:1: a line starts with"));
+    assert!(fault("kinds: a\n\u{feff}").starts_with("x.txt:2:1: the sign '\\u{feff}'"));
+    let sheet = load_sheet("x", marked.as_bytes()).expect("the sheet is read");
+    assert_eq!(sheet.form, Form::Text);
+}
+
+#[test]
+fn titles_may_contain_any_signs() {
+    let mut random = Random::new(12);
+    let signs = ['"', '\\', 'a', ' ', '#', '(', 'é', '\t', '`', '“'];
+    for _ in 0..500 {
+        let title: String = (0..random.below(9)).map(|_| random.pick(&signs)).collect();
+        let quoted = quotations::write(&title);
+        let source = format!("title {quoted}\nkinds: a\nshape A = nothing\ncard x {quoted} # \"comment\n");
+        let sheet = check::run("x.txt", &source).expect("the text is read");
+        assert_eq!(sheet.text.title.as_ref(), Some(&title));
+        assert_eq!(sheet.text.card_title(0), title);
+        // Written out and read again it is the same.
+        let written = write::sheet_text(&sheet);
+        let again = check::run("x.txt", &written).expect("what is written is read");
+        assert_eq!(again.text.title, sheet.text.title);
+        assert_eq!(again.text.card_title(0), title);
+        assert_eq!(write::sheet_text(&again), written);
+    }
+    assert_eq!(quotations::write("say \"a\\b\""), "\"say \\\"a\\\\b\\\"\"");
+}
+
+#[test]
+fn a_text_written_out_has_the_same_words_and_names() {
+    for source in [
+        DOCUMENT,
+        include_str!("../../examples/prep/programme.txt"),
+        include_str!("../../examples/prep/draft.txt"),
+    ] {
+        let sheet = check::run("x.txt", source).expect("the text is read");
+        let written = write::sheet_text(&sheet);
+        assert_eq!(bytes(&written), bytes(source));
+        let again = check::run("x.txt", &written).expect("what is written is read");
+        let cards = |sheet: &check::Sheet| -> Vec<(String, Option<String>)> {
+            let cards = sheet.text.cards.iter();
+            cards
+                .map(|(name, title)| (name.text.clone(), title.clone()))
+                .collect()
+        };
+        assert_eq!(cards(&again), cards(&sheet));
+        assert_eq!(again.text.title, sheet.text.title);
+    }
+}
+
+#[test]
+fn text_and_words_are_told_apart_by_what_they_are() {
+    for case in generate::cases(33, 800) {
+        let is_words = form(&case.bytes) == Form::Words;
+        assert!(is_words || sheet::typings(&case.bytes).is_err(), "{}", case.name);
+        if let Ok(text) = write::text(&case.bytes) {
+            assert_eq!(form(text.as_bytes()), Form::Text, "{}", case.name);
+            let sheet = load_sheet("x", text.as_bytes()).expect("the text is a sheet");
+            let same = load_sheet("x", &case.bytes).expect("the words are a sheet");
+            assert_eq!(sheet.both, same.both, "{}", case.name);
+            assert_eq!((sheet.form, same.form), (Form::Text, Form::Words));
+        }
+    }
+    for words in [&[][..], b"ab", b"\0\0\0\0", b"kin\0ds"] {
+        assert_eq!(form(words), Form::Words);
+    }
+    for text in [
+        &b"kinds: a"[..],
+        b"\n\t\r\n# x",
+        b"\xef\xbb\xbfk",
+        b"\xe9\xe9\xe9\xe9",
+    ] {
+        assert_eq!(form(text), Form::Text);
+    }
+}
+
+#[test]
+fn a_text_that_is_not_utf_8_is_told_where() {
+    let told = |bytes: &[u8]| match load_sheet("x", bytes) {
+        Ok(_) => panic!("the text isn't a sheet"),
+        Err(trouble) => trouble.to_string(),
+    };
+    let latin = told(b"kinds: a\nshape A = nothing\ncard x \"caf\xe9\"\n");
+    assert_eq!(latin, "x:3:12: this isn't UTF-8; save the text as UTF-8");
+    assert!(told(b"\xff\xfek\0i\0n\0").contains("a text in UTF-16"));
+    assert!(told(b"").contains("it is empty"));
+}
+
+#[test]
+fn words_that_are_too_many_are_told_as_the_printer_tells_them() {
+    let mut source = "kinds: a\nshape A = nothing\n".to_string();
+    for card in 0..200 {
+        source += &format!("card c{card}\n");
+    }
+    for link in 0..11_000 {
+        source += &format!("link c{} a c{}\n", link / 200, link % 200);
+    }
+    let message = fault(&source);
+    assert!(message.starts_with("x.txt: refused 60 0"), "{message}");
+    assert!(message.ends_with("its words take 66020 bytes"), "{message}");
+}
+
+#[test]
 fn every_number_has_words() {
     for number in (1..=12).chain(20..=25).chain(30..=33).chain(40..=43).chain([60]) {
-        assert_ne!(
-            Refusal::at(number, 0).meaning(),
-            "a refusal that document 01 doesn't know"
-        );
+        assert_ne!(Refusal::at(number, 0).meaning(), "a refusal that isn't known");
     }
 }

@@ -1,4 +1,4 @@
-//! Prints the sheet of document 01 for its two booking lists.
+//! Prints the sheet that FORMAT.md works through, from its words, for a booking list that is met and one that is not.
 
 use prep::{Refusal, Script, Template, Typing};
 

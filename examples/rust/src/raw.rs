@@ -1,10 +1,16 @@
-//! The library's functions as `include/prep.h` declares them, each behind a safe function on slices.
+//! The library's functions as `include/prep.h` declares them, each behind a safe function on slices. The other modules
+//! are made of these; they are for callers who keep words and grids of their own.
 //!
-//! Why these calls are safe: a slice's pointer and length are those of memory that is lent for the whole call, a `&mut`
-//! slice overlaps no other, and the library asks nothing more of its callers, whatever the words are.
+//! Why these calls are safe: a slice's pointer and length are those of memory that is lent for the whole call, a
+//! `&mut` slice overlaps no other, and the library asks nothing more of its callers, whatever the words are. Texts
+//! are the library's own, end with a zero byte and stay as long as the program runs.
+
+use std::ffi::{c_char, CStr};
 
 /// A template's counts, or a refusal.
 #[repr(C)]
+#[derive(Clone, Copy, Debug, PartialEq, Eq)]
+#[allow(missing_docs)]
 pub struct TemplateAnswer {
     pub number: u16,
     pub kinds: u16,
@@ -14,6 +20,8 @@ pub struct TemplateAnswer {
 
 /// Whether counts fit, 1 or 0, or a refusal.
 #[repr(C)]
+#[derive(Clone, Copy, Debug, PartialEq, Eq)]
+#[allow(missing_docs)]
 pub struct FitAnswer {
     pub number: u16,
     pub fits: u16,
@@ -22,6 +30,8 @@ pub struct FitAnswer {
 
 /// A script's counts, or a refusal.
 #[repr(C)]
+#[derive(Clone, Copy, Debug, PartialEq, Eq)]
+#[allow(missing_docs)]
 pub struct ScriptAnswer {
     pub number: u16,
     pub cards: u16,
@@ -31,6 +41,8 @@ pub struct ScriptAnswer {
 
 /// The numbers of the largest typing, or a refusal.
 #[repr(C)]
+#[derive(Clone, Copy, Debug, PartialEq, Eq)]
+#[allow(missing_docs)]
 pub struct LargestAnswer {
     pub number: u16,
     pub place: usize,
@@ -41,6 +53,8 @@ pub struct LargestAnswer {
 
 /// The pairs of the smallest typing, or a refusal.
 #[repr(C)]
+#[derive(Clone, Copy, Debug, PartialEq, Eq)]
+#[allow(missing_docs)]
 pub struct SmallestAnswer {
     pub number: u16,
     pub card: u16,
@@ -51,6 +65,8 @@ pub struct SmallestAnswer {
 
 /// The numbers of both typings, or a refusal.
 #[repr(C)]
+#[derive(Clone, Copy, Debug, PartialEq, Eq)]
+#[allow(missing_docs)]
 pub struct BothAnswer {
     pub number: u16,
     pub card: u16,
@@ -63,59 +79,62 @@ pub struct BothAnswer {
 }
 
 extern "C" {
-    fn prep_read_template(template: *const u16, template_length: usize) -> TemplateAnswer;
+    fn prep_read_template(template_words: *const u16, template_length: usize) -> TemplateAnswer;
     fn prep_fit_counts(
-        template: *const u16,
+        template_words: *const u16,
         template_length: usize,
-        shape: u16,
-        counts: *const u16,
+        shape_number: u16,
+        kind_counts: *const u16,
         counts_length: usize,
     ) -> FitAnswer;
     fn prep_read_script(
-        template: *const u16,
+        template_words: *const u16,
         template_length: usize,
-        script: *const u16,
+        script_words: *const u16,
         script_length: usize,
     ) -> ScriptAnswer;
     fn prep_links_of_card(
-        template: *const u16,
+        template_words: *const u16,
         template_length: usize,
-        script: *const u16,
+        script_words: *const u16,
         script_length: usize,
-        card: u16,
-        links: *mut u16,
+        card_number: u16,
+        link_words: *mut u16,
         links_length: usize,
     ) -> usize;
     fn prep_largest(
-        template: *const u16,
+        template_words: *const u16,
         template_length: usize,
-        script: *const u16,
+        script_words: *const u16,
         script_length: usize,
-        grid: *mut u8,
-        grid_length: usize,
+        largest_grid: *mut u8,
+        largest_length: usize,
     ) -> LargestAnswer;
     fn prep_smallest(
-        template: *const u16,
+        template_words: *const u16,
         template_length: usize,
-        script: *const u16,
+        script_words: *const u16,
         script_length: usize,
-        bookings: *const u16,
+        booking_words: *const u16,
         bookings_length: usize,
-        grid: *mut u8,
-        grid_length: usize,
+        smallest_grid: *mut u8,
+        smallest_length: usize,
     ) -> SmallestAnswer;
     fn prep_both_typings(
-        template: *const u16,
+        template_words: *const u16,
         template_length: usize,
-        script: *const u16,
+        script_words: *const u16,
         script_length: usize,
-        bookings: *const u16,
+        booking_words: *const u16,
         bookings_length: usize,
-        small: *mut u8,
-        small_length: usize,
-        large: *mut u8,
-        large_length: usize,
+        smallest_grid: *mut u8,
+        smallest_length: usize,
+        largest_grid: *mut u8,
+        largest_length: usize,
     ) -> BothAnswer;
+    fn prep_version() -> u32;
+    fn prep_reason(refusal_number: u16) -> *const c_char;
+    fn prep_file_of(refusal_number: u16) -> u32;
 }
 
 /// Read a template.
@@ -207,4 +226,23 @@ pub fn both_typings(
             large.len(),
         )
     }
+}
+
+/// The version of the library.
+pub fn version() -> u32 {
+    // SAFETY: it takes nothing.
+    unsafe { prep_version() }
+}
+
+/// What a refusal's number means.
+pub fn reason(number: u16) -> &'static str {
+    // SAFETY: see the module.
+    let words = unsafe { CStr::from_ptr(prep_reason(number)) };
+    words.to_str().unwrap_or("refused")
+}
+
+/// Where a refusal's place is counted, as `enum prep_file` numbers it.
+pub fn file_of(number: u16) -> u32 {
+    // SAFETY: it takes a plain number.
+    unsafe { prep_file_of(number) }
 }

@@ -1,9 +1,30 @@
-//! What the library turns down, in words.
+//! What the library turns down, in words. Constants and words come from include/prep_refusals.def.
 
 use std::fmt;
 
+include!(concat!(env!("OUT_DIR"), "/refusals.rs"));
+
+/// Where a refusal's place is counted.
+#[derive(Clone, Copy, Debug, PartialEq, Eq, Hash)]
+pub enum File {
+    /// In no file.
+    Nothing,
+    /// In the template.
+    Template,
+    /// In the script.
+    Script,
+    /// In the booking list.
+    Bookings,
+    /// In the counts that a shape is asked for.
+    Counts,
+    /// In a grid.
+    Grid,
+    /// In the sheet printer's input.
+    Input,
+}
+
 /// Where a refusal's fault is.
-#[derive(Clone, Copy, Debug, PartialEq, Eq)]
+#[derive(Clone, Copy, Debug, PartialEq, Eq, Hash)]
 pub enum Place {
     /// The index of the word at fault in its own file.
     Word(usize),
@@ -16,10 +37,10 @@ pub enum Place {
     },
 }
 
-/// A refusal: document 01's number and the place of the fault. It prints as a message in words.
-#[derive(Clone, Copy, Debug, PartialEq, Eq)]
+/// A refusal: its number and the place of the fault. It prints as a message in words.
+#[derive(Clone, Copy, Debug, PartialEq, Eq, Hash)]
 pub struct Refusal {
-    /// Document 01's number.
+    /// The number, one of the constants in `refusals`.
     pub number: u16,
     /// Where the fault is.
     pub place: Place,
@@ -28,36 +49,16 @@ pub struct Refusal {
 impl Refusal {
     /// What is wrong, without the place.
     pub fn reason(&self) -> &'static str {
-        match self.number {
-            1 => "the template has fewer than 2 or more than 4,096 words",
-            2 => "the template's count of kinds is not 1 to 64",
-            3 => "the template's count of shapes is not 1 to 32",
-            4 => "a word of the template is missing",
-            5 => "a part of the template has an unknown code",
-            6 => "a part of the template is more than 12 deep",
-            7 => "a link of the template has a kind that there is not",
-            8 => "a kind stands twice in one shape",
-            9 => "a link of the template names a shape that there is not",
-            10 => "a link of the template has a wrong low or high",
-            11 => "a group of the template has fewer than 2 or more than 16 parts",
-            12 => "the template has words left over",
-            20 => "the script has not the words that its count of links needs",
-            21 => "the script has more than 1,024 cards",
-            22 => "the script has more than 8,192 links",
-            23 => "a link of the script has a card that there is not",
-            24 => "a link of the script has a kind that there is not",
-            25 => "a link of the script is not above the link before it",
-            30 => "the bookings have not the words that their count needs",
-            31 => "there are more than 1,024 bookings",
-            32 => "a booking has a card that there is not",
-            33 => "a booking has a shape that there is not",
-            40 => "a grid has not a byte for each card and shape",
-            41 => "there are not as many counts as kinds",
-            42 => "there is no such shape",
-            43 => "a count is over 8,192",
-            50 => "the bookings are not met",
-            _ => "refused",
-        }
+        self.row().map_or("refused, by a number that this version has no words for", |row| row.2)
+    }
+
+    /// Where the place is counted.
+    pub fn file(&self) -> File {
+        self.row().map_or(File::Nothing, |row| row.1)
+    }
+
+    fn row(&self) -> Option<&'static (u16, File, &'static str)> {
+        TABLE.iter().find(|row| row.0 == self.number)
     }
 }
 
@@ -73,3 +74,16 @@ impl fmt::Display for Refusal {
 }
 
 impl std::error::Error for Refusal {}
+
+/// The refusal that an answer's number and place tell, if any.
+pub(crate) fn refused(number: u16, place: usize) -> Result<(), Refusal> {
+    match number {
+        0 => Ok(()),
+        _ => Err(Refusal { number, place: Place::Word(place) }),
+    }
+}
+
+/// Refusal 50.
+pub(crate) fn not_met(card: u16, shape: u16) -> Refusal {
+    Refusal { number: refusals::NOT_MET, place: Place::Pair { card, shape } }
+}

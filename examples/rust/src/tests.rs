@@ -1,4 +1,4 @@
-//! Document 01's samples through the wrapper.
+//! The worked sheet and small inputs through the wrapper.
 
 use super::*;
 
@@ -42,7 +42,7 @@ fn counts_fit_or_not() {
 fn a_script_has_its_links() {
     let template = template();
     let script = Script::read(&template, SCRIPT.to_vec()).unwrap();
-    assert_eq!((script.cards(), script.links()), (3, 3));
+    assert_eq!((script.cards(), script.links().len()), (3, 3));
     assert_eq!(script.links_of(0), [Link { from: 0, kind: 0, to: 2 }, Link { from: 0, kind: 1, to: 1 }]);
     assert_eq!(script.links_of(2), []);
     assert_eq!(script.links_of(9), []);
@@ -111,5 +111,89 @@ fn a_typing_has_no_other_cards_or_shapes() {
 #[test]
 fn a_refusal_says_what_and_where() {
     let message = "a part of the template has an unknown code (refusal 5, word 3)";
-    assert_eq!(word(5, 3).to_string(), message);
+    assert_eq!(word(refusals::TEMPLATE_CODE, 3).to_string(), message);
+    assert_eq!(word(refusals::SCRIPT_ORDER, 5).file(), File::Script);
+}
+
+#[test]
+fn words_and_files_are_the_library_s() {
+    for number in 1..=u16::MAX {
+        let refusal = word(number, 0);
+        assert_eq!(refusal.reason(), raw::reason(number));
+        assert_eq!(refusal.file() as u32, raw::file_of(number));
+    }
+}
+
+#[test]
+fn the_versions_agree() {
+    let (major, minor, patch) = version();
+    assert_eq!(format!("{major}.{minor}.{patch}"), env!("CARGO_PKG_VERSION"));
+}
+
+#[test]
+fn an_application_keeps_a_script() {
+    struct Application {
+        scripts: Vec<Script>,
+    }
+    fn kept_anywhere<T: Send + Sync + 'static>(_: &T) {}
+    let scripts = vec![Script::read(&template(), SCRIPT.to_vec()).unwrap(); 2];
+    let application = Application { scripts };
+    kept_anywhere(&application);
+    assert_eq!(application.scripts[1].largest().bare, 2);
+}
+
+#[test]
+fn a_template_is_built_from_parts() {
+    let mut builder = TemplateBuilder::new();
+    let (a, b) = (builder.kind(), builder.kind());
+    let (first, second) = (builder.shape(), builder.shape());
+    builder.define(first, Part::all([Part::link(a, second, 1), Part::link(b, first, 0..=1)]));
+    assert_eq!(builder.read(), Ok(template()));
+    builder.define(second, Part::choice([Part::star(Part::link(a, first, 2..)), Part::plus(Part::Nothing)]));
+    builder.define(first, Part::optional(Part::Nothing));
+    assert_eq!(builder.words(), [2, 2, 2, 3, 0, 9, 16, 2, 1, 256, 0, 2, 65535, 2, 0]);
+    assert!(builder.read().is_ok());
+}
+
+#[test]
+fn what_no_word_holds_is_refused() {
+    let mut builder = TemplateBuilder::new();
+    assert_eq!(builder.read(), Err(word(refusals::TEMPLATE_KIND_COUNT, 0)));
+    let (kind, shape) = (builder.kind(), builder.shape());
+    builder.define(shape, Part::link(u16::MAX, shape, 1));
+    assert_eq!(builder.read(), Err(word(refusals::TEMPLATE_CODE, 3)));
+    builder.define(shape, Part::all(vec![Part::link(kind, shape, 1); 70_000]));
+    assert_eq!(builder.read(), Err(word(refusals::TEMPLATE_SIZE, 0)));
+    let mut script = ScriptBuilder::with_cards(1);
+    script.link(0, 0, 1);
+    assert_eq!(script.read(&template()), Err(word(refusals::SCRIPT_NO_CARD, 4)));
+    (0..70_000).for_each(|_| _ = script.card());
+    assert_eq!(script.read(&template()), Err(word(refusals::SCRIPT_CARD_COUNT, 0)));
+}
+
+#[test]
+fn a_script_is_built_from_links_in_any_order() {
+    let mut builder = ScriptBuilder::new();
+    let (first, second, third) = (builder.card(), builder.card(), builder.card());
+    for (from, kind, to) in [(second, 0, first), (first, 1, second), (first, 0, third), (first, 1, second)] {
+        builder.link(from, kind, to);
+    }
+    assert_eq!(builder.words(), SCRIPT);
+    assert_eq!(builder.read(&template()).unwrap().words(), SCRIPT);
+}
+
+#[test]
+fn the_links_of_each_card_are_the_library_s() {
+    let mut builder = ScriptBuilder::with_cards(60);
+    for i in 0..400_u16 {
+        builder.link(i * 7 % 53, i % 2, i * 11 % 60);
+    }
+    let script = builder.read(&template()).unwrap();
+    for card in 0..61 {
+        let mut words = vec![0; script.words().len()];
+        let count = raw::links_of_card(template().words(), script.words(), card, &mut words);
+        let ours: Vec<u16> = script.links_of(card).iter().flat_map(|l| [l.from, l.kind, l.to]).collect();
+        assert_eq!(ours, words[..count]);
+    }
+    assert_eq!((0..60).map(|card| script.links_of(card).len()).sum::<usize>(), script.links().len());
 }

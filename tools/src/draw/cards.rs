@@ -1,7 +1,9 @@
 //! Cards, chips and their marks.
 
 use super::layout::{Block, Rect};
-use super::measure::{width, Chip, Mark, CHIP, CHIP_TEXT, TITLE};
+use super::measure::{Chip, Mark, CHIP, CHIP_TEXT, LIST};
+use super::measure::{TITLE, TITLE_AFTER_WARNING, TITLE_LEFT, TITLE_STEP};
+use super::strokes::colour;
 use super::svg::{short, Anchor, Svg};
 
 /// The colour of letters and of what is sure.
@@ -24,33 +26,34 @@ pub struct CardMark {
     pub needed: bool,
 }
 
-/// A card with its title, number and chips.
-pub fn card(svg: &mut Svg, block: &Block, title: &str, number: usize, mark: CardMark) {
+/// A card with its title, its number and what stands below it.
+pub fn card(svg: &mut Svg, block: &Block, mark: CardMark) {
     body(svg, &block.body, mark);
-    let Rect {
-        x,
-        y,
-        width: w,
-        height,
-    } = block.body;
-    let room = w - 12.0;
-    let wanted = width(title, TITLE, true);
-    let size = TITLE * (room / wanted).min(1.0);
+    let Rect { x, y, width, height } = block.body;
     let style = format!("font-weight=\"bold\" fill=\"{INK}\"");
-    svg.text((x + 4.6, y + height / 2.0), size, Anchor::Start, &style, title);
-    let place = (x + w - 1.6, y + 2.3);
-    svg.text(
-        place,
-        2.4,
-        Anchor::End,
-        &format!("fill=\"{PALE}\""),
-        &number.to_string(),
-    );
+    let left = if mark.not_met {
+        TITLE_AFTER_WARNING
+    } else {
+        TITLE_LEFT
+    };
+    let top = y + height / 2.0 - TITLE_STEP * (block.title.len() as f64 - 1.0) / 2.0;
+    for (number, line) in block.title.iter().enumerate() {
+        let place = (x + left, top + TITLE_STEP * number as f64);
+        svg.text(place, TITLE, Anchor::Start, &style, line);
+    }
+    let style = format!("fill=\"{PALE}\"");
+    let place = (x + width - 1.6, y + 2.3);
+    svg.text(place, 2.4, Anchor::End, &style, &block.card.to_string());
     for (chip, place) in &block.chips {
         chip_at(svg, chip, (place.x, place.y));
     }
+    for (line, place) in &block.lines {
+        let style = format!("fill=\"{}\"", line.kind.map_or(INK, colour));
+        let middle = place.y + place.height / 2.0;
+        svg.text((place.x, middle), LIST, Anchor::Start, &style, &line.text);
+    }
     if mark.not_met {
-        warning(svg, (x + 0.4, y + 0.4), 2.7);
+        warning(svg, (x + 4.9, y + height / 2.0), 2.5);
     }
 }
 
@@ -159,13 +162,9 @@ fn empty(svg: &mut Svg, (x, y): (f64, f64), radius: f64, colour: &str) {
     );
 }
 
-/// The sign at the corner of a card with the unmet pair.
+/// The sign of a card with the unmet pair.
 pub fn warning(svg: &mut Svg, (x, y): (f64, f64), radius: f64) {
-    svg.circle(
-        (x, y),
-        radius,
-        &format!("fill=\"{FAULT}\" stroke=\"{PAPER}\" stroke-width=\"0.6\""),
-    );
+    svg.circle((x, y), radius, &format!("fill=\"{FAULT}\""));
     svg.path(
         &format!(
             "M{} {}v{}",
@@ -173,7 +172,10 @@ pub fn warning(svg: &mut Svg, (x, y): (f64, f64), radius: f64) {
             short(y - radius * 0.55),
             short(radius * 0.62)
         ),
-        "stroke=\"#ffffff\" stroke-width=\"0.75\" stroke-linecap=\"round\"",
+        &format!(
+            "stroke=\"#ffffff\" stroke-width=\"{}\" stroke-linecap=\"round\"",
+            short(radius * 0.28)
+        ),
     );
-    svg.circle((x, y + radius * 0.52), 0.42, "fill=\"#ffffff\"");
+    svg.circle((x, y + radius * 0.54), radius * 0.16, "fill=\"#ffffff\"");
 }

@@ -1,11 +1,12 @@
 //! The column of each card. Cards joined by a sequence stand in one column; other links lead to the right where
-//! they can. A column that is too high is cut into two.
+//! they can. A column that is too high is cut into two, and columns in too long a row are folded.
 
+use super::fold::{cut, fill, fold, Folded};
 use super::graph::Graph;
 use std::collections::BTreeSet;
 
-/// For each column, its cards in a first order.
-pub fn columns(graph: &Graph) -> Vec<Vec<usize>> {
+/// The columns of a page whose cards have these heights and this width.
+pub fn columns(graph: &Graph, tall: &[f64], wide: f64) -> Folded {
     let group = groups(graph);
     let edges = group_edges(graph, &group);
     let layer = layers(graph.cards, &group, &edges);
@@ -22,20 +23,10 @@ pub fn columns(graph: &Graph) -> Vec<Vec<usize>> {
         }
     }
     columns.retain(|column| !column.is_empty());
-    let mut columns = cut(columns, most_rows(graph.cards));
-    // Cards without links fill up the shortest columns.
-    for card in (0..graph.cards).filter(|card| !linked.contains(card)) {
-        match columns.iter_mut().min_by_key(|column| column.len()) {
-            Some(column) if column.len() < most_rows(graph.cards) => column.push(card),
-            _ => columns.push(vec![card]),
-        }
-    }
-    columns
-}
-
-/// The most cards that one column of a balanced page holds.
-fn most_rows(cards: usize) -> usize {
-    (2.5 * (cards as f64).sqrt()).ceil().max(6.0) as usize
+    let mut folded = fold(cut(columns, tall), tall, wide);
+    let others: Vec<usize> = (0..graph.cards).filter(|card| !linked.contains(card)).collect();
+    fill(&mut folded, &others, tall, wide);
+    folded
 }
 
 /// The cards in their own order, but along each sequence.
@@ -133,32 +124,13 @@ fn layers(cards: usize, group: &[usize], edges: &[(usize, usize)]) -> Vec<usize>
             break;
         }
     }
-    let size = |which: usize| group.iter().filter(|member| **member == which).count();
+    let mut size = vec![0; cards];
+    for which in group {
+        size[*which] += 1;
+    }
     for _ in 0..4 {
-        for which in (0..cards).filter(|which| size(*which) > 0) {
-            let before: Vec<usize> = edges
-                .iter()
-                .filter(|edge| edge.1 == which)
-                .map(|edge| layer[edge.0])
-                .collect();
-            let after: Vec<usize> = edges
-                .iter()
-                .filter(|edge| edge.0 == which)
-                .map(|edge| layer[edge.1])
-                .collect();
-            let lowest = before.iter().max().map_or(0, |most| most + 1);
-            let Some(highest) = after.iter().min().map(|least| least - 1) else {
-                continue;
-            };
-            let held = |place: usize| {
-                let others = (0..cards).filter(|other| *other != which && layer[*other] == place);
-                others.map(size).sum::<usize>()
-            };
-            let length = |place: usize| {
-                let left: usize = before.iter().map(|other| place - other).sum();
-                left + after.iter().map(|other| other - place).sum::<usize>()
-            };
-            if let Some(best) = (lowest..=highest).min_by_key(|place| (length(*place), held(*place))) {
+        for which in (0..cards).filter(|which| size[*which] > 0) {
+            if let Some(best) = best_layer(which, &layer, &size, edges) {
                 layer[which] = best;
             }
         }
@@ -166,13 +138,27 @@ fn layers(cards: usize, group: &[usize], edges: &[(usize, usize)]) -> Vec<usize>
     layer
 }
 
-/// Cuts columns with too many cards into several of about the same height.
-fn cut(columns: Vec<Vec<usize>>, most: usize) -> Vec<Vec<usize>> {
-    let mut all = Vec::new();
-    for column in columns {
-        let pieces = column.len().div_ceil(most).max(1);
-        let rows = column.len().div_ceil(pieces).max(1);
-        all.extend(column.chunks(rows).map(<[usize]>::to_vec));
-    }
-    all
+/// The column between its neighbours in which a group's links are shortest, and of those the one with fewest cards.
+fn best_layer(which: usize, layer: &[usize], size: &[usize], edges: &[(usize, usize)]) -> Option<usize> {
+    let before: Vec<usize> = edges
+        .iter()
+        .filter(|edge| edge.1 == which)
+        .map(|edge| layer[edge.0])
+        .collect();
+    let after: Vec<usize> = edges
+        .iter()
+        .filter(|edge| edge.0 == which)
+        .map(|edge| layer[edge.1])
+        .collect();
+    let lowest = before.iter().max().map_or(0, |most| most + 1);
+    let highest = after.iter().min().map(|least| least - 1)?;
+    let held = |place: usize| {
+        let others = (0..layer.len()).filter(|other| *other != which && layer[*other] == place);
+        others.map(|other| size[other]).sum::<usize>()
+    };
+    let length = |place: usize| {
+        let left: usize = before.iter().map(|other| place - other).sum();
+        left + after.iter().map(|other| other - place).sum::<usize>()
+    };
+    (lowest..=highest).min_by_key(|place| (length(*place), held(*place)))
 }

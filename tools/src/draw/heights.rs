@@ -5,7 +5,7 @@ use super::nets::Slot;
 /// The height that the way of a net through a column takes.
 pub const PASS: f64 = 2.0;
 /// The gap between two cards.
-const GAP: f64 = 5.0;
+pub const GAP: f64 = 5.0;
 /// The gap beside a slot.
 const PASS_GAP: f64 = 2.0;
 
@@ -57,10 +57,12 @@ fn gap(upper: &Box, lower: &Box) -> f64 {
 
 /// Sets the upper edges of all boxes, within this height.
 pub fn settle(columns: &mut [Vec<Box>], height: f64) {
+    let is_tied = columns.iter().flatten().any(|one| !one.ties.is_empty());
     for column in columns.iter_mut() {
-        // The start: spread over the whole height.
-        let spare = (height - least_height(column)) / (column.len() as f64 + 1.0);
-        let mut top = spare;
+        // The start: spread over the whole height. Columns that nothing ties all start at the top.
+        let gaps = column.len() as f64 + if is_tied { 1.0 } else { 0.0 };
+        let spare = (height - least_height(column)) / gaps.max(1.0);
+        let mut top = if is_tied { spare } else { 0.0 };
         for row in 0..column.len() {
             column[row].top = top;
             let below = column.get(row + 1).map_or(0.0, |lower| gap(&column[row], lower));

@@ -10,10 +10,13 @@ pub mod frame;
 pub mod routes;
 pub mod wires;
 
+use super::contents::Content;
 use super::graph::Arrow;
 use super::heights::{least_height, settle};
-use super::measure::{Chip, CHIP};
+use super::lists::{Line, FACE, INDENT};
+use super::measure::{Chip, CHIP, CHIP_GAP, LIST_STEP};
 use super::nets::Slot;
+use super::plan::Plan;
 use crate::text::check::Sheet;
 use frame::Frame;
 use routes::Routing;
@@ -31,13 +34,19 @@ pub struct Rect {
     pub height: f64,
 }
 
-/// A card with its chips.
+/// A card with what stands below it.
 #[derive(Clone, PartialEq, Debug)]
 pub struct Block {
+    /// Its number in the sheet.
+    pub card: usize,
     /// The card itself.
     pub body: Rect,
+    /// Its title, in lines.
+    pub title: Vec<String>,
     /// Its chips.
     pub chips: Vec<(Chip, Rect)>,
+    /// The lines of links that aren't arrows.
+    pub lines: Vec<(Line, Rect)>,
 }
 
 /// The way of one arrow.
@@ -54,6 +63,8 @@ pub struct Route {
 pub struct Label {
     /// The kind that it names.
     pub kind: usize,
+    /// Its text.
+    pub text: String,
     /// Where its text starts, or ends.
     pub x: f64,
     /// The middle of its height.
@@ -77,9 +88,9 @@ pub struct Layout {
     pub labels: Vec<Label>,
 }
 
-/// The picture of a sheet, for a room whose width is `ratio` times its height.
-pub fn layout(sheet: &Sheet, ratio: f64) -> Layout {
-    let mut frame = Frame::new(sheet);
+/// The picture of a page, for a room whose width is `ratio` times its height.
+pub fn layout(sheet: &Sheet, plan: &Plan, contents: &[Content], card_width: f64, ratio: f64) -> Layout {
+    let mut frame = Frame::new(plan, contents, card_width);
     let least = frame
         .boxes
         .iter()
@@ -92,12 +103,12 @@ pub fn layout(sheet: &Sheet, ratio: f64) -> Layout {
     settle(&mut frame.boxes, height);
     let mut routing = Routing::new(sheet, &frame);
     routing.widen(height * ratio - routing.width(&frame));
-    finish(&frame, &routing, height)
+    finish(sheet, plan, &frame, &routing, height)
 }
 
 /// Writes down where everything stands.
-fn finish(frame: &Frame, routing: &Routing, height: f64) -> Layout {
-    let mut blocks: Vec<Option<Block>> = vec![None; frame.chips.len()];
+fn finish(sheet: &Sheet, plan: &Plan, frame: &Frame, routing: &Routing, height: f64) -> Layout {
+    let mut blocks: Vec<Option<Block>> = vec![None; plan.cards.len()];
     for (number, column) in frame.boxes.iter().enumerate() {
         for one in column {
             let Slot::Card(card) = one.slot else { continue };
@@ -107,29 +118,55 @@ fn finish(frame: &Frame, routing: &Routing, height: f64) -> Layout {
                 width: frame.card_width,
                 height: one.body,
             };
-            let chips = frame.chips[card].iter().map(|chip| {
-                let place = Rect {
-                    x: body.x + chip.x,
-                    y: body.y + body.height + chip.y,
-                    width: chip.width,
-                    height: CHIP,
-                };
-                (chip.clone(), place)
-            });
-            blocks[card] = Some(Block {
-                body,
-                chips: chips.collect(),
-            });
+            blocks[card] = Some(block(plan.cards[card], body, &frame.contents[card]));
         }
     }
     let blocks: Vec<Block> = blocks.into_iter().flatten().collect();
-    let (mut routes, mut labels) = routing.routes(frame);
-    routing.drops(frame, &blocks, &mut routes, &mut labels);
+    let (mut routes, mut labels) = routing.routes(sheet, frame);
+    let drops = routing.drops(sheet, frame, &blocks);
+    routes.extend(drops.0);
+    labels.extend(drops.1);
     Layout {
         width: routing.width(frame),
         height,
         blocks,
         routes,
         labels,
+    }
+}
+
+/// A card whose body stands here, with what stands below it.
+fn block(card: usize, body: Rect, content: &Content) -> Block {
+    let bottom = body.y + body.height;
+    let chip = |chip: &Chip| {
+        let place = Rect {
+            x: body.x + chip.x,
+            y: bottom + chip.y,
+            width: chip.width,
+            height: CHIP,
+        };
+        (chip.clone(), place)
+    };
+    let chips: Vec<(Chip, Rect)> = content.chips.iter().map(chip).collect();
+    let top = CHIP_GAP
+        + chips
+            .iter()
+            .map(|(_, place)| place.y + CHIP)
+            .fold(bottom, f64::max);
+    let line = |(number, line): (usize, &Line)| {
+        let place = Rect {
+            x: body.x + if line.goes_on { INDENT } else { 0.0 },
+            y: top + LIST_STEP * number as f64,
+            width: FACE.width(&line.text),
+            height: LIST_STEP,
+        };
+        (line.clone(), place)
+    };
+    Block {
+        card,
+        body,
+        title: content.title.clone(),
+        chips,
+        lines: content.lines.iter().enumerate().map(line).collect(),
     }
 }

@@ -1,11 +1,21 @@
 //! The size of texts, chips and cards, in millimetres of the picture. Texts are measured for a wide sans-serif
 //! face, so that they fit whichever face is there.
 
+use super::lists::Line;
+use super::wrap::{cut_off, wrap, Face};
 use crate::numbers::{Card, Shape};
 use crate::text::check::Sheet;
 
 /// The height of a card's title.
 pub const TITLE: f64 = 3.6;
+/// The distance between the lines of a title.
+pub const TITLE_STEP: f64 = 4.3;
+/// The most lines of a title.
+const TITLE_LINES: usize = 4;
+/// Where a title starts within its card.
+pub const TITLE_LEFT: f64 = 4.6;
+/// Where it starts beside a warning.
+pub const TITLE_AFTER_WARNING: f64 = 8.6;
 /// The height of a label's letters.
 pub const LABEL: f64 = 2.85;
 /// The height of a chip's letters.
@@ -14,24 +24,50 @@ pub const CHIP_TEXT: f64 = 2.65;
 pub const CHIP: f64 = 3.8;
 /// The gap between chips, and between a card and its chips.
 pub const CHIP_GAP: f64 = 0.9;
+/// The height of the letters of a line below the chips.
+pub const LIST: f64 = 2.6;
+/// The distance between such lines.
+pub const LIST_STEP: f64 = 3.4;
 /// The least height of a card.
 pub const CARD: f64 = 7.4;
 /// The least height that an arrow's end takes at a card's side.
 pub const PORT: f64 = 3.4;
 /// How far from a card's right side a drop runs.
 pub const DROP: f64 = 4.5;
+/// From so many shapes on, a card that has all of them says so in one chip.
+const MANY_SHAPES: usize = 7;
+/// The width of cards some of which have this many chips or more.
+const MANY_CHIPS: (usize, f64) = (5, 42.0);
+/// The widest label of an arrow.
+pub const WIDEST_LABEL: f64 = 30.0;
+
+/// The letters of labels.
+pub const LABEL_FACE: Face = Face {
+    height: LABEL,
+    bold: true,
+};
+/// The letters of titles.
+pub const TITLE_FACE: Face = Face {
+    height: TITLE,
+    bold: true,
+};
+/// The letters of chips.
+const CHIP_FACE: Face = Face {
+    height: CHIP_TEXT,
+    bold: false,
+};
 
 /// How a shape of a card is marked.
-#[derive(Clone, Copy, PartialEq, Eq, Debug)]
+#[derive(Clone, Copy, PartialEq, Eq, PartialOrd, Ord, Debug)]
 pub enum Mark {
-    /// The smallest typing has it.
-    Smallest,
-    /// Only the largest typing has it.
-    Largest,
-    /// Booked, but in neither typing.
-    Booked,
     /// The unmet pair of 50.
     NotMet,
+    /// The smallest typing has it.
+    Smallest,
+    /// Booked, but in neither typing.
+    Booked,
+    /// Only the largest typing has it.
+    Largest,
     /// The card has no shape at all.
     None,
 }
@@ -43,6 +79,8 @@ pub struct Chip {
     pub mark: Mark,
     /// Whether the pair is booked.
     pub booked: bool,
+    /// The shapes that it names.
+    pub shapes: Vec<usize>,
     /// Its text.
     pub text: String,
     /// Its left end.
@@ -59,8 +97,10 @@ pub fn width(text: &str, height: f64, bold: bool) -> f64 {
         .chars()
         .map(|letter| match letter {
             'i' | 'j' | 'l' | '.' | ',' | ':' | ';' | '\'' | '|' | '!' => 0.34,
-            ' ' | '(' | ')' | '[' | ']' | 'f' | 't' | 'r' | '-' | '1' => 0.42,
-            'm' | 'w' | 'M' | 'W' | '@' | '%' => 0.95,
+            ' ' | '\u{a0}' | '(' | ')' | '[' | ']' | 'f' | 't' | 'r' | '-' | '1' => 0.42,
+            'm' | 'w' | 'M' | 'W' | '@' | '%' | '…' | '→' | '←' => 0.95,
+            // Signs of East Asian scripts are as wide as they are high.
+            '\u{1100}'.. => 1.05,
             letter if letter.is_uppercase() => 0.72,
             _ => 0.62,
         })
@@ -68,26 +108,52 @@ pub fn width(text: &str, height: f64, bold: bool) -> f64 {
     letters * height * if bold { 1.1 } else { 1.0 }
 }
 
-/// The width of all cards: that of the longest title, within bounds.
-pub fn card_width(sheet: &Sheet) -> f64 {
-    let longest = (0..sheet.text.cards.len())
-        .map(|card| width(sheet.text.card_title(card), TITLE, true) + 13.0)
+/// The width of all cards: that of the longest title, within bounds, and more if some have many chips.
+pub fn card_width(sheet: &Sheet, least: f64) -> f64 {
+    let cards = 0..sheet.text.cards.len();
+    let longest = cards
+        .clone()
+        .map(|card| title_left(sheet, card) + TITLE_FACE.width(sheet.text.card_title(card)) + 8.4)
         .fold(0.0, f64::max);
-    longest.clamp(32.0, 56.0)
+    let many = cards
+        .clone()
+        .any(|card| shapes(sheet, card).len() >= MANY_CHIPS.0);
+    longest.clamp(if many { least.max(MANY_CHIPS.1) } else { least }, 56.0)
+}
+
+/// The room of chips and lines below a card; right of it runs the drop.
+pub fn room_below(card_width: f64) -> f64 {
+    card_width - DROP - 3.0
+}
+
+/// The title of a card in lines within the card's width.
+pub fn title_lines(sheet: &Sheet, card: usize, card_width: f64) -> Vec<String> {
+    let room = card_width - title_left(sheet, card) - 7.4;
+    wrap(sheet.text.card_title(card), room, TITLE_FACE, TITLE_LINES)
+}
+
+/// Where the title of a card starts.
+fn title_left(sheet: &Sheet, card: usize) -> f64 {
+    match sheet.not_met() {
+        Some((warned, _)) if warned.index() == card => TITLE_AFTER_WARNING,
+        _ => TITLE_LEFT,
+    }
+}
+
+/// The height that the lines of a title need.
+pub fn title_height(lines: usize) -> f64 {
+    CARD.max(3.6 + TITLE_STEP * lines as f64)
 }
 
 /// The chips of a card, in rows within the card's width.
 pub fn chips(sheet: &Sheet, card: usize, card_width: f64) -> Vec<Chip> {
     let mut chips = Vec::new();
     let (mut x, mut y) = (0.0, CHIP_GAP);
-    let room = card_width - DROP - 3.0;
-    for (mark, booked, text) in shapes(sheet, card) {
-        let sign = match mark {
-            Mark::NotMet | Mark::None => 3.6,
-            _ if booked => 2.6,
-            _ => 0.0,
-        };
-        let width = width(&text, CHIP_TEXT, false) + 3.2 + sign;
+    let room = room_below(card_width);
+    for (mark, booked, shapes, text) in shapes(sheet, card) {
+        let around = 3.2 + sign_width(mark, booked);
+        let text = cut_off(&text, room - around, CHIP_FACE);
+        let width = CHIP_FACE.width(&text) + around;
         if x > 0.0 && x + width > room {
             x = 0.0;
             y += CHIP + CHIP_GAP;
@@ -95,6 +161,7 @@ pub fn chips(sheet: &Sheet, card: usize, card_width: f64) -> Vec<Chip> {
         chips.push(Chip {
             mark,
             booked,
+            shapes,
             text,
             x,
             y,
@@ -105,15 +172,31 @@ pub fn chips(sheet: &Sheet, card: usize, card_width: f64) -> Vec<Chip> {
     chips
 }
 
-/// The height that a card's chips take below its body.
-pub fn chips_height(chips: &[Chip]) -> f64 {
-    chips.iter().map(|chip| chip.y + CHIP).fold(0.0, f64::max)
+/// The width of the sign before a chip's text.
+pub fn sign_width(mark: Mark, booked: bool) -> f64 {
+    match mark {
+        Mark::NotMet | Mark::None => 3.6,
+        _ if booked => 2.6,
+        _ => 0.0,
+    }
 }
 
+/// The height that chips and lines take below a card's body.
+pub fn height_below(chips: &[Chip], lines: &[Line]) -> f64 {
+    let chips = chips.iter().map(|chip| chip.y + CHIP).fold(0.0, f64::max);
+    if lines.is_empty() {
+        return chips;
+    }
+    chips + CHIP_GAP + LIST_STEP * lines.len() as f64
+}
+
+/// A chip's mark, whether it is booked, its shapes and its text.
+type Shown = (Mark, bool, Vec<usize>, String);
+
 /// The shapes to show beside a card: first the smallest's, then what only the largest has, then faults.
-fn shapes(sheet: &Sheet, card: usize) -> Vec<(Mark, bool, String)> {
+fn shapes(sheet: &Sheet, card: usize) -> Vec<Shown> {
     let card = Card(card as u16);
-    let mut shown = Vec::new();
+    let mut shown: Vec<Shown> = Vec::new();
     for (shape, (name, _)) in (0..).map(Shape).zip(&sheet.text.shapes) {
         let pair = (card, shape);
         let booked = sheet.booked.contains(&pair);
@@ -128,18 +211,24 @@ fn shapes(sheet: &Sheet, card: usize) -> Vec<(Mark, bool, String)> {
         } else {
             continue;
         };
-        shown.push((mark, booked, name.text.clone()));
+        shown.push((mark, booked, vec![shape.index()], name.text.clone()));
     }
     if sheet.bare(card.index()) {
-        shown.push((Mark::None, false, "no shape".to_string()));
+        shown.push((Mark::None, false, Vec::new(), "no shape".to_string()));
     }
-    let rank = |mark: Mark| match mark {
-        Mark::NotMet => 0,
-        Mark::Smallest => 1,
-        Mark::Booked => 2,
-        Mark::Largest => 3,
-        Mark::None => 4,
-    };
-    shown.sort_by_key(|(mark, _, _)| rank(*mark));
-    shown
+    shown.sort_by_key(|(mark, _, _, _)| *mark);
+    together(shown, sheet.text.shapes.len())
+}
+
+/// One chip for many that only say that the largest typing has all shapes.
+fn together(shown: Vec<Shown>, count: usize) -> Vec<Shown> {
+    let has = |(mark, _, _, _): &Shown| matches!(mark, Mark::Smallest | Mark::Largest);
+    if count < MANY_SHAPES || shown.iter().filter(|one| has(one)).count() < count {
+        return shown;
+    }
+    let plain = |(mark, booked, _, _): &Shown| *mark == Mark::Largest && !booked;
+    let mut kept: Vec<Shown> = shown.into_iter().filter(|one| !plain(one)).collect();
+    let text = format!("all {count} shapes");
+    kept.push((Mark::Largest, false, (0..count).collect(), text));
+    kept
 }

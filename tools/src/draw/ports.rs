@@ -7,6 +7,8 @@ use super::nets::Side;
 const CLEAR: [f64; 4] = [1.7, 1.2, 0.7, 0.0];
 /// The distance that an end keeps from the ends of its cell.
 const MARGIN: f64 = 0.8;
+/// The same for an end with a label.
+const LABEL_MARGIN: f64 = 1.5;
 /// The step in which an end is moved.
 const STEP: f64 = 0.2;
 
@@ -45,13 +47,16 @@ pub struct Wire {
     pub ends: Vec<End>,
 }
 
-/// Shares out the side of a card, from `top`, among its ends: their cells.
-pub fn cells(top: f64, height: f64, count: usize) -> Vec<(f64, f64)> {
-    let each = height / count as f64;
-    (0..count)
-        .map(|number| {
+/// Shares out the side of a card, from `top`, among its ends: their cells. Those with a label keep further apart.
+pub fn cells(top: f64, height: f64, labelled: &[bool]) -> Vec<(f64, f64)> {
+    let each = height / labelled.len() as f64;
+    labelled
+        .iter()
+        .enumerate()
+        .map(|(number, labelled)| {
             let start = top + each * number as f64;
-            (start + MARGIN, start + each - MARGIN)
+            let margin = if *labelled { LABEL_MARGIN } else { MARGIN };
+            (start + margin, start + each - margin)
         })
         .collect()
 }

@@ -1,12 +1,40 @@
 //! Writes shapes and texts of a drawing.
 
+use super::layout::Rect;
+use super::measure::width;
 use std::fmt::Write;
 
+/// The width of a letter of a fixed-width face, as a part of its height.
+pub const MONOSPACE: f64 = 0.61;
+
 /// The text of a drawing that is being written.
-#[derive(Clone, Default, Debug)]
+#[derive(Clone, Debug)]
 pub struct Svg {
     /// What is written so far.
     pub out: String,
+    /// Where texts stand on the page.
+    pub texts: Vec<Words>,
+    /// Where the origin lies on the page, and the scale.
+    origin: (f64, f64, f64),
+}
+
+impl Default for Svg {
+    fn default() -> Svg {
+        Svg {
+            out: String::new(),
+            texts: Vec::new(),
+            origin: (0.0, 0.0, 1.0),
+        }
+    }
+}
+
+/// A text and the place that it takes on the page.
+#[derive(Clone, PartialEq, Debug)]
+pub struct Words {
+    /// The text.
+    pub text: String,
+    /// Its place.
+    pub place: Rect,
 }
 
 /// Which point of a text its place names.
@@ -27,14 +55,19 @@ impl Svg {
         self.out.push('\n');
     }
 
-    /// Opens a group.
-    pub fn open(&mut self, attributes: &str) {
-        self.raw(&format!("<g {attributes}>"));
+    /// Opens a group with an origin and a scale of its own.
+    pub fn open(&mut self, (x, y): (f64, f64), scale: f64) {
+        let (left, top) = (short(x), short(y));
+        self.raw(&format!(
+            "<g transform=\"translate({left} {top}) scale({scale:.4})\">"
+        ));
+        self.origin = (x, y, scale);
     }
 
-    /// Closes a group.
+    /// Closes the group.
     pub fn close(&mut self) {
         self.raw("</g>");
+        self.origin = (0.0, 0.0, 1.0);
     }
 
     /// A rectangle with round corners.
@@ -68,14 +101,38 @@ impl Svg {
 
     /// A text whose letters have this height; `y` is the middle of its small letters.
     pub fn text(&mut self, (x, y): (f64, f64), height: f64, anchor: Anchor, attributes: &str, text: &str) {
+        self.halo((x, y), height, anchor, attributes, text);
+        let letters = if attributes.contains("monospace") {
+            text.chars().count() as f64 * height * MONOSPACE
+        } else {
+            width(text, height, attributes.contains("bold"))
+        };
+        let left = match anchor {
+            Anchor::Start => x,
+            Anchor::Middle => x - letters / 2.0,
+            Anchor::End => x - letters,
+        };
+        let (origin_x, origin_y, scale) = self.origin;
+        let place = Rect {
+            x: origin_x + left * scale,
+            y: origin_y + (y - 0.4 * height) * scale,
+            width: letters * scale,
+            height: 0.9 * height * scale,
+        };
+        let text = text.to_string();
+        self.texts.push(Words { text, place });
+    }
+
+    /// What lies around a text that follows: the same, but not counted as a text.
+    pub fn halo(&mut self, (x, y): (f64, f64), height: f64, anchor: Anchor, attributes: &str, text: &str) {
         let anchor = match anchor {
-            Anchor::Start => "start",
-            Anchor::Middle => "middle",
-            Anchor::End => "end",
+            Anchor::Start => "",
+            Anchor::Middle => " text-anchor=\"middle\"",
+            Anchor::End => " text-anchor=\"end\"",
         };
         let _ = writeln!(
             self.out,
-            "<text x=\"{}\" y=\"{}\" font-size=\"{}\" text-anchor=\"{anchor}\" {attributes}>{}</text>",
+            "<text x=\"{}\" y=\"{}\" font-size=\"{}\"{anchor} {attributes}>{}</text>",
             short(x),
             short(y + 0.35 * height),
             short(height),

@@ -1,4 +1,4 @@
-//! The edges of document 01's limits, each from both sides, and faults that meet at one place. These inputs come
+//! The edges of the format's limits, each from both sides, and faults that meet at one place. These inputs come
 //! first in every run, so that a limit that is off by one is found whatever the seed.
 
 use super::parts::filler;
@@ -138,7 +138,7 @@ fn template_links() -> Vec<Vec<u16>> {
     templates
 }
 
-/// Scripts under document 01's template.
+/// Scripts under the worked sheet's template.
 fn scripts() -> Vec<Vec<u16>> {
     let mut many = vec![1024, 8192];
     for link in 0..8192 {
@@ -173,7 +173,7 @@ fn scripts() -> Vec<Vec<u16>> {
     ]
 }
 
-/// Bookings for document 01's template and script.
+/// Bookings for the worked sheet's template and script.
 fn booking_lists() -> Vec<Vec<u16>> {
     vec![
         vec![],

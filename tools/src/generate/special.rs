@@ -1,4 +1,4 @@
-//! Sheets made on purpose: those of document 01, long chains of strikes, and everything at its limit.
+//! Sheets made on purpose: the worked one, long chains of strikes, and everything at its limit.
 
 use super::parts::{filler, template as any_template};
 use super::{bookings, scripts, Case, FULL};
@@ -10,12 +10,12 @@ use crate::template::{self, Link, Part, Template, MOST_KINDS, MOST_SHAPES, MOST_
 use crate::typing::bookings::MOST_BOOKINGS;
 use crate::typing::Setting;
 
-/// The template of document 01's sheet.
+/// The template of the worked sheet (docs/FORMAT.md).
 pub const DOCUMENT_TEMPLATE: [u16; 15] = [2, 2, 10, 17, 2, 256, 1, 1, 1, 257, 0, 0, 1, 1, 0];
-/// The script of document 01's sheet.
+/// The script of the worked sheet.
 pub const DOCUMENT_SCRIPT: [u16; 11] = [3, 3, 0, 0, 2, 0, 1, 1, 1, 0, 0];
 
-/// Document 01's sheet with these bookings.
+/// The worked sheet with these bookings.
 pub fn document(booking_words: &[u16]) -> Files {
     Files {
         template: DOCUMENT_TEMPLATE.to_vec(),

@@ -2,6 +2,7 @@
 //! line and column of the text. Only what no word can say is a fault here: names that nobody knows, names given
 //! twice, files too long to be counted. All else is left to the readers of the words.
 
+use super::nearest::nearest;
 use super::{Expression, Fault, Name, Spot, Text};
 use crate::sheet::Files;
 use crate::template::{CHOICE, LINK, NOTHING, NO_LIMIT, PLUS, STAR};
@@ -226,32 +227,12 @@ fn find(numbers: &Numbers, what: &str, name: &Name) -> Result<u16, Fault> {
     if let Some(number) = numbers.get(name.text.as_str()) {
         return Ok(*number);
     }
-    let nearest = numbers
-        .keys()
-        .map(|known| (distance(known, &name.text), *known))
-        .min();
-    let hint = match nearest {
-        Some((distance, known)) if distance <= 2 => format!(", perhaps `{known}`"),
-        _ => String::new(),
+    let hint = match nearest(&name.text, numbers.keys().copied()) {
+        Some(known) => format!(", perhaps `{known}`"),
+        None => String::new(),
     };
     Err(Fault::at(
         name.spot,
         format!("no {what} is named `{}`{hint}", name.text),
     ))
-}
-
-/// How many letters have to be changed, put in or left out to make one word of another.
-fn distance(one: &str, two: &str) -> usize {
-    let two: Vec<char> = two.chars().collect();
-    let mut row: Vec<usize> = (0..=two.len()).collect();
-    for (index, letter) in one.chars().enumerate() {
-        let mut diagonal = row[0];
-        row[0] = index + 1;
-        for (place, other) in two.iter().enumerate() {
-            let changed = diagonal + usize::from(letter != *other);
-            diagonal = row[place + 1];
-            row[place + 1] = changed.min(diagonal + 1).min(row[place] + 1);
-        }
-    }
-    row[two.len()]
 }

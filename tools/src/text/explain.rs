@@ -1,60 +1,31 @@
-//! A refusal told in words, for a text: the word at fault, what it is for, and its line and column.
+//! A refusal of a text's words: the word at fault, what it is for in the text's names, and its line and column.
 
 use super::compile::{Compiled, Section};
-use super::reasons::{misfit, way, way_text};
-use super::{roles, Spot, Text};
+use super::hints::hint;
+use super::roles;
+use super::told::{Told, Word};
 use crate::refusal::Refusal;
-use crate::typing::{Pair, Setting};
 
 /// The refusal of a text's words, told at its line and column.
-pub fn tell(compiled: &Compiled, refusal: Refusal) -> (Option<Spot>, String) {
-    let section: Option<(&str, &Section)> = match refusal.number {
-        1..=12 => Some(("template", &compiled.template)),
-        20..=25 => Some(("script", &compiled.script)),
-        30..=33 => Some(("bookings", &compiled.bookings)),
-        _ => None,
-    };
-    let start = format!(
-        "refused {} {}: {}",
-        refusal.number,
-        refusal.place,
-        refusal.meaning()
-    );
-    let Some((name, section)) = section else {
-        return (None, start);
-    };
-    match section.origins.get(refusal.place) {
-        Some(origin) => {
-            let word = section.words[refusal.place];
-            let message = format!(
-                "{start}\n  word {} of the {name} is {word}: {}",
-                refusal.place, origin.role
-            );
-            (Some(origin.spot), message)
-        }
-        None => (None, roles::tell(&compiled.files(), refusal)),
+pub fn tell(compiled: &Compiled, refusal: Refusal) -> Told {
+    let told = tell_word(compiled, refusal);
+    Told {
+        note: hint(compiled, refusal),
+        ..told
     }
 }
 
-/// Refusal 50 in words: the pair, why it isn't met, and which booking asks for it.
-pub fn tell_not_met(text: &Text, setting: &Setting, booked: &[Pair], pair: Pair) -> String {
-    let (card, shape) = pair;
-    let (card_name, shape_name) = (
-        &text.cards[card.index()].0.text,
-        &text.shapes[shape.index()].0.text,
-    );
-    let mut message = format!(
-        "refused 50 {} {}: the card {card_name} must have shape {shape_name} and can't",
-        card.0, shape.0
-    );
-    match misfit(text, setting, pair) {
-        Some(reason) => message += &format!("\n  {card_name} isn't {shape_name}: {reason}"),
-        None => message += "\n  its own links fit; a card that they lead to isn't what it must be",
-    }
-    match way(setting, booked, pair) {
-        Some(steps) if steps.is_empty() => message += "\n  this pair is booked",
-        Some(steps) => message += &format!("\n  booked: {}", way_text(text, &steps, pair)),
-        None => message += "\n  no booking asks for this pair",
-    }
-    message
+fn tell_word(compiled: &Compiled, refusal: Refusal) -> Told {
+    let (file, section): (&'static str, &Section) = match refusal.number {
+        1..=12 => ("template", &compiled.template),
+        20..=25 => ("script", &compiled.script),
+        30..=33 => ("bookings", &compiled.bookings),
+        _ => return Told::without_word(refusal, None),
+    };
+    let Some(origin) = section.origins.get(refusal.place) else {
+        return roles::tell(&compiled.files(), refusal);
+    };
+    let value = section.words.get(refusal.place).copied();
+    let role = origin.role.clone();
+    Told::at_word(refusal, Word { file, value, role }, Some(origin.spot))
 }

@@ -1,8 +1,15 @@
-//! Reads the lines of a text. Names aren't looked up here; that is for `compile`.
+//! Reads the lines of a text. Names aren't looked up here; that is for `compile`. How deep parts lie is limited while
+//! they are read, so that no text, however deep, is a danger to those who walk over its parts.
 
 use super::tokens::{tokens, Placed, Token};
 use super::{Expression, Fault, LinkExpression, Name, Spot, Text};
 use crate::template::{ALL, CHOICE, NO_LIMIT, OPTIONAL, PLUS, STAR};
+
+/// The most parts within each other that are read. Words take 12; deeper parts up to here are refused as words.
+pub const MOST_HEIGHT: usize = 64;
+
+/// A part, and how many parts lie within each other there.
+type Tall = (Expression, usize);
 
 /// Reads a text, or tells the first fault.
 pub fn parse(source: &str) -> Result<Text, Fault> {
@@ -97,40 +104,45 @@ impl Parser<'_> {
     fn statement(&mut self, text: &mut Text) -> Result<(), Fault> {
         if self.peek().0 != Token::End {
             let keyword = self.name("a section")?;
-            match keyword.text.as_str() {
-                "title" => {
-                    text.title = Some(self.quoted().ok_or_else(|| self.unexpected("a quotation"))?);
-                }
-                "kinds" => self.kinds(text)?,
-                "shape" => {
-                    let name = self.name("a shape")?;
-                    self.expect('=')?;
-                    let part = self.part()?;
-                    text.shapes.push((name, part));
-                }
-                "card" => {
-                    let name = self.name("a card")?;
-                    let title = self.quoted();
-                    text.cards.push((name, title));
-                }
-                "link" => self.links(text)?,
-                "book" => {
-                    let card = self.name("a card")?;
-                    let shape = self.name("a shape")?;
-                    text.bookings.push([card, shape]);
-                }
-                other => {
-                    let message = format!(
-                        "a line starts with title, kinds, shape, card, link or book, not with `{other}`"
-                    );
-                    return Err(Fault::at(keyword.spot, message));
-                }
-            }
+            self.section(&keyword, text)?;
         }
         if self.peek().0 != Token::End {
             return Err(self.unexpected("the end of the line"));
         }
         self.next += 1;
+        Ok(())
+    }
+
+    /// What follows the word that a line starts with.
+    fn section(&mut self, keyword: &Name, text: &mut Text) -> Result<(), Fault> {
+        match keyword.text.as_str() {
+            "title" => {
+                text.title = Some(self.quoted().ok_or_else(|| self.unexpected("a quotation"))?);
+            }
+            "kinds" => self.kinds(text)?,
+            "shape" => {
+                let name = self.name("a shape")?;
+                self.expect('=')?;
+                let (part, _) = self.part()?;
+                text.shapes.push((name, part));
+            }
+            "card" => {
+                let name = self.name("a card")?;
+                let title = self.quoted();
+                text.cards.push((name, title));
+            }
+            "link" => self.links(text)?,
+            "book" => {
+                let card = self.name("a card")?;
+                let shape = self.name("a shape")?;
+                text.bookings.push([card, shape]);
+            }
+            other => {
+                let message =
+                    format!("a line starts with title, kinds, shape, card, link or book, not with `{other}`");
+                return Err(Fault::at(keyword.spot, message));
+            }
+        }
         Ok(())
     }
 
@@ -158,46 +170,71 @@ impl Parser<'_> {
     }
 
     /// A part: a simple one, then any of `*`, `+` and `?`.
-    fn part(&mut self) -> Result<Expression, Fault> {
-        let mut part = self.simple()?;
+    fn part(&mut self) -> Result<Tall, Fault> {
+        let (mut part, mut height) = self.simple()?;
         loop {
             let spot = self.spot();
             let code = match self.peek().0 {
                 Token::Sign('*') => STAR,
                 Token::Sign('+') => PLUS,
                 Token::Sign('?') => OPTIONAL,
-                _ => return Ok(part),
+                _ => return Ok((part, height)),
             };
             self.next += 1;
+            height = higher(height, spot)?;
             part = Expression::Wrap(code, Box::new(part), spot);
         }
     }
 
     /// A part without a sign after it.
-    fn simple(&mut self) -> Result<Expression, Fault> {
+    fn simple(&mut self) -> Result<Tall, Fault> {
+        let start = self.spot();
         if self.takes('(') {
             let inner = self.part()?;
-            self.expect(')')?;
+            self.close("`)`", start)?;
             return Ok(inner);
         }
         let name = self.name("a kind, or nothing, choice or all")?;
         match name.text.as_str() {
-            "nothing" => Ok(Expression::Nothing(name.spot)),
-            "choice" => Ok(Expression::Group(CHOICE, self.run()?, name.spot)),
-            "all" => Ok(Expression::Group(ALL, self.run()?, name.spot)),
-            _ => self.link(name),
+            "nothing" => Ok((Expression::Nothing(name.spot), 1)),
+            "choice" => self.group(CHOICE, name.spot),
+            "all" => self.group(ALL, name.spot),
+            _ => Ok((self.link(name)?, 1)),
         }
     }
 
-    /// The parts of a group, in brackets.
-    fn run(&mut self) -> Result<Vec<Expression>, Fault> {
+    /// The parts of a group, in brackets; the spot is that of the word before them.
+    fn group(&mut self, code: u16, spot: Spot) -> Result<Tall, Fault> {
+        let start = self.spot();
         self.expect('(')?;
-        let mut parts = vec![self.part()?];
-        while self.takes(',') {
-            parts.push(self.part()?);
+        let (mut parts, mut height) = (Vec::new(), 0);
+        loop {
+            let (part, inner) = self.part()?;
+            parts.push(part);
+            height = height.max(inner);
+            if !self.takes(',') {
+                break;
+            }
         }
-        self.expect(')')?;
-        Ok(parts)
+        self.close("`,` or `)`", start)?;
+        Ok((Expression::Group(code, parts, spot), higher(height, spot)?))
+    }
+
+    /// The `)` of a bracket that opens at this spot. A word on a new line belongs to another statement, so then it is
+    /// the bracket that is at fault.
+    fn close(&mut self, wanted: &str, start: Spot) -> Result<(), Fault> {
+        if self.takes(')') {
+            return Ok(());
+        }
+        let (token, spot) = self.peek();
+        let before = self.tokens[self.next.saturating_sub(1)].1;
+        if matches!(token, Token::Word(_)) && spot.line > before.line {
+            let message = format!("this `(` isn't closed before {spot}");
+            return Err(Fault::at(start, message));
+        }
+        let fault = self.unexpected(wanted);
+        let message = format!("{}; the bracket at {start} is open", fault.message);
+        Err(Fault::at(fault.spot, message))
     }
 
     /// What follows a link's kind.
@@ -221,4 +258,13 @@ impl Parser<'_> {
             high,
         }))
     }
+}
+
+/// The height of a part around one of this height.
+fn higher(height: usize, spot: Spot) -> Result<usize, Fault> {
+    if height == MOST_HEIGHT {
+        let message = format!("more than {MOST_HEIGHT} parts lie within each other here; 12 is the most");
+        return Err(Fault::at(spot, message));
+    }
+    Ok(height + 1)
 }

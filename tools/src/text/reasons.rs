@@ -1,47 +1,96 @@
-//! Why the links of a card don't fit a shape, and who asks for a pair of the closure.
+//! Why a card can't have a shape, and who asks for a pair of the closure.
 
-use super::Text;
-use crate::fit::intervals;
+use super::check::Sheet;
+use super::misfit::{misfit, Misfit};
+use super::roots::{Roots, Step as Towards};
 use crate::numbers::{Card, Kind, Shape};
-use crate::typing::{Pair, Setting};
+use crate::typing::{closure, Pair, Setting};
 use std::collections::{HashMap, VecDeque};
 
-/// Why the counts of a card's links don't fit a shape, in the text's names; none if they do.
-pub fn misfit(text: &Text, setting: &Setting, (card, shape): Pair) -> Option<String> {
-    let part = setting.template.part(shape);
-    let counts = setting.script.counts_of(card, setting.template.kinds);
-    if intervals::fits(part, &counts) {
-        return None;
-    }
-    let named = part.named(setting.template.kinds);
-    let kind_name = |kind: usize| text.kinds[kind].text.as_str();
-    let unnamed = (0..counts.len()).find(|kind| counts[*kind] > 0 && named[*kind].is_none());
-    if let Some(kind) = unnamed {
-        return Some(format!(
-            "it has {} of kind {}, which {} doesn't name",
-            links(counts[kind]),
-            kind_name(kind),
-            text.shapes[shape.index()].0.text
-        ));
-    }
-    let had: Vec<String> = (0..counts.len())
-        .filter(|kind| named[*kind].is_some())
-        .map(|kind| format!("{} {}", kind_name(kind), counts[kind]))
-        .collect();
-    let had = if had.is_empty() {
-        "none".to_string()
-    } else {
-        had.join(", ")
-    };
-    Some(format!("the counts of its links are no bag of it ({had})"))
+/// Why a pair isn't in the largest typing.
+#[derive(Clone, Debug)]
+pub struct Reason {
+    /// The pair.
+    pub pair: Pair,
+    /// The steps to the pair that is to blame; none if that is the pair itself.
+    pub steps: Vec<Towards>,
+    /// What is wrong with the links of the card that is to blame.
+    pub misfit: Misfit,
+    /// How many links of the card itself are missing, too many, or lead to a card that can't be what it must be.
+    pub distance: u64,
+    /// Whether the card has a link of a kind that the shape doesn't name.
+    pub strange: bool,
 }
 
-fn links(count: u16) -> String {
-    if count == 1 {
-        "a link".to_string()
-    } else {
-        format!("{count} links")
+impl Reason {
+    /// The pair that is to blame.
+    pub fn root(&self) -> Pair {
+        self.steps.last().map_or(self.pair, |(_, pair)| *pair)
     }
+}
+
+/// Why a pair isn't in the largest typing of a sheet; none if it is.
+pub fn reason(sheet: &Sheet, roots: &Roots, pair: Pair) -> Option<Reason> {
+    let steps = roots.steps(pair)?;
+    let root = steps.last().map_or(pair, |(_, pair)| *pair);
+    let own = own_misfit(&sheet.setting, pair);
+    let distance = own.as_ref().map_or(0, Misfit::distance);
+    let (far, strange) = targets(sheet, pair);
+    Some(Reason {
+        pair,
+        misfit: match own {
+            Some(own) => own,
+            None => own_misfit(&sheet.setting, root)?,
+        },
+        steps,
+        distance: distance + far,
+        strange,
+    })
+}
+
+/// Why a card has none of the shapes, the nearest shape first.
+pub fn reasons(sheet: &Sheet, roots: &Roots, card: usize) -> Vec<Reason> {
+    let card = Card(card as u16);
+    let shapes = (0..sheet.both.shapes).map(Shape);
+    let mut reasons: Vec<Reason> = shapes
+        .filter_map(|shape| reason(sheet, roots, (card, shape)))
+        .collect();
+    reasons.sort_by_key(|reason| reason.distance);
+    reasons
+}
+
+/// Why pairs that bookings ask for aren't met, in the order of the pairs; the first is that of 50. Only those whose
+/// own links don't fit are told, because the others lead to one of them.
+pub fn all_not_met(sheet: &Sheet, roots: &Roots) -> Vec<Reason> {
+    let closure = closure::closure(&sheet.setting, &sheet.booked);
+    let asked = sheet.setting.pairs().filter(|pair| sheet.has(&closure, *pair));
+    asked
+        .filter_map(|pair| reason(sheet, roots, pair))
+        .filter(|reason| reason.steps.is_empty())
+        .collect()
+}
+
+/// Why the links of a card don't fit a shape by their counts; none if they do.
+fn own_misfit(setting: &Setting, (card, shape): Pair) -> Option<Misfit> {
+    let counts = setting.script.counts_of(card, setting.template.kinds);
+    misfit(setting.template.part(shape), &counts)
+}
+
+/// How many links lead to a card that can't be what it must be, and whether the shape doesn't name one's kind.
+fn targets(sheet: &Sheet, (card, shape): Pair) -> (u64, bool) {
+    let named = sheet
+        .setting
+        .template
+        .part(shape)
+        .named(sheet.setting.template.kinds);
+    let (mut far, mut strange) = (0, false);
+    for link in sheet.setting.script.links_of(card) {
+        match named[link.kind.index()] {
+            Some(needed) => far += u64::from(!sheet.has(&sheet.both.largest.1, (link.to, needed))),
+            None => strange = true,
+        }
+    }
+    (far, strange)
 }
 
 /// One step of the way from a booking to a pair: the pair that asks, and the kind by which it does.
@@ -78,22 +127,4 @@ pub fn way(setting: &Setting, booked: &[Pair], goal: Pair) -> Option<Vec<Step>> 
     }
     steps.reverse();
     Some(steps)
-}
-
-/// The way to a pair in words.
-pub fn way_text(text: &Text, steps: &[Step], goal: Pair) -> String {
-    let pair = |(card, shape): Pair| format!("{} {}", card_name(text, card), shape_name(text, shape));
-    let mut line = String::new();
-    for (asking, kind) in steps {
-        line += &format!("{} -{}-> ", pair(*asking), text.kinds[kind.index()].text);
-    }
-    line + &pair(goal)
-}
-
-fn card_name(text: &Text, card: Card) -> &str {
-    &text.cards[card.index()].0.text
-}
-
-fn shape_name(text: &Text, shape: Shape) -> &str {
-    &text.shapes[shape.index()].0.text
 }

@@ -1,7 +1,8 @@
 //! What the word at a place of a file is for, as far as the file can be followed, and refusals told with it.
 
+use super::told::{Told, Word};
 use crate::refusal::Refusal;
-use crate::sheet::Files;
+use crate::sheet::{Files, MOST_BYTES};
 use crate::template::{CHOICE, LINK, MOST_DEPTH, NOTHING, OPTIONAL, PLUS, STAR};
 
 /// The file that a refusal's place is counted in: its name and its words. None for 40 to 43 and 60.
@@ -14,39 +15,38 @@ pub fn file_of(files: &Files, refusal: Refusal) -> Option<(&'static str, &[u16])
     }
 }
 
-/// A refusal of these files in words: what is wrong, at which word, and what that word is for.
-pub fn tell(files: &Files, refusal: Refusal) -> String {
-    let start = format!(
-        "refused {} {}: {}",
-        refusal.number,
-        refusal.place,
-        refusal.meaning()
-    );
-    let Some((name, words)) = file_of(files, refusal) else {
-        return start;
+/// A refusal of these files, with what the word at fault is for.
+pub fn tell(files: &Files, refusal: Refusal) -> Told {
+    let Some((file, words)) = file_of(files, refusal) else {
+        return Told::without_word(refusal, None);
     };
-    let role = match name {
+    let role = match file {
         "template" => template_role(words, refusal.place),
         "script" => script_role(refusal.place),
         _ => booking_role(refusal.place),
     };
-    match words.get(refusal.place) {
-        Some(word) => format!(
-            "{start}\n  word {} of the {name} is {word}: {role}",
-            refusal.place
-        ),
-        None => format!("{start}\n  the {name} has no word {}: {role}", refusal.place),
-    }
+    let value = words.get(refusal.place).copied();
+    Told::at_word(refusal, Word { file, value, role }, None)
 }
 
-/// Why an input can't be cut into three files.
-pub fn tell_input(input: &[u8]) -> String {
-    let start = format!("refused 60 0: {}", Refusal::at(60, 0).meaning());
-    if input.len() > 65536 {
-        return format!("{start}\n  it has {} bytes", input.len());
+/// Refusal 60 of an input that can't be cut into three files, and why it can't.
+pub fn tell_input(input: &[u8]) -> Told {
+    Told::without_word(Refusal::at(60, 0), Some(why_not_cut(input)))
+}
+
+fn why_not_cut(input: &[u8]) -> String {
+    match input {
+        [] => return "it is empty".to_string(),
+        [0xff, 0xfe, ..] | [0xfe, 0xff, ..] => {
+            return "it looks like a text in UTF-16; save it as UTF-8".to_string();
+        }
+        _ => {}
+    }
+    if input.len() > MOST_BYTES {
+        return format!("it has {} bytes", input.len());
     }
     if !input.len().is_multiple_of(2) {
-        return format!("{start}\n  its {} bytes aren't whole words", input.len());
+        return format!("its {} bytes aren't whole words", input.len());
     }
     let words: Vec<u16> = input
         .chunks_exact(2)
@@ -55,20 +55,16 @@ pub fn tell_input(input: &[u8]) -> String {
     let mut place = 0;
     for name in ["template", "script", "bookings"] {
         let Some(count) = words.get(place) else {
-            return format!("{start}\n  it ends at word {place}, where the {name}'s count would be");
+            return format!("it ends at word {place}, where the {name}'s count would be");
         };
         let left = words.len() - place - 1;
         if usize::from(*count) > left {
-            return format!(
-                "{start}\n  word {place}, the {name}'s count, is {count}, but only {left} words follow"
-            );
+            return format!("word {place}, the {name}'s count, is {count}, but only {left} words follow");
         }
         place += 1 + usize::from(*count);
     }
-    format!(
-        "{start}\n  the bookings end before word {place}, but {} words follow",
-        words.len() - place
-    )
+    let left = words.len() - place;
+    format!("the bookings end before word {place}, but {left} words follow")
 }
 
 /// What the word at this place of a template is for.

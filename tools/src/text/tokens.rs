@@ -1,6 +1,8 @@
-//! Cuts a text into tokens. A line ends a statement, except inside brackets of any kind; `#` starts a comment.
+//! Cuts a text into tokens. A line ends a statement, except inside brackets of any kind; `#` starts a comment. A
+//! byte-order mark at the start is skipped.
 
-use super::{Fault, Spot};
+use super::brackets::Brackets;
+use super::{quotations, Fault, Spot};
 
 /// One token.
 #[derive(Clone, PartialEq, Eq, Debug)]
@@ -20,51 +22,49 @@ pub enum Token {
 /// A token and where it starts.
 pub type Placed = (Token, Spot);
 
-/// The tokens of a text; the last one is an end.
+/// The tokens of a text; the last one is an end, and all brackets are closed.
 pub fn tokens(text: &str) -> Result<Vec<Placed>, Fault> {
+    let text = text.strip_prefix('\u{feff}').unwrap_or(text);
     let mut tokens = Vec::new();
-    let mut open = 0usize;
+    let mut brackets = Brackets::default();
     let mut line = 0;
     for content in text.lines() {
         line += 1;
-        let characters: Vec<char> = content.chars().collect();
-        let mut index = 0;
-        while index < characters.len() {
-            let spot = Spot {
-                line,
-                column: index + 1,
-            };
-            let character = characters[index];
-            if character == '#' {
-                break;
-            }
-            if character.is_whitespace() {
-                index += 1;
-                continue;
-            }
-            let (token, length) = token(&characters[index..], spot)?;
-            match token {
-                Token::Sign('(' | '[') => open += 1,
-                Token::Sign(')' | ']') => open = open.saturating_sub(1),
-                _ => {}
-            }
-            tokens.push((token, spot));
-            index += length;
-        }
-        if open == 0 {
-            let column = characters.len() + 1;
+        let column = 1 + cut_line(content, line, &mut brackets, &mut tokens)?;
+        if brackets.none_open() {
             tokens.push((Token::End, Spot { line, column }));
         }
     }
-    let column = 1;
-    tokens.push((
-        Token::End,
-        Spot {
-            line: line + 1,
-            column,
-        },
-    ));
+    brackets.end()?;
+    let (line, column) = (line + 1, 1);
+    tokens.push((Token::End, Spot { line, column }));
     Ok(tokens)
+}
+
+/// Adds the tokens of one line, and gives its length.
+fn cut_line(
+    content: &str,
+    line: usize,
+    brackets: &mut Brackets,
+    tokens: &mut Vec<Placed>,
+) -> Result<usize, Fault> {
+    let characters: Vec<char> = content.chars().collect();
+    let mut index = 0;
+    while index < characters.len() && characters[index] != '#' {
+        if characters[index].is_whitespace() {
+            index += 1;
+            continue;
+        }
+        let column = index + 1;
+        let spot = Spot { line, column };
+        let (token, length) = token(&characters[index..], spot)?;
+        if let Token::Sign(sign) = token {
+            brackets.note(sign, spot)?;
+        }
+        tokens.push((token, spot));
+        index += length;
+    }
+    Ok(characters.len())
 }
 
 /// The token that the characters start with, and how many of them it takes.
@@ -74,14 +74,8 @@ fn token(characters: &[char], spot: Spot) -> Result<(Token, usize), Fault> {
         return Ok((Token::Sign(first), 1));
     }
     if first == '"' {
-        let length = characters[1..].iter().position(|character| *character == '"');
-        return match length {
-            Some(length) => {
-                let inside = characters[1..=length].iter().collect();
-                Ok((Token::Quoted(inside), length + 2))
-            }
-            None => Err(Fault::at(spot, "the quotation isn't closed on its line")),
-        };
+        let (inside, length) = quotations::read(characters, spot)?;
+        return Ok((Token::Quoted(inside), length));
     }
     let length = characters.iter().take_while(|other| is_of_word(**other)).count();
     if length == 0 {

@@ -1,73 +1,98 @@
-//! Words to text. Words know no names, so kinds, shapes and cards are named by their numbers. The text gives
-//! the same words again.
+//! A sheet as text, with its links in order. Words know no names, so kinds, shapes and cards of words are named by
+//! their numbers. The text gives the same words again.
 
-use super::roles;
-use crate::sheet::{self, Files};
+use super::check::Sheet;
+use super::load::load_sheet;
+use super::{quotations, Text};
 use crate::template::{Link, Part, Template};
-use crate::typing::{bookings, Pair, Setting};
+use crate::typing::{Pair, Setting};
 use std::fmt::Write;
 
 /// The text of an input, or the refusal in words.
 pub fn text(input: &[u8]) -> Result<String, String> {
-    let read = |files: &Files| {
-        let setting = Setting::read(&files.template, &files.script)?;
-        let booked = bookings::read(&setting, &files.bookings)?;
-        Ok((setting, booked))
-    };
-    let files = sheet::split(input).map_err(|_| roles::tell_input(input))?;
-    let (setting, booked) = read(&files).map_err(|refusal| roles::tell(&files, refusal))?;
-    Ok(sheet_text(&setting, &booked))
+    match load_sheet("input", input) {
+        Ok(sheet) => Ok(sheet_text(&sheet)),
+        Err(trouble) => Err(trouble.to_string()),
+    }
 }
 
-fn sheet_text(setting: &Setting, booked: &[Pair]) -> String {
-    let template = &setting.template;
-    let kinds: Vec<String> = (0..template.kinds).map(kind_name).collect();
+/// What things are called.
+struct Names {
+    kinds: Vec<String>,
+    shapes: Vec<String>,
+    /// The cards, each with its title if it has one.
+    cards: Vec<String>,
+}
+
+/// The text of a sheet: names and titles stay, comments go.
+pub fn sheet_text(sheet: &Sheet) -> String {
+    let text = &sheet.text;
+    let title = text
+        .title
+        .as_ref()
+        .map(|title| format!("title {}\n\n", quotations::write(title)));
+    let names = Names {
+        kinds: text.kinds.iter().map(|name| name.text.clone()).collect(),
+        shapes: text.shapes.iter().map(|(name, _)| name.text.clone()).collect(),
+        cards: text.cards.iter().map(|(name, _)| name.text.clone()).collect(),
+    };
+    let titles: Vec<Option<&str>> = text.cards.iter().map(|(_, title)| title.as_deref()).collect();
+    title.unwrap_or_default() + &lines(&sheet.setting, &sheet.booked, &names, &titles)
+}
+
+/// The text of a template, script and bookings that have no names.
+pub fn numbered(setting: &Setting, booked: &[Pair]) -> String {
+    let named = |start: &str, count: u16| (0..count).map(|number| format!("{start}{number}")).collect();
+    let names = Names {
+        kinds: named("kind", setting.template.kinds),
+        shapes: named("Shape", setting.template.shapes()),
+        cards: named("card", setting.script.cards),
+    };
+    lines(setting, booked, &names, &[])
+}
+
+fn lines(setting: &Setting, booked: &[Pair], names: &Names, titles: &[Option<&str>]) -> String {
+    let Names { kinds, shapes, cards } = names;
     let mut text = format!("kinds: {}\n\n", kinds.join(" "));
-    for (shape, part) in template.parts.iter().enumerate() {
-        let _ = writeln!(text, "shape {} = {}", shape_name(shape), part_text(part));
+    for (shape, part) in shapes.iter().zip(&setting.template.parts) {
+        let _ = writeln!(text, "shape {shape} = {}", part_named(part, kinds, shapes));
     }
     text.push('\n');
-    for card in setting.cards() {
-        let _ = writeln!(text, "card {}", card_name(card.0));
+    for (number, card) in cards.iter().enumerate() {
+        let _ = match titles.get(number).copied().flatten() {
+            Some(title) => writeln!(text, "card {card} {}", quotations::write(title)),
+            None => writeln!(text, "card {card}"),
+        };
     }
     text.push('\n');
     for link in &setting.script.links {
-        let (from, to) = (card_name(link.from.0), card_name(link.to.0));
-        let _ = writeln!(text, "link {from} {} {to}", kind_name(link.kind.0));
+        let (from, to) = (&cards[link.from.index()], &cards[link.to.index()]);
+        let _ = writeln!(text, "link {from} {} {to}", kinds[link.kind.index()]);
     }
     text.push('\n');
     for (card, shape) in booked {
-        let _ = writeln!(text, "book {} {}", card_name(card.0), shape_name(shape.index()));
+        let _ = writeln!(text, "book {} {}", cards[card.index()], shapes[shape.index()]);
     }
     text
 }
 
-fn kind_name(kind: u16) -> String {
-    format!("kind{kind}")
+/// A part whose kinds and shapes are called by the names of a template.
+pub fn part_in_names(template: &Template, shape: usize, kinds: &[&str], shapes: &[&str]) -> String {
+    part_named(&template.parts[shape], kinds, shapes)
 }
 
-fn shape_name(shape: usize) -> String {
-    format!("Shape{shape}")
-}
-
-fn card_name(card: u16) -> String {
-    format!("card{card}")
-}
-
-/// A part with numbered names.
-fn part_text(part: &Part) -> String {
+/// A part in the names of a text.
+pub fn part_in(text: &Text, part: &Part) -> String {
     part_with(part, &|link| {
-        (kind_name(link.kind.0).to_string(), shape_name(link.shape.index()))
+        let (kind, shape) = (&text.kinds[link.kind.index()], &text.shapes[link.shape.index()].0);
+        (kind.text.clone(), shape.text.clone())
     })
 }
 
-/// A part whose kinds and shapes are called by the names of a template.
-pub fn part_in_names(template: &Template, shape: usize, kinds: &[&str], shapes: &[&str]) -> String {
-    part_with(&template.parts[shape], &|link| {
-        (
-            kinds[link.kind.index()].to_string(),
-            shapes[link.shape.index()].to_string(),
-        )
+fn part_named<Name: AsRef<str>>(part: &Part, kinds: &[Name], shapes: &[Name]) -> String {
+    part_with(part, &|link| {
+        let (kind, shape) = (&kinds[link.kind.index()], &shapes[link.shape.index()]);
+        (kind.as_ref().to_string(), shape.as_ref().to_string())
     })
 }
 

@@ -1,16 +1,15 @@
 //! Columns, nets and boxes: all of the picture that doesn't depend on its size.
 
-use super::super::columns::columns;
-use super::super::graph::{Arrow, Graph};
+use super::super::contents::Content;
+use super::super::graph::Arrow;
 use super::super::heights::{Box, PASS};
-use super::super::measure::{card_width, chips, chips_height, Chip, CARD, PORT};
+use super::super::measure::PORT;
 use super::super::nets::{column_of, drops, nets, Net, Side, Slot};
-use super::super::order::order;
-use crate::text::check::Sheet;
+use super::super::plan::Plan;
 
 /// What stands in which column, and what is tied to what.
 #[derive(Clone, Debug)]
-pub struct Frame {
+pub struct Frame<'a> {
     /// The column of each card.
     pub home: Vec<usize>,
     /// The nets; some may have no targets left.
@@ -19,36 +18,30 @@ pub struct Frame {
     pub drops: Vec<Arrow>,
     /// The boxes of each column, from the top.
     pub boxes: Vec<Vec<Box>>,
-    /// The chips of each card.
-    pub chips: Vec<Vec<Chip>>,
+    /// What each card has to show.
+    pub contents: &'a [Content],
     /// The width of all cards.
     pub card_width: f64,
 }
 
-impl Frame {
-    /// The frame of a sheet.
-    pub fn new(sheet: &Sheet) -> Frame {
-        let graph = Graph::new(sheet);
-        let slots = order(&graph, &columns(&graph));
-        let home = column_of(&slots, graph.cards);
-        let drops = drops(&graph, &slots);
-        let mut nets = nets(&graph, &home);
+impl Frame<'_> {
+    /// The frame of a page.
+    pub fn new<'a>(plan: &Plan, contents: &'a [Content], card_width: f64) -> Frame<'a> {
+        let home = column_of(&plan.slots, plan.cards.len());
+        let drops = drops(&plan.graph, &plan.slots);
+        let mut nets = nets(&plan.graph, &home);
         for net in &mut nets {
             net.leave_out(&drops);
         }
-        let card_width = card_width(sheet);
-        let chips: Vec<Vec<Chip>> = (0..graph.cards)
-            .map(|card| chips(sheet, card, card_width))
-            .collect();
         let mut frame = Frame {
             home,
             nets,
             drops,
             boxes: Vec::new(),
-            chips,
+            contents,
             card_width,
         };
-        for column in &slots {
+        for column in &plan.slots {
             let boxes = column.iter().map(|slot| frame.new_box(*slot)).collect();
             frame.boxes.push(boxes);
         }
@@ -60,8 +53,9 @@ impl Frame {
         let (body, height) = match slot {
             Slot::Card(card) => {
                 let ports = [Side::Left, Side::Right].map(|side| self.ports(card, side));
-                let body = CARD.max(PORT * ports[0].max(ports[1]) as f64 + 1.0);
-                (body, body + chips_height(&self.chips[card]))
+                let content = &self.contents[card];
+                let body = content.body().max(PORT * ports[0].max(ports[1]) as f64 + 1.0);
+                (body, body + content.below())
             }
             Slot::Pass(_) => (PASS, PASS),
         };

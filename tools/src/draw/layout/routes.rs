@@ -1,10 +1,12 @@
 //! Tracks, widths and the ways of all arrows.
 
+use super::super::fold::EMPTY_CHANNEL;
 use super::super::graph::Arrow;
-use super::super::measure::{width, DROP, LABEL};
+use super::super::measure::{DROP, LABEL_FACE, WIDEST_LABEL};
 use super::super::nets::{Net, Side, Slot};
 use super::super::ports::{EndKind, Wire};
 use super::super::tracks::tracks;
+use super::super::wrap::cut_off;
 use super::frame::Frame;
 use super::wires::wires;
 use super::{Block, Label, Route};
@@ -32,12 +34,14 @@ struct Channel {
     right: f64,
     /// The distance between tracks.
     pitch: f64,
+    /// The width if there are no wires.
+    empty: f64,
 }
 
 impl Channel {
     fn width(&self) -> f64 {
         if self.wires.is_empty() {
-            return 0.0;
+            return self.empty;
         }
         self.left + self.right + self.count.saturating_sub(1) as f64 * self.pitch
     }
@@ -60,8 +64,8 @@ impl Routing {
                     for end in wire.ends.iter().filter(|end| end.side == side) {
                         let wanted = match end.kind {
                             EndKind::Exit(_) => {
-                                let kind = frame.nets[wire.net].kind;
-                                width(&sheet.text.kinds[kind].text, LABEL, true) + AROUND_LABEL
+                                let text = label_text(sheet, frame.nets[wire.net].kind, WIDEST_LABEL);
+                                LABEL_FACE.width(&text) + AROUND_LABEL
                             }
                             EndKind::Entry(_) => HEAD,
                             _ => 0.0,
@@ -79,11 +83,14 @@ impl Routing {
                 left,
                 right,
                 pitch: TRACK,
+                empty: EMPTY_CHANNEL,
             }
         };
-        Routing {
-            channels: wires(frame).into_iter().map(channel).collect(),
+        let mut channels: Vec<Channel> = wires(frame).into_iter().map(channel).collect();
+        if let Some(last) = channels.last_mut() {
+            last.empty = 0.0;
         }
+        Routing { channels }
     }
 
     /// The width of the whole picture.
@@ -132,14 +139,15 @@ impl Routing {
     }
 
     /// The ways of the links of all nets, and the nets' labels.
-    pub fn routes(&self, frame: &Frame) -> (Vec<Route>, Vec<Label>) {
+    pub fn routes(&self, sheet: &Sheet, frame: &Frame) -> (Vec<Route>, Vec<Label>) {
         let (mut routes, mut labels) = (Vec::new(), Vec::new());
         for (number, net) in frame.nets.iter().enumerate() {
             if net.targets.is_empty() {
                 continue;
             }
             self.follow(frame, number, net, &mut routes);
-            labels.push(self.label(frame, number, net));
+            let text = label_text(sheet, net.kind, WIDEST_LABEL);
+            labels.push(self.label(frame, number, net, text));
         }
         (routes, labels)
     }
@@ -199,7 +207,7 @@ impl Routing {
     }
 
     /// The label of a net, on its line where it leaves its card.
-    fn label(&self, frame: &Frame, number: usize, net: &Net) -> Label {
+    fn label(&self, frame: &Frame, number: usize, net: &Net, text: String) -> Label {
         let channel = Self::first_channel(frame, net);
         let left = self.channel_x(frame, channel);
         let y = self.wire(channel, number).map_or(0.0, |(_, wire)| wire.ends[0].y);
@@ -209,6 +217,7 @@ impl Routing {
         };
         Label {
             kind: net.kind,
+            text,
             x,
             y,
             ends,
@@ -216,7 +225,8 @@ impl Routing {
     }
 
     /// The ways and labels of the drops.
-    pub fn drops(&self, frame: &Frame, blocks: &[Block], routes: &mut Vec<Route>, labels: &mut Vec<Label>) {
+    pub fn drops(&self, sheet: &Sheet, frame: &Frame, blocks: &[Block]) -> (Vec<Route>, Vec<Label>) {
+        let (mut routes, mut labels) = (Vec::new(), Vec::new());
         for drop in &frame.drops {
             let (from, to) = (&blocks[drop.from].body, &blocks[drop.to].body);
             let x = from.x + from.width - DROP;
@@ -235,13 +245,20 @@ impl Routing {
             let one = frame.find(Slot::Card(upper), column);
             labels.push(Label {
                 kind: drop.kind,
+                text: label_text(sheet, drop.kind, frame.card_width - DROP - 3.0),
                 x: x - 1.6,
                 y: one.top + one.height + BELOW.min((lower - one.top - one.height) / 2.0),
                 ends: true,
             });
             routes.push(Route { arrow: *drop, points });
         }
+        (routes, labels)
     }
+}
+
+/// The text of a label, as much of it as fits.
+fn label_text(sheet: &Sheet, kind: usize, room: f64) -> String {
+    cut_off(&sheet.text.kinds[kind].text, room, LABEL_FACE)
 }
 
 /// A way without corners at which it goes straight on.

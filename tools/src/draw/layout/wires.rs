@@ -34,47 +34,43 @@ fn beside(column: usize, side: Side) -> Option<(usize, Side)> {
 fn add_net(frame: &Frame, number: usize, net: &Net, channels: &mut [Vec<Wire>]) {
     let passes = net.passes(&frame.home);
     let mut column = frame.home[net.from];
-    let mut start = EndKind::Exit(net.from);
-    loop {
-        let Some((channel, side)) = beside(column, net.side) else {
-            return;
-        };
-        let end = |kind: EndKind, side: Side, slot: Slot, column: usize| {
-            let y = frame.find(slot, column).middle();
-            End {
-                kind,
-                side,
-                cell: (y, y),
-                y,
-            }
-        };
-        let slot = match start {
-            EndKind::Exit(card) => Slot::Card(card),
-            _ => Slot::Pass(number),
-        };
-        let mut ends = vec![end(start, side, slot, column)];
+    let mut start = (EndKind::Exit(net.from), Slot::Card(net.from));
+    while let Some((channel, side)) = beside(column, net.side) {
+        let mut ends = vec![end(frame, start.0, side, start.1, column)];
         let next = match net.side {
             Side::Right => column + 1,
             Side::Left => column - 1,
         };
         for target in &net.targets {
-            let home = frame.home[*target];
-            let returns = home == column && matches!(start, EndKind::Exit(_));
+            let (home, slot) = (frame.home[*target], Slot::Card(*target));
+            let returns = home == column && matches!(start.0, EndKind::Exit(_));
             if home == next || returns {
                 let side = if returns { side } else { opposite(side) };
-                ends.push(end(EndKind::Entry(*target), side, Slot::Card(*target), home));
+                ends.push(end(frame, EndKind::Entry(*target), side, slot, home));
             }
         }
+        let slot = Slot::Pass(number);
         let goes_on = passes.contains(&next);
         if goes_on {
-            ends.push(end(EndKind::PassIn, opposite(side), Slot::Pass(number), next));
+            ends.push(end(frame, EndKind::PassIn, opposite(side), slot, next));
         }
         channels[channel].push(Wire { net: number, ends });
         if !goes_on {
             return;
         }
         column = next;
-        start = EndKind::PassOut;
+        start = (EndKind::PassOut, slot);
+    }
+}
+
+/// An end in the middle of its slot.
+fn end(frame: &Frame, kind: EndKind, side: Side, slot: Slot, column: usize) -> End {
+    let y = frame.find(slot, column).middle();
+    End {
+        kind,
+        side,
+        cell: (y, y),
+        y,
     }
 }
 
@@ -106,7 +102,8 @@ fn share_side(frame: &Frame, card: usize, side: Side, channels: &mut [Vec<Wire>]
     }
     ends.sort_by(|one, two| one.0.total_cmp(&two.0).then(one.1.cmp(&two.1)));
     let one = frame.find(Slot::Card(card), column);
-    let shares = cells(one.top, one.body, ends.len());
+    let labelled: Vec<bool> = ends.iter().map(|(_, _, end)| *end == 0).collect();
+    let shares = cells(one.top, one.body, &labelled);
     for ((_, wire, end), cell) in ends.into_iter().zip(shares) {
         wires[wire].ends[end].cell = cell;
     }

@@ -1,0 +1,315 @@
+"""Prep sheet shapes: templates, scripts and their two typings, by the proved library.
+
+    import prep
+
+    template = prep.Template([2, 2, 10, 17, 2, 256, 1, 1, 1, 257, 0, 0, 1, 1, 0])
+    script = prep.Script(template, [3, 3, 0, 0, 2, 0, 1, 1, 1, 0, 0])
+    try:
+        typing = script.smallest([(2, 1)]).typing
+    except prep.NotMet as unmet:
+        print(unmet.card, unmet.shape)
+
+Or from parts and links, so that nobody counts words:
+
+    template = prep.Template.of(2, [prep.all_of(prep.link(0, 1, 1, 1), prep.link(1, 0, 0, 1)), prep.nothing()])
+    script = prep.Script.of(template, 3, [(1, 0, 0), (0, 1, 1), (0, 0, 2)])
+
+What the library turns down is a Refused, which says in words what is wrong and where. The library is libprep.so in
+the folder that PREP_LIB_DIR names, or in the lib folder of the package that this file came with, or where the system
+looks. Python 3.8 or later; nothing but the standard library. Other threads run while the library works.
+"""
+
+import array
+import ctypes
+import os
+from typing import Iterable, List, NamedTuple, Sequence, Tuple
+
+# The major version that this file is for, and the one refusal with a card and a shape.
+MAJOR = 0
+NOT_MET = 50
+
+_SIZE = ctypes.c_size_t
+_WORD = ctypes.c_uint16
+_FILES = ("nothing", "template", "script", "bookings", "counts", "grid", "input")
+
+
+def _answer(name: str, *fields: str) -> type:
+    """A struct of prep.h. Its sizes and counts of pairs are size_t, all else is words."""
+    sizes = ("place", "rounds", "struck", "bare", "pairs")
+    kinds = [(field, _SIZE if field in sizes else _WORD) for field in fields]
+    return type(name, (ctypes.Structure,), {"_fields_": kinds})
+
+
+_TemplateAnswer = _answer("_TemplateAnswer", "number", "kinds", "shapes", "place")
+_FitAnswer = _answer("_FitAnswer", "number", "fits", "place")
+_ScriptAnswer = _answer("_ScriptAnswer", "number", "cards", "links", "place")
+_LargestAnswer = _answer("_LargestAnswer", "number", "place", "rounds", "struck", "bare")
+_SmallestAnswer = _answer("_SmallestAnswer", "number", "card", "shape", "place", "pairs")
+_BothAnswer = _answer("_BothAnswer", "number", "card", "shape", "place", "rounds", "struck", "bare", "pairs")
+
+
+def _library_path() -> str:
+    """The library's file, or its name for the system to find."""
+    folder = os.environ.get("PREP_LIB_DIR")
+    if folder:
+        return os.path.join(folder, "libprep.so")
+    here = os.path.dirname(os.path.abspath(__file__))
+    beside = os.path.normpath(os.path.join(here, "..", "..", "..", "lib", "libprep.so"))
+    return beside if os.path.exists(beside) else f"libprep.so.{MAJOR}"
+
+
+def _load() -> ctypes.CDLL:
+    """The library, with the functions of prep.h declared."""
+    path = _library_path()
+    try:
+        library = ctypes.CDLL(path)
+    except OSError as error:
+        raise ImportError(
+            f"the library {path} cannot be loaded ({error}); PREP_LIB_DIR names the folder that has libprep.so"
+        ) from error
+    lent = [ctypes.c_void_p, _SIZE]
+    for name, result, parameters in (
+        ("prep_read_template", _TemplateAnswer, lent),
+        ("prep_fit_counts", _FitAnswer, lent + [_WORD] + lent),
+        ("prep_read_script", _ScriptAnswer, lent * 2),
+        ("prep_links_of_card", _SIZE, lent * 2 + [_WORD] + lent),
+        ("prep_largest", _LargestAnswer, lent * 3),
+        ("prep_smallest", _SmallestAnswer, lent * 4),
+        ("prep_both_typings", _BothAnswer, lent * 5),
+        ("prep_version", ctypes.c_uint32, []),
+        ("prep_reason", ctypes.c_char_p, [_WORD]),
+        ("prep_file_of", ctypes.c_uint, [_WORD]),
+    ):
+        function = getattr(library, name)
+        function.restype, function.argtypes = result, parameters
+    if library.prep_version() // 10000 != MAJOR:
+        raise ImportError(f"the library {path} is not of major version {MAJOR}")
+    return library
+
+
+_library = _load()
+
+
+def version() -> Tuple[int, int, int]:
+    """The library's version: major, minor and patch."""
+    number = _library.prep_version()
+    return number // 10000, number // 100 % 100, number % 100
+
+
+class Refused(Exception):
+    """What the library turns down: a number, a place and the file that the place is counted in."""
+
+    def __init__(self, number: int, place: int):
+        self.number = number
+        self.place = place
+        self.reason = _library.prep_reason(number).decode()
+        file = _library.prep_file_of(number)
+        self.file = _FILES[file] if file < len(_FILES) else "nothing"
+        super().__init__(f"{self.reason} (refusal {number}, {self._where()})")
+
+    def _where(self) -> str:
+        return f"word {self.place}"
+
+
+class NotMet(Refused):
+    """Refusal 50: the bookings ask for a card to have a shape, and it cannot."""
+
+    def __init__(self, card: int, shape: int):
+        self.card = card
+        self.shape = shape
+        super().__init__(NOT_MET, 0)
+
+    def _where(self) -> str:
+        return f"card {self.card}, shape {self.shape}"
+
+
+def _words(numbers: Iterable[int]) -> ctypes.Array:
+    """An array of 16-bit words; ValueError for a number that no word holds."""
+    try:
+        checked = array.array("H", numbers)
+    except OverflowError as error:
+        raise ValueError(f"a word is 0 to 65,535: {error}") from error
+    return (_WORD * len(checked)).from_buffer_copy(checked)
+
+
+def _lend(*arrays: ctypes.Array) -> list:
+    """Each array and its length, as parameters. A parameter lives as long as the call."""
+    return [parameter for one in arrays for parameter in (one, len(one))]
+
+
+def _accept(answer):
+    """The answer, if nothing is refused."""
+    if answer.number == NOT_MET:
+        raise NotMet(answer.card, answer.shape)
+    if answer.number != 0:
+        raise Refused(answer.number, answer.place)
+    return answer
+
+
+Part = List[int]
+
+
+def nothing() -> Part:
+    """No links."""
+    return [0]
+
+
+def star(part: Part) -> Part:
+    """The part zero or more times."""
+    return [1] + part
+
+
+def plus(part: Part) -> Part:
+    """The part one or more times."""
+    return [2] + part
+
+
+def optional(part: Part) -> Part:
+    """Nothing or the part."""
+    return [3] + part
+
+
+def choice(*parts: Part) -> Part:
+    """One of the parts."""
+    return [16, len(parts)] + [word for part in parts for word in part]
+
+
+def all_of(*parts: Part) -> Part:
+    """Each of the parts."""
+    return [17, len(parts)] + [word for part in parts for word in part]
+
+
+def link(kind: int, shape: int, low: int, high: int = 65535) -> Part:
+    """Low to high links of a kind, each to a card of a shape; no limit without a high."""
+    return [256 + kind, shape, low, high]
+
+
+class Typing:
+    """Which shapes each card has."""
+
+    def __init__(self, grid: bytes, cards: int, shapes: int):
+        self.grid, self.cards, self.shapes = grid, cards, shapes
+
+    def has(self, card: int, shape: int) -> bool:
+        """Whether a card has a shape; not if there is no such card or shape."""
+        inside = 0 <= card < self.cards and 0 <= shape < self.shapes
+        return inside and self.grid[card * self.shapes + shape] == 1
+
+    def shapes_of(self, card: int) -> List[int]:
+        """The shapes of a card, ascending."""
+        return [shape for shape in range(self.shapes) if self.has(card, shape)]
+
+
+class Link(NamedTuple):
+    """A link of a script. Links are ordered as in a file."""
+
+    start: int
+    kind: int
+    to: int
+
+
+class Largest(NamedTuple):
+    """The largest typing, its rounds, the pairs struck and the cards with no shape."""
+
+    typing: Typing
+    rounds: int
+    struck: int
+    bare: int
+
+
+class Smallest(NamedTuple):
+    """The smallest typing and the number of its pairs."""
+
+    typing: Typing
+    pairs: int
+
+
+class Both(NamedTuple):
+    """Both typings. Where the bookings are not met, `smallest` is None and `not_met` says which pair is not."""
+
+    largest: Largest
+    smallest: "Smallest | None"
+    not_met: "NotMet | None"
+
+
+class Template:
+    """A template that was read: shapes, and the links that a card of each must have."""
+
+    def __init__(self, words: Iterable[int]):
+        """Reads a template's words. Refusals: 1 to 12."""
+        self._words = _words(words)
+        answer = _accept(_library.prep_read_template(*_lend(self._words)))
+        self.words, self.kinds, self.shapes = tuple(self._words), answer.kinds, answer.shapes
+
+    @classmethod
+    def of(cls, kinds: int, shapes: Sequence[Part]) -> "Template":
+        """A template of so many kinds, and a part for each shape."""
+        counted = [word for part in shapes for word in [len(part)] + part]
+        return cls([kinds, len(shapes)] + counted)
+
+    def fits(self, shape: int, counts: Iterable[int]) -> bool:
+        """Whether counts of links, one for each kind, fit a shape. Refusals: 42, 41, 43."""
+        (number,) = _words([shape])
+        answer = _library.prep_fit_counts(*_lend(self._words), number, *_lend(_words(counts)))
+        return _accept(answer).fits == 1
+
+
+class Script:
+    """A script that was read with its template: cards, and links between them."""
+
+    def __init__(self, template: Template, words: Iterable[int]):
+        """Reads a script's words. Refusals: 20 to 25."""
+        self.template = template
+        self._words = _words(words)
+        answer = _accept(_library.prep_read_script(*_lend(template._words, self._words)))
+        self.words, self.cards = tuple(self._words), answer.cards
+        self.links = [Link(*self.words[at : at + 3]) for at in range(2, len(self.words), 3)]
+        self._of: List[List[Link]] = [[] for _ in range(self.cards)]
+        for one in self.links:
+            self._of[one.start].append(one)
+
+    @classmethod
+    def of(cls, template: Template, cards: int, links: Iterable[Tuple[int, int, int]]) -> "Script":
+        """A script of so many cards, and links (from, kind, to) in any order; one given twice is there once."""
+        ascending = sorted({Link(*one) for one in links})
+        return cls(template, [cards, len(ascending)] + [word for one in ascending for word in one])
+
+    def links_of(self, card: int) -> List[Link]:
+        """The links that start at a card, ascending; none if there is no such card."""
+        return list(self._of[card]) if 0 <= card < self.cards else []
+
+    def largest(self) -> Largest:
+        """The largest typing: the one that has every pair of every sound typing."""
+        grid = self._grid()
+        answer = _accept(_library.prep_largest(*_lend(self.template._words, self._words, grid)))
+        return Largest(self._typing(grid), answer.rounds, answer.struck, answer.bare)
+
+    def smallest(self, bookings: Iterable[Tuple[int, int]]) -> Smallest:
+        """The smallest sound typing that has the booked pairs of card and shape. Refusals: 31 to 33; or NotMet."""
+        grid, listed = self._grid(), _booking_words(bookings)
+        answer = _accept(_library.prep_smallest(*_lend(self.template._words, self._words, listed, grid)))
+        return Smallest(self._typing(grid), answer.pairs)
+
+    def both(self, bookings: Iterable[Tuple[int, int]]) -> Both:
+        """Both typings in one call. Refusals: 31 to 33; bookings that are not met are no exception here."""
+        small, large, listed = self._grid(), self._grid(), _booking_words(bookings)
+        lent = _lend(self.template._words, self._words, listed, small, large)
+        answer = _library.prep_both_typings(*lent)
+        smallest = not_met = None
+        if answer.number == NOT_MET:
+            not_met = NotMet(answer.card, answer.shape)
+        else:
+            smallest = Smallest(self._typing(small), _accept(answer).pairs)
+        return Both(Largest(self._typing(large), answer.rounds, answer.struck, answer.bare), smallest, not_met)
+
+    def _grid(self) -> ctypes.Array:
+        return (ctypes.c_uint8 * (self.cards * self.template.shapes))()
+
+    def _typing(self, grid: ctypes.Array) -> Typing:
+        return Typing(bytes(grid), self.cards, self.template.shapes)
+
+
+def _booking_words(bookings: Iterable[Tuple[int, int]]) -> array.array:
+    """A booking list: its count, then each pair. A count that no word holds is refused as any over 1,024 is."""
+    pairs = list(bookings)
+    return _words([min(len(pairs), 65535)] + [number for pair in pairs for number in pair])

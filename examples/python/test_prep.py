@@ -1,0 +1,137 @@
+"""Tests of prep.py: python3 -m unittest test_prep, in this folder."""
+
+import pathlib
+import re
+import unittest
+
+import prep
+
+TEMPLATE = [2, 2, 10, 17, 2, 256, 1, 1, 1, 257, 0, 0, 1, 1, 0]
+SCRIPT = [3, 3, 0, 0, 2, 0, 1, 1, 1, 0, 0]
+
+
+def include() -> pathlib.Path:
+    """The folder with prep.h: above this one, in the sources as in a package."""
+    folders = [above / "include" for above in pathlib.Path(__file__).resolve().parents]
+    return next(folder for folder in folders if (folder / "prep.h").exists())
+
+
+class Words(unittest.TestCase):
+    """Refusals, versions and words that are none."""
+
+    def refused(self, number, place, call, *parameters):
+        with self.assertRaises(prep.Refused) as caught:
+            call(*parameters)
+        self.assertEqual((caught.exception.number, caught.exception.place), (number, place))
+        return caught.exception
+
+    def test_template_is_refused(self):
+        self.refused(1, 0, prep.Template, [])
+        self.refused(2, 0, prep.Template, [0, 1, 1, 0])
+        told = self.refused(5, 3, prep.Template, [1, 1, 1, 4])
+        self.assertEqual(str(told), "a part of the template has an unknown code (refusal 5, word 3)")
+        self.assertEqual(told.file, "template")
+
+    def test_script_is_refused(self):
+        template = prep.Template(TEMPLATE)
+        self.refused(20, 0, prep.Script, template, [])
+        self.refused(21, 0, prep.Script, template, [1025, 0])
+        self.refused(23, 4, prep.Script, template, [2, 1, 0, 0, 2])
+        self.refused(25, 5, prep.Script, template, [1, 2, 0, 0, 0, 0, 0, 0])
+
+    def test_counts_are_refused(self):
+        template = prep.Template(TEMPLATE)
+        self.refused(42, 0, template.fits, 2, [])
+        self.refused(41, 0, template.fits, 0, [0])
+        self.refused(43, 1, template.fits, 0, [0, 8193])
+
+    def test_bookings_are_refused(self):
+        script = prep.Script(prep.Template(TEMPLATE), SCRIPT)
+        self.refused(32, 1, script.smallest, [(3, 0)])
+        self.refused(33, 4, script.both, [(0, 0), (0, 2)])
+        self.refused(31, 0, script.both, [(0, 0)] * 1025)
+        self.refused(31, 0, script.smallest, [(0, 0)] * 70000)
+
+    def test_no_words(self):
+        for numbers in ([1, 1, 1, -1], [1, 1, 1, 65536]):
+            self.assertRaises(ValueError, prep.Template, numbers)
+        self.assertRaises(ValueError, prep.Template(TEMPLATE).fits, -1, [0, 0])
+
+    def test_table(self):
+        table = (include() / "prep_refusals.def").read_text()
+        rows = re.findall(r'^PREP_REFUSAL\((\d+), \w+, (\w+), "(.*)"\)$', table, re.M)
+        self.assertGreater(len(rows), 20)
+        for number, file, words in rows:
+            refused = prep.Refused(int(number), 0)
+            self.assertEqual((refused.reason, refused.file), (words, file.lower()))
+
+    def test_version(self):
+        header = (include() / "prep.h").read_text()
+        numbers = re.findall(r"^#define PREP_VERSION_\w+ (\d+)$", header, re.M)
+        self.assertEqual(prep.version(), tuple(map(int, numbers)))
+        self.assertEqual(prep.version()[0], prep.MAJOR)
+
+
+class Answers(unittest.TestCase):
+    """What the operations answer on the worked sheet."""
+
+    def setUp(self):
+        self.template = prep.Template(TEMPLATE)
+        self.script = prep.Script(self.template, SCRIPT)
+
+    def test_counts(self):
+        self.assertEqual((self.template.kinds, self.template.shapes), (2, 2))
+        self.assertIs(self.template.fits(0, [1, 1]), True)
+        self.assertIs(self.template.fits(0, [2, 1]), False)
+
+    def test_largest(self):
+        largest = self.script.largest()
+        self.assertEqual((largest.rounds, largest.struck, largest.bare), (4, 5, 2))
+        self.assertEqual(largest.typing.grid, bytes([0, 0, 0, 0, 0, 1]))
+        self.assertFalse(largest.typing.has(3, 0) or largest.typing.has(1, 3) or largest.typing.has(-1, 1))
+
+    def test_smallest(self):
+        smallest = self.script.smallest([(2, 1)])
+        self.assertEqual((smallest.pairs, smallest.typing.shapes_of(2)), (1, [1]))
+        with self.assertRaises(prep.NotMet) as caught:
+            self.script.smallest([(0, 0)])
+        self.assertEqual((caught.exception.card, caught.exception.shape), (0, 1))
+        self.assertEqual(str(caught.exception), "the bookings are not met (refusal 50, card 0, shape 1)")
+
+    def test_both(self):
+        both = self.script.both([(2, 1)])
+        self.assertEqual((both.largest.rounds, both.smallest.pairs, both.not_met), (4, 1, None))
+        both = self.script.both([(0, 0)])
+        self.assertEqual((both.largest.bare, both.smallest, both.not_met.number), (2, None, prep.NOT_MET))
+
+    def test_no_cards(self):
+        both = prep.Script(self.template, [0, 0]).both([])
+        self.assertEqual((both.largest.rounds, both.smallest.pairs, both.largest.typing.grid), (1, 0, b""))
+
+
+class Builders(unittest.TestCase):
+    """Templates from parts, scripts from links."""
+
+    def test_template(self):
+        parts = [prep.all_of(prep.link(0, 1, 1, 1), prep.link(1, 0, 0, 1)), prep.nothing()]
+        self.assertEqual(list(prep.Template.of(2, parts).words), TEMPLATE)
+        part = prep.choice(prep.star(prep.link(0, 0, 2)), prep.plus(prep.nothing()))
+        template = prep.Template.of(2, [prep.optional(prep.nothing()), part])
+        self.assertEqual(list(template.words), [2, 2, 2, 3, 0, 9, 16, 2, 1, 256, 0, 2, 65535, 2, 0])
+
+    def test_script(self):
+        links = [(1, 0, 0), (0, 1, 1), (0, 0, 2), (0, 1, 1)]
+        self.assertEqual(list(prep.Script.of(prep.Template(TEMPLATE), 3, links).words), SCRIPT)
+
+    def test_links_are_the_library_s(self):
+        template = prep.Template(TEMPLATE)
+        script = prep.Script.of(template, 60, [(i * 7 % 53, i % 2, i * 11 % 60) for i in range(400)])
+        for card in range(61):
+            words = prep._words([0] * len(script.words))
+            lent = prep._lend(template._words, script._words)
+            count = prep._library.prep_links_of_card(*lent, card, *prep._lend(words))
+            self.assertEqual([word for link in script.links_of(card) for word in link], list(words)[:count])
+
+
+if __name__ == "__main__":
+    unittest.main()

@@ -1,0 +1,58 @@
+//! Prints the sheet that FORMAT.md works through, built from parts and links, as `sheet` does from words.
+
+use prep::{Part, Refusal, Script, ScriptBuilder, Template, TemplateBuilder, Typing};
+
+/// What an application keeps.
+struct Sheet {
+    script: Script,
+    bookings: Vec<(u16, u16)>,
+}
+
+/// Two kinds of links, and two shapes: cards of the second have no links.
+fn template() -> Result<Template, Refusal> {
+    let mut builder = TemplateBuilder::new();
+    let (a, b) = (builder.kind(), builder.kind());
+    let (linked, plain) = (builder.shape(), builder.shape());
+    builder.define(linked, Part::all([Part::link(a, plain, 1), Part::link(b, linked, 0..=1)]));
+    builder.read()
+}
+
+/// Three cards; the order in which links are added does not matter.
+fn script(template: &Template) -> Result<Script, Refusal> {
+    let mut builder = ScriptBuilder::with_cards(3);
+    builder.link(1, 0, 0);
+    builder.link(0, 1, 1);
+    builder.link(0, 0, 2);
+    builder.read(template)
+}
+
+/// A line for each card: its shapes, ascending.
+fn print_cards(typing: &Typing) {
+    for card in 0..typing.cards() {
+        let shapes: String = typing.shapes_of(card).map(|shape| format!(" {shape}")).collect();
+        println!("card {card}:{shapes}");
+    }
+}
+
+fn print(sheet: &Sheet) {
+    let largest = sheet.script.largest();
+    println!("largest {} {} {}", largest.rounds, largest.struck, largest.bare);
+    print_cards(&largest.typing);
+    match sheet.script.smallest(&sheet.bookings) {
+        Ok(smallest) => {
+            println!("smallest {}", smallest.pairs);
+            print_cards(&smallest.typing);
+        }
+        Err(Refusal { place: prep::Place::Pair { card, shape }, .. }) => {
+            println!("smallest no {card} {shape}")
+        }
+        Err(refusal) => println!("{refusal}"),
+    }
+}
+
+fn main() -> Result<(), Refusal> {
+    let script = script(&template()?)?;
+    print(&Sheet { script: script.clone(), bookings: vec![(2, 1)] });
+    print(&Sheet { script, bookings: vec![(0, 0)] });
+    Ok(())
+}

@@ -1,0 +1,159 @@
+//! Scripts: read from words, or built from links.
+
+use crate::part::word;
+use crate::refusal::{not_met, refusals, refused};
+use crate::{raw, Both, Largest, Refusal, Smallest, Template, Typing};
+use std::collections::BTreeSet;
+
+/// A link of a script. Links are ordered as in a file: by from, then kind, then to.
+#[derive(Clone, Copy, Debug, PartialEq, Eq, PartialOrd, Ord, Hash)]
+pub struct Link {
+    /// The card where the link starts.
+    pub from: u16,
+    /// The link's kind.
+    pub kind: u16,
+    /// The card where the link ends.
+    pub to: u16,
+}
+
+/// A script that was read with its template: cards, and links between them. It owns both.
+#[derive(Clone, Debug, PartialEq, Eq)]
+pub struct Script {
+    template: Template,
+    words: Vec<u16>,
+    cards: u16,
+    links: Vec<Link>,
+}
+
+impl Script {
+    /// Reads a script's words, or tells the first fault: refusals 20 to 25.
+    pub fn read(template: &Template, words: Vec<u16>) -> Result<Script, Refusal> {
+        let answer = raw::read_script(template.words(), &words);
+        refused(answer.number, answer.place)?;
+        let link = |w: &[u16]| Link { from: w[0], kind: w[1], to: w[2] };
+        let links = words[2..].chunks_exact(3).map(link).collect();
+        Ok(Script { template: template.clone(), words, cards: answer.cards, links })
+    }
+
+    /// The template that the script was read with.
+    pub fn template(&self) -> &Template {
+        &self.template
+    }
+
+    /// How many cards there are.
+    pub fn cards(&self) -> u16 {
+        self.cards
+    }
+
+    /// The links, ascending.
+    pub fn links(&self) -> &[Link] {
+        &self.links
+    }
+
+    /// The words that were read.
+    pub fn words(&self) -> &[u16] {
+        &self.words
+    }
+
+    /// The links that start at a card, ascending; none if there is no such card. They are found in the links that were
+    /// read, so that no file is read again; `raw::links_of_card` answers the same.
+    pub fn links_of(&self, card: u16) -> &[Link] {
+        let start = self.links.partition_point(|link| link.from < card);
+        let end = self.links.partition_point(|link| link.from <= card);
+        &self.links[start..end]
+    }
+
+    /// The largest typing: the one that has every pair of every sound typing.
+    pub fn largest(&self) -> Largest {
+        let mut grid = self.grid();
+        let answer = raw::largest(self.template.words(), &self.words, &mut grid);
+        debug_assert_eq!(answer.number, 0);
+        Largest { typing: self.typing(grid), rounds: answer.rounds, struck: answer.struck, bare: answer.bare }
+    }
+
+    /// The smallest sound typing that has the booked pairs of card and shape. Refusals: 31 to 33, and 50 where there
+    /// is no such typing.
+    pub fn smallest(&self, bookings: &[(u16, u16)]) -> Result<Smallest, Refusal> {
+        let mut grid = self.grid();
+        let answer = raw::smallest(self.template.words(), &self.words, &booking_words(bookings), &mut grid);
+        if answer.number == refusals::NOT_MET {
+            return Err(not_met(answer.card, answer.shape));
+        }
+        refused(answer.number, answer.place)?;
+        Ok(Smallest { typing: self.typing(grid), pairs: answer.pairs })
+    }
+
+    /// Both typings in one call. Where only the bookings are not met, the largest is there and the smallest is
+    /// refusal 50.
+    pub fn both(&self, bookings: &[(u16, u16)]) -> Result<Both, Refusal> {
+        let (mut small, mut large) = (self.grid(), self.grid());
+        let list = booking_words(bookings);
+        let answer = raw::both_typings(self.template.words(), &self.words, &list, &mut small, &mut large);
+        let smallest = if answer.number == refusals::NOT_MET {
+            Err(not_met(answer.card, answer.shape))
+        } else {
+            refused(answer.number, answer.place)?;
+            Ok(Smallest { typing: self.typing(small), pairs: answer.pairs })
+        };
+        let typing = self.typing(large);
+        let largest = Largest { typing, rounds: answer.rounds, struck: answer.struck, bare: answer.bare };
+        Ok(Both { largest, smallest })
+    }
+
+    /// A grid of the script's size.
+    fn grid(&self) -> Vec<u8> {
+        vec![0; usize::from(self.cards) * usize::from(self.template.shapes())]
+    }
+
+    fn typing(&self, grid: Vec<u8>) -> Typing {
+        Typing::new(grid, self.cards, self.template.shapes())
+    }
+}
+
+/// A booking list: its count, then each pair. A count that no word holds is refused as any over 1,024 is.
+fn booking_words(bookings: &[(u16, u16)]) -> Vec<u16> {
+    let pairs = bookings.iter().flat_map(|&(card, shape)| [card, shape]);
+    std::iter::once(word(bookings.len())).chain(pairs).collect()
+}
+
+/// A script that is being built: cards and links, in any order.
+#[derive(Clone, Debug, Default)]
+pub struct ScriptBuilder {
+    cards: usize,
+    links: BTreeSet<Link>,
+}
+
+impl ScriptBuilder {
+    /// No cards and no links.
+    pub fn new() -> ScriptBuilder {
+        ScriptBuilder::default()
+    }
+
+    /// So many cards, numbered from 0, and no links.
+    pub fn with_cards(cards: u16) -> ScriptBuilder {
+        ScriptBuilder { cards: usize::from(cards), links: BTreeSet::new() }
+    }
+
+    /// Adds a card and returns its number.
+    pub fn card(&mut self) -> u16 {
+        self.cards += 1;
+        word(self.cards - 1)
+    }
+
+    /// Adds a link. A script is a set of links: one that is added twice is there once.
+    pub fn link(&mut self, from: u16, kind: u16, to: u16) {
+        self.links.insert(Link { from, kind, to });
+    }
+
+    /// The script's words, links ascending.
+    pub fn words(&self) -> Vec<u16> {
+        let mut words = vec![word(self.cards), word(self.links.len())];
+        words.extend(self.links.iter().flat_map(|link| [link.from, link.kind, link.to]));
+        words
+    }
+
+    /// The script, read with its template, or its first fault.
+    pub fn read(&self, template: &Template) -> Result<Script, Refusal> {
+        Script::read(template, self.words())
+    }
+}

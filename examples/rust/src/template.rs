@@ -1,0 +1,97 @@
+//! Templates: read from words, or built from parts.
+
+use crate::part::word;
+use crate::refusal::refused;
+use crate::{raw, Part, Refusal};
+use std::sync::Arc;
+
+/// A template that was read: shapes, and the links that a card of each must have. A clone shares the words.
+#[derive(Clone, Debug, PartialEq, Eq)]
+pub struct Template {
+    words: Arc<[u16]>,
+    kinds: u16,
+    shapes: u16,
+}
+
+impl Template {
+    /// Reads a template's words, or tells the first fault: refusals 1 to 12.
+    pub fn read(words: Vec<u16>) -> Result<Template, Refusal> {
+        let answer = raw::read_template(&words);
+        refused(answer.number, answer.place)?;
+        Ok(Template { words: words.into(), kinds: answer.kinds, shapes: answer.shapes })
+    }
+
+    /// How many kinds of links there are.
+    pub fn kinds(&self) -> u16 {
+        self.kinds
+    }
+
+    /// How many shapes there are.
+    pub fn shapes(&self) -> u16 {
+        self.shapes
+    }
+
+    /// The words that were read.
+    pub fn words(&self) -> &[u16] {
+        &self.words
+    }
+
+    /// Whether counts of links, one for each kind, fit a shape. Refusals: 42, 41, 43.
+    pub fn fits(&self, shape: u16, counts: &[u16]) -> Result<bool, Refusal> {
+        let answer = raw::fit_counts(&self.words, shape, counts);
+        refused(answer.number, answer.place)?;
+        Ok(answer.fits == 1)
+    }
+}
+
+/// A template that is being built: kinds and shapes first, so that parts can name them, then what each shape is.
+#[derive(Clone, Debug, Default)]
+pub struct TemplateBuilder {
+    kinds: usize,
+    shapes: Vec<Part>,
+}
+
+impl TemplateBuilder {
+    /// No kinds and no shapes.
+    pub fn new() -> TemplateBuilder {
+        TemplateBuilder::default()
+    }
+
+    /// Adds a kind and returns its number.
+    pub fn kind(&mut self) -> u16 {
+        self.kinds += 1;
+        word(self.kinds - 1)
+    }
+
+    /// Adds a shape and returns its number. Its cards have no links until it is defined.
+    pub fn shape(&mut self) -> u16 {
+        self.shapes.push(Part::Nothing);
+        word(self.shapes.len() - 1)
+    }
+
+    /// Says what a shape is.
+    ///
+    /// # Panics
+    ///
+    /// If `shape` gave no such number.
+    pub fn define(&mut self, shape: u16, part: Part) {
+        self.shapes[usize::from(shape)] = part;
+    }
+
+    /// The template's words.
+    pub fn words(&self) -> Vec<u16> {
+        let mut words = vec![word(self.kinds), word(self.shapes.len())];
+        for part in &self.shapes {
+            let count = words.len();
+            words.push(0);
+            part.write(&mut words);
+            words[count] = word(words.len() - count - 1);
+        }
+        words
+    }
+
+    /// The template, or its first fault.
+    pub fn read(&self) -> Result<Template, Refusal> {
+        Template::read(self.words())
+    }
+}

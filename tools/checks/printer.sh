@@ -1,0 +1,18 @@
+# Part of ./check-tools: the built printer against the other implementation, and with input that comes in small pieces.
+
+quietly rt check sheet_printer
+printer=target/bin/sheet_printer
+
+quietly "$tools" compare "$printer" "$seed" "$count"
+say "printer: $(tail -n 1 "$out/printed") (seed $seed) from the other implementation"
+
+quietly "$tools" longest 1023 32
+cp "$out/printed" "$out/longest"
+quietly python3 tools/checks/pieces.py "$printer" examples/prep/*.bin "$out/longest"
+say "printer: $(cat "$out/printed")"
+
+# The page of the format runs its own examples, if the tools can.
+if "$tools" --help | grep -q 'prep-tools page '; then
+    quietly "$tools" page docs/FORMAT.md --printer "$printer"
+    say "page: docs/FORMAT.md: $(tail -n 1 "$out/printed")"
+fi

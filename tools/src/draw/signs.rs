@@ -1,0 +1,131 @@
+//! What the signs of a picture mean; only those that it has.
+
+use super::cards::{body, chip_at, warning, CardMark, INK};
+use super::contents::Content;
+use super::layout::Rect;
+use super::lists::Line;
+use super::measure::{sign_width, width, Chip, Mark, LIST};
+use super::page::SMALL;
+use super::picture::BLAME;
+use super::svg::{round_path, Anchor, Svg};
+
+/// Where the meaning of a sign stands.
+const MEANING: f64 = 34.0;
+
+/// A sign with its meaning.
+#[derive(Clone, PartialEq, Debug)]
+pub enum Sign {
+    /// A chip, and what a card with it looks like.
+    Chip(Mark, bool, &'static str),
+    /// The broad line below arrows.
+    Blame,
+    /// A line below a card.
+    Line(&'static str, &'static str),
+}
+
+/// What the chips mean.
+const CHIPS: [(Mark, bool, &str); 7] = [
+    (Mark::Smallest, false, "in the smallest typing"),
+    (Mark::Largest, false, "only in the largest typing"),
+    (Mark::Smallest, true, "booked"),
+    (Mark::Largest, true, "booked, only in the largest"),
+    (Mark::Booked, true, "booked, but in no typing"),
+    (Mark::None, false, "a card with no shape"),
+    (Mark::NotMet, false, "the unmet pair of 50"),
+];
+
+/// The signs that a page has; also that of the way to the unmet pair, if an arrow belongs to it.
+pub fn signs(contents: &[Content], blames: bool) -> Vec<Sign> {
+    let has_chip = |mark: Mark, booked: bool| {
+        let mut chips = contents.iter().flat_map(|content| &content.chips);
+        chips.any(|chip| chip.mark == mark && (chip.booked || !booked))
+    };
+    let chips = CHIPS.iter().filter(|(mark, booked, _)| has_chip(*mark, *booked));
+    let mut signs: Vec<Sign> = chips
+        .map(|(mark, booked, meaning)| Sign::Chip(*mark, *booked, meaning))
+        .collect();
+    if blames {
+        signs.push(Sign::Blame);
+    }
+    let lines: Vec<&Line> = contents.iter().flat_map(|content| &content.lines).collect();
+    if lines.iter().any(|line| line.kind.is_some()) {
+        let has_page = |line: &&Line| line.kind.is_some() && line.text.contains("p.\u{a0}");
+        let text = if lines.iter().any(has_page) {
+            "kind → 7 (p.\u{a0}2)"
+        } else {
+            "kind → 7"
+        };
+        signs.push(Sign::Line(text, "a link that isn't an arrow"));
+    }
+    let from_page = |line: &&Line| line.text.starts_with("← from p.");
+    if lines.iter().any(from_page) {
+        signs.push(Sign::Line("← from p.\u{a0}2", "links from that page lead here"));
+    }
+    if lines
+        .iter()
+        .any(|line| line.text.starts_with('←') && !from_page(line))
+    {
+        signs.push(Sign::Line("← from 7", "links from that card lead here"));
+    }
+    signs
+}
+
+impl Sign {
+    fn meaning(&self) -> &'static str {
+        match self {
+            Sign::Chip(_, _, meaning) | Sign::Line(_, meaning) => meaning,
+            Sign::Blame => "how a booking asks for it",
+        }
+    }
+
+    /// The width of the sign with its meaning.
+    pub fn width(&self) -> f64 {
+        MEANING + width(self.meaning(), SMALL, false)
+    }
+
+    /// Draws the sign and its meaning.
+    pub fn draw(&self, svg: &mut Svg, (x, y): (f64, f64)) {
+        match self {
+            Sign::Chip(mark, booked, _) => chip(svg, *mark, *booked, (x, y)),
+            Sign::Blame => svg.path(&round_path(&[(x, y), (x + 28.0, y)], 0.0), BLAME),
+            Sign::Line(text, _) => {
+                svg.text((x, y), LIST, Anchor::Start, &format!("fill=\"{INK}\""), text);
+            }
+        }
+        let style = format!("fill=\"{INK}\"");
+        svg.text((x + MEANING, y), SMALL, Anchor::Start, &style, self.meaning());
+    }
+}
+
+/// A chip, and before it a small card.
+fn chip(svg: &mut Svg, mark: Mark, booked: bool, (x, y): (f64, f64)) {
+    let (text, letters) = match mark {
+        Mark::None => ("no shape", 15.0),
+        _ => ("Shape", 12.2),
+    };
+    let chip = Chip {
+        mark,
+        booked,
+        shapes: Vec::new(),
+        text: text.to_string(),
+        x: 0.0,
+        y: 0.0,
+        width: letters + sign_width(mark, booked),
+    };
+    chip_at(svg, &chip, (x + 13.0, y - 1.9));
+    let place = Rect {
+        x,
+        y: y - 1.7,
+        width: 10.0,
+        height: 3.4,
+    };
+    let mark = CardMark {
+        bare: mark == Mark::None || mark == Mark::Booked,
+        not_met: mark == Mark::NotMet,
+        needed: mark == Mark::Smallest,
+    };
+    body(svg, &place, mark);
+    if mark.not_met {
+        warning(svg, (x + 3.3, y), 1.25);
+    }
+}

@@ -1,0 +1,206 @@
+//! What this implementation answers, written as a page writes it. The lines of a printed sheet have ` / ` between them.
+
+use super::cells;
+use super::examples::{Operation, Question};
+use crate::fit;
+use crate::numbers::{Card, Shape};
+use crate::refusal::Refusal;
+use crate::script::{self, links_of_card};
+use crate::sheet::{self, Files};
+use crate::template;
+use crate::typing::{self, bookings, largest_by_rounds, met, smallest, Setting, Smallest};
+
+/// What a lent grid is filled with first.
+const FILLED: u8 = 9;
+
+/// The answer to a question. An error is a question that makes no sense, such as a typing of the wrong size.
+pub fn answer(question: &Question) -> Result<String, String> {
+    match question.operation {
+        Operation::Template => Ok(read_template(question)),
+        Operation::Fit => Ok(fit_counts(question)),
+        Operation::Script => Ok(read_script(question)),
+        Operation::Links => Ok(links(question)),
+        Operation::Largest => largest(question),
+        Operation::Smallest => smallest_typing(question),
+        Operation::Sheet => Ok(lines(&sheet::print(&files(question).bytes()))),
+        Operation::Input => Ok(lines(&sheet::print(&question.input))),
+        Operation::Round => round(question),
+        Operation::Closure => closure(question),
+        Operation::Met => pair_is_met(question),
+        Operation::Sound | Operation::Holds | Operation::Between => about_typing(question),
+    }
+}
+
+/// The number of the refusal that an answer is.
+pub fn number(answer: &str) -> Option<String> {
+    if answer.contains("smallest no ") {
+        return Some("50".to_string());
+    }
+    let number = answer.strip_prefix("refused ")?.split(' ').next()?;
+    Some(number.to_string())
+}
+
+/// The three files of a question.
+pub fn files(question: &Question) -> Files {
+    Files {
+        template: question.template.clone(),
+        script: question.script.clone(),
+        bookings: question.bookings.clone(),
+    }
+}
+
+/// The lines of a text as one line.
+pub fn lines(text: &str) -> String {
+    text.lines().collect::<Vec<_>>().join(" / ")
+}
+
+fn refused(refusal: Refusal) -> String {
+    format!("refused {} {}", refusal.number, refusal.place)
+}
+
+fn read_template(question: &Question) -> String {
+    match template::read(&question.template) {
+        Ok(template) => format!("kinds {} shapes {}", template.kinds, template.shapes()),
+        Err(refusal) => refused(refusal),
+    }
+}
+
+fn fit_counts(question: &Question) -> String {
+    match fit::fit(&question.template, question.shape, &question.counts) {
+        Ok(fits) => if fits { "yes" } else { "no" }.to_string(),
+        Err(refusal) => refused(refusal),
+    }
+}
+
+fn read_script(question: &Question) -> String {
+    match script::read(&question.template, &question.script) {
+        Ok(script) => format!("cards {} links {}", script.cards, script.links.len()),
+        Err(refusal) => refused(refusal),
+    }
+}
+
+fn links(question: &Question) -> String {
+    let links = links_of_card(&question.template, &question.script, question.card);
+    let words: Vec<String> = links.iter().map(u16::to_string).collect();
+    if words.is_empty() {
+        return "none".to_string();
+    }
+    words.join(" ")
+}
+
+/// The largest typing; a refusal has to leave the grid as it was.
+fn largest(question: &Question) -> Result<String, String> {
+    let mut grid = vec![FILLED; question.bytes];
+    match largest_by_rounds(&question.template, &question.script, &mut grid) {
+        Ok(answer) => {
+            let head = format!("largest {} {} {}\n", answer.rounds, answer.struck, answer.bare);
+            Ok(lines(&(head + &cards(question, &grid)?)))
+        }
+        Err(refusal) => untouched(&grid, refusal),
+    }
+}
+
+/// The smallest typing; a refusal has to leave the grid as it was, and 50 has to leave it all 0.
+fn smallest_typing(question: &Question) -> Result<String, String> {
+    let mut grid = vec![FILLED; question.bytes];
+    match smallest(
+        &question.template,
+        &question.script,
+        &question.bookings,
+        &mut grid,
+    ) {
+        Ok(Smallest::Pairs(pairs)) => {
+            let head = format!("smallest {pairs}\n");
+            Ok(lines(&(head + &cards(question, &grid)?)))
+        }
+        Ok(Smallest::NotMet(card, shape)) if grid.iter().all(|byte| *byte == 0) => {
+            Ok(format!("smallest no {} {}", card.0, shape.0))
+        }
+        Ok(Smallest::NotMet(..)) => Ok("50, but the grid isn't all 0".to_string()),
+        Err(refusal) => untouched(&grid, refusal),
+    }
+}
+
+/// A refusal whose grid must be as it was.
+fn untouched(grid: &[u8], refusal: Refusal) -> Result<String, String> {
+    if grid.iter().any(|byte| *byte != FILLED) {
+        return Ok(format!("{}, but the grid has changed", refused(refusal)));
+    }
+    Ok(refused(refusal))
+}
+
+/// A line for each card of a grid.
+fn cards(question: &Question, grid: &[u8]) -> Result<String, String> {
+    Ok(sheet::card_lines(grid, setting(question)?.template.shapes()))
+}
+
+/// The sheet of a question whose files must be well-formed.
+fn setting(question: &Question) -> Result<Setting, String> {
+    Setting::read(&question.template, &question.script).map_err(refused)
+}
+
+/// A typing of the right size.
+fn sized<'a>(setting: &Setting, grid: &'a [u8]) -> Result<&'a [u8], String> {
+    if grid.len() != setting.size() {
+        return Err(format!("the typing has {} pairs", grid.len()));
+    }
+    Ok(grid)
+}
+
+/// The grid after some rounds from every pair.
+fn round(question: &Question) -> Result<String, String> {
+    let setting = setting(question)?;
+    let mut grid = vec![1; setting.size()];
+    for _ in 0..question.round {
+        let found = grid.clone();
+        for pair in setting.pairs() {
+            if !met::met_by_choices(&setting, &found, pair) {
+                grid[setting.place(pair)] = 0;
+            }
+        }
+    }
+    Ok(cells::shown(&grid, setting.template.shapes()))
+}
+
+/// The closure of the bookings.
+fn closure(question: &Question) -> Result<String, String> {
+    let setting = setting(question)?;
+    let booked = bookings::read(&setting, &question.bookings).map_err(refused)?;
+    let grid = typing::closure::closure(&setting, &booked);
+    Ok(cells::shown(&grid, setting.template.shapes()))
+}
+
+/// Whether the pair of a question is met, by trying every choice.
+fn pair_is_met(question: &Question) -> Result<String, String> {
+    let setting = setting(question)?;
+    let grid = sized(&setting, &question.typing)?;
+    if question.card >= setting.script.cards || question.shape >= setting.template.shapes() {
+        return Err("the sheet has no such card or no such shape".to_string());
+    }
+    let is_met = met::met_by_choices(&setting, grid, (Card(question.card), Shape(question.shape)));
+    Ok(if is_met { "met" } else { "not met" }.to_string())
+}
+
+/// Whether the typing of a question is sound, holds the bookings, or lies between two others.
+fn about_typing(question: &Question) -> Result<String, String> {
+    let setting = setting(question)?;
+    let grid = sized(&setting, &question.typing)?;
+    let answer = match question.operation {
+        Operation::Sound => match met::sound(&setting, grid) {
+            true => "sound",
+            false => "not sound",
+        },
+        Operation::Holds => {
+            let booked = bookings::read(&setting, &question.bookings).map_err(refused)?;
+            match met::holds(&setting, grid, &booked) {
+                true => "holds",
+                false => "does not hold",
+            }
+        }
+        _ => match met::lies_below(&question.lower, grid) && met::lies_below(grid, &question.upper) {
+            true => "between",
+            false => "not between",
+        },
+    };
+    Ok(answer.to_string())
+}

@@ -1,0 +1,227 @@
+//! The examples of a page. A table with a column `answer` holds one in each row; which operation it asks is told by its
+//! other columns. A block that starts with "```sheet" holds one sheet. A table with the columns `name` and `words`
+//! gives names to words. Every other table and block is only read by people.
+
+use super::cells::{self, Names};
+use super::markdown::{self, Item, Row};
+
+/// What a row asks.
+#[derive(Clone, Copy, PartialEq, Eq, Debug, Default)]
+pub enum Operation {
+    /// *Read a template*.
+    Template,
+    /// *Fit counts*.
+    Fit,
+    /// *Read a script*.
+    Script,
+    /// *Links of a card*.
+    Links,
+    /// *Largest*, into a grid of some bytes.
+    Largest,
+    /// *Smallest*, into a grid of some bytes.
+    Smallest,
+    /// *The sheet printer* on the three files.
+    #[default]
+    Sheet,
+    /// *The sheet printer* on any bytes.
+    Input,
+    /// The grid after a round of the largest typing.
+    Round,
+    /// The closure of bookings.
+    Closure,
+    /// Whether a pair is met under a typing.
+    Met,
+    /// Whether a typing is sound.
+    Sound,
+    /// Whether a typing holds bookings.
+    Holds,
+    /// Whether a typing lies between two others.
+    Between,
+}
+
+/// The columns that ask, in the order of this list, and what they ask.
+const ASKED: [(&str, Operation); 15] = [
+    ("template", Operation::Template),
+    ("template counts", Operation::Fit),
+    ("template shape counts", Operation::Fit),
+    ("template script", Operation::Script),
+    ("template script card", Operation::Links),
+    ("template script bytes", Operation::Largest),
+    ("template script bookings bytes", Operation::Smallest),
+    ("template script bookings", Operation::Sheet),
+    ("input", Operation::Input),
+    ("template script round", Operation::Round),
+    ("template script closure", Operation::Closure),
+    ("template script shape card typing", Operation::Met),
+    ("template script typing", Operation::Sound),
+    ("template script bookings typing", Operation::Holds),
+    ("template script typing lower upper", Operation::Between),
+];
+
+/// The columns that ask, in the order in which `ASKED` names them.
+const COLUMNS: [&str; 13] = [
+    "input", "template", "script", "bookings", "shape", "counts", "card", "bytes", "round", "typing",
+    "lower", "upper", "closure",
+];
+
+/// The columns that only people read.
+const PROSE: [&str; 6] = ["number", "fault", "place", "sample", "part", "why"];
+
+/// One question; what its operation doesn't ask for is empty.
+#[derive(Clone, PartialEq, Eq, Debug, Default)]
+pub struct Question {
+    /// What is asked.
+    pub operation: Operation,
+    /// The template's words.
+    pub template: Vec<u16>,
+    /// The script's words.
+    pub script: Vec<u16>,
+    /// The bookings' words.
+    pub bookings: Vec<u16>,
+    /// A count per kind.
+    pub counts: Vec<u16>,
+    /// A shape.
+    pub shape: u16,
+    /// A card.
+    pub card: u16,
+    /// The bytes of the grid that is lent.
+    pub bytes: usize,
+    /// How many rounds.
+    pub round: usize,
+    /// A typing, and the two that it may lie between.
+    pub typing: Vec<u8>,
+    /// The lower of those two.
+    pub lower: Vec<u8>,
+    /// The upper of those two.
+    pub upper: Vec<u8>,
+    /// The printer's input.
+    pub input: Vec<u8>,
+}
+
+/// One example.
+#[derive(Clone, PartialEq, Eq, Debug)]
+pub struct Example {
+    /// The line of the page on which it stands.
+    pub line: usize,
+    /// What it asks.
+    pub question: Question,
+    /// The answer that the page gives. Lines of a printed sheet have ` / ` between them.
+    pub answer: String,
+    /// The refusal that the row is about, if the table has a column for it.
+    pub number: Option<String>,
+    /// The label of a count sample, if the table has a column for it.
+    pub sample: Option<String>,
+}
+
+/// The examples of a page. An error starts with a line and a colon.
+pub fn read(page: &str) -> Result<Vec<Example>, String> {
+    let mut names = Names::new();
+    let mut examples = Vec::new();
+    for item in markdown::items(page)? {
+        match item {
+            Item::Table(columns, rows) if has(&columns, "answer") => {
+                for row in rows {
+                    let told = |error| format!("{}: {error}", row.line);
+                    examples.push(example(&names, &columns, &row).map_err(told)?);
+                }
+            }
+            Item::Table(columns, rows) if has(&columns, "name") && has(&columns, "words") => {
+                for row in rows {
+                    let told = |error| format!("{}: {error}", row.line);
+                    let words = cells::words(&names, cell(&columns, &row, "words")).map_err(told)?;
+                    names.insert(cell(&columns, &row, "name").to_string(), words);
+                }
+            }
+            Item::Block(word, line, lines) if word == "sheet" => {
+                examples.push(sheet(&names, line, &lines).map_err(|error| format!("{line}: {error}"))?);
+            }
+            Item::Table(..) | Item::Block(..) => {}
+        }
+    }
+    Ok(examples)
+}
+
+fn has(columns: &[String], name: &str) -> bool {
+    columns.iter().any(|column| column == name)
+}
+
+/// A cell of a row; nothing if there is no such column.
+fn cell<'row>(columns: &[String], row: &'row Row, name: &str) -> &'row str {
+    let place = columns.iter().position(|column| column == name);
+    place.map_or("", |place| &row.cells[place])
+}
+
+/// The example of a row.
+fn example(names: &Names, columns: &[String], row: &Row) -> Result<Example, String> {
+    let known = |column: &&String| {
+        column.as_str() == "answer" || COLUMNS.contains(&column.as_str()) || PROSE.contains(&column.as_str())
+    };
+    if let Some(column) = columns.iter().find(|column| !known(column)) {
+        return Err(format!("no example has a column {column:?}"));
+    }
+    let asking: Vec<&str> = COLUMNS.into_iter().filter(|name| has(columns, name)).collect();
+    let asked = asking.join(" ");
+    let (_, operation) = ASKED
+        .into_iter()
+        .find(|(columns, _)| *columns == asked)
+        .ok_or(format!("nothing is asked by the columns {asked:?}"))?;
+    let mut question = Question {
+        operation,
+        ..Question::default()
+    };
+    for name in asking {
+        question.set(names, name, cell(columns, row, name))?;
+    }
+    let some = |name| has(columns, name).then(|| cell(columns, row, name).to_string());
+    Ok(Example {
+        line: row.line,
+        question,
+        answer: cell(columns, row, "answer").to_string(),
+        number: some("number"),
+        sample: some("sample"),
+    })
+}
+
+impl Question {
+    /// Takes what a cell of a column that asks says.
+    fn set(&mut self, names: &Names, column: &str, cell: &str) -> Result<(), String> {
+        match column {
+            "input" => self.input = cells::bytes(names, cell)?,
+            "template" => self.template = cells::words(names, cell)?,
+            "script" => self.script = cells::words(names, cell)?,
+            "bookings" | "closure" => self.bookings = cells::words(names, cell)?,
+            "counts" => self.counts = cells::words(names, cell)?,
+            "shape" => self.shape = cells::number(cell)?,
+            "card" => self.card = cells::number(cell)?,
+            "bytes" => self.bytes = cells::number(cell)?,
+            "round" => self.round = cells::number(cell)?,
+            "typing" => self.typing = cells::grid(cell)?,
+            "lower" => self.lower = cells::grid(cell)?,
+            "upper" => self.upper = cells::grid(cell)?,
+            _ => return Err(format!("no example asks with a column {column:?}")),
+        }
+        Ok(())
+    }
+}
+
+/// The example of a block: lines that start with `template`, `script` and `bookings`, a line `prints`, and then the
+/// lines that the printer writes.
+fn sheet(names: &Names, line: usize, lines: &[String]) -> Result<Example, String> {
+    let prints = lines.iter().position(|text| text == "prints");
+    let (files, printed) = lines.split_at(prints.ok_or("the sheet has no line `prints`")?);
+    let mut question = Question::default();
+    for text in files {
+        let (name, words) = text.split_once(' ').unwrap_or((text, ""));
+        if !["template", "script", "bookings"].contains(&name) {
+            return Err(format!("no sheet has a line {text:?}"));
+        }
+        question.set(names, name, words)?;
+    }
+    Ok(Example {
+        line,
+        question,
+        answer: printed[1..].join(" / "),
+        number: None,
+        sample: None,
+    })
+}

@@ -1,0 +1,117 @@
+//! How a question is put to a sheet printer: the input that shows it, and what the printed text says about it.
+
+use super::answers::{files, lines};
+use super::examples::{Operation, Question};
+use crate::numbers::Shape;
+use crate::script::{MOST_CARDS, MOST_LINKS};
+use crate::sheet::Files;
+use crate::template::{self, Link, Part, Template};
+use crate::typing::{bookings, Setting};
+
+/// The input whose sheet tells the answer, if there is one.
+pub fn input(question: &Question) -> Option<Vec<u8>> {
+    let files = files(question);
+    let sheet = match question.operation {
+        Operation::Fit if template::read(&files.template).is_ok() => counted(question)?,
+        Operation::Template | Operation::Fit => Files {
+            script: vec![1, 0],
+            bookings: vec![0],
+            ..files
+        },
+        Operation::Script => Files {
+            bookings: vec![0],
+            ..files
+        },
+        Operation::Largest if size_is_right(question) => Files {
+            bookings: vec![0],
+            ..files
+        },
+        Operation::Smallest if size_is_right(question) => files,
+        Operation::Sheet => files,
+        Operation::Input => return Some(question.input.clone()),
+        _ => return None,
+    };
+    Some(sheet.bytes())
+}
+
+/// What the page's answer is, as far as the sheet can tell it.
+pub fn wanted(question: &Question, answer: &str) -> String {
+    match question.operation {
+        Operation::Template | Operation::Script if !is_refused(answer) => "accepted".to_string(),
+        _ => answer.to_string(),
+    }
+}
+
+/// What the printed text says about the question.
+pub fn said(question: &Question, text: &str) -> String {
+    if is_refused(text) {
+        return lines(text);
+    }
+    let (largest, smallest) = text.split_at(text.find("smallest").unwrap_or(text.len()));
+    match question.operation {
+        Operation::Template | Operation::Script => "accepted".to_string(),
+        Operation::Fit if smallest == "smallest no 0 0\n" => "no".to_string(),
+        Operation::Fit if !smallest.starts_with("smallest no") => "yes".to_string(),
+        Operation::Largest => lines(largest),
+        Operation::Smallest => lines(smallest),
+        _ => lines(text),
+    }
+}
+
+fn is_refused(text: &str) -> bool {
+    text.starts_with("refused ")
+}
+
+/// Whether the lent grid has the right size, or something is refused before its size is: a printer lends its own.
+fn size_is_right(question: &Question) -> bool {
+    let Ok(setting) = Setting::read(&question.template, &question.script) else {
+        return true;
+    };
+    let is_booked = question.operation == Operation::Smallest;
+    let bookings_are_refused = is_booked && bookings::read(&setting, &question.bookings).is_err();
+    bookings_are_refused || question.bytes == setting.size()
+}
+
+/// A sheet whose bookings are met exactly if the counts fit: card 0 has that many links of each kind, all to cards
+/// without links, and is booked for the shape; every link of the shape asks for a second shape, which is nothing.
+fn counted(question: &Question) -> Option<Files> {
+    let template = template::read(&question.template).ok()?;
+    let total: usize = question.counts.iter().map(|count| usize::from(*count)).sum();
+    let most = question.counts.iter().max()?;
+    let fits_in = *most < MOST_CARDS && total <= usize::from(MOST_LINKS);
+    let is_asked = question.shape < template.shapes() && question.counts.len() == usize::from(template.kinds);
+    if !fits_in || !is_asked {
+        return None;
+    }
+    let mut script = vec![1 + most, total as u16];
+    for (kind, count) in (0..).zip(&question.counts) {
+        for card in 1..=*count {
+            script.extend([0, kind, card]);
+        }
+    }
+    let part = towards(template.part(Shape(question.shape)), Shape(1));
+    let template = Template {
+        kinds: template.kinds,
+        parts: vec![part, Part::Nothing],
+    };
+    Some(Files {
+        template: template::write(&template),
+        script,
+        bookings: vec![1, 0, 0],
+    })
+}
+
+/// The part with every link to this shape.
+fn towards(part: &Part, shape: Shape) -> Part {
+    let inner = |part: &Part| Box::new(towards(part, shape));
+    let each = |parts: &[Part]| parts.iter().map(|part| towards(part, shape)).collect();
+    match part {
+        Part::Nothing => Part::Nothing,
+        Part::Star(part) => Part::Star(inner(part)),
+        Part::Plus(part) => Part::Plus(inner(part)),
+        Part::Optional(part) => Part::Optional(inner(part)),
+        Part::Choice(parts) => Part::Choice(each(parts)),
+        Part::All(parts) => Part::All(each(parts)),
+        Part::Link(link) => Part::Link(Link { shape, ..*link }),
+    }
+}

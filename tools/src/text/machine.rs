@@ -1,0 +1,215 @@
+//! The outcome of a sheet as JSON, for machines. tools/README.md tells the fields.
+
+use super::check::Sheet;
+use super::form::Form;
+use super::json::Json;
+use super::misfit::Lack;
+use super::reasons::{all_not_met, way, Reason};
+use super::report::bare;
+use super::roots::Roots;
+use super::sentences::{because, wrong};
+use super::told::Told;
+use super::trouble::{Trouble, Why};
+use super::Spot;
+use crate::numbers::{Card, Shape};
+use crate::typing::{Pair, Smallest};
+
+/// The outcome of a sheet.
+pub fn outcome(sheet: &Sheet, file: &str) -> Json {
+    let roots = Roots::new(&sheet.setting);
+    let not_met = all_not_met(sheet, &roots);
+    let outcome = if not_met.is_empty() { "met" } else { "unmet" };
+    let others = Json::list(not_met.iter().skip(1), |reason| {
+        Json::Fields(unmet_fields(sheet, reason))
+    });
+    let mut fields = vec![
+        ("file", Json::text(file)),
+        ("form", form(sheet.form)),
+        ("outcome", Json::text(outcome)),
+    ];
+    fields.extend(contents(sheet));
+    fields.extend(answers(sheet));
+    fields.extend([
+        (
+            "unmet",
+            Json::maybe(not_met.first(), |reason| unmet(sheet, reason)),
+        ),
+        ("also_unmet", others),
+        (
+            "bare",
+            Json::list(bare(sheet, &roots), |card| bare_card(sheet, card)),
+        ),
+        (
+            "cards",
+            Json::list(0..sheet.text.cards.len(), |number| card(sheet, number)),
+        ),
+    ]);
+    Json::Fields(fields)
+}
+
+/// What is in the sheet, apart from its cards.
+fn contents(sheet: &Sheet) -> [(&'static str, Json); 5] {
+    let text = &sheet.text;
+    let booked = Json::list(&sheet.booked, |pair| Json::Fields(pair_fields(sheet, *pair)));
+    [
+        ("title", Json::maybe(text.title.as_deref(), Json::text)),
+        ("kinds", Json::list(&text.kinds, |name| Json::text(&name.text))),
+        (
+            "shapes",
+            Json::list(&text.shapes, |(name, _)| Json::text(&name.text)),
+        ),
+        ("links", Json::count(text.links.len())),
+        ("bookings", booked),
+    ]
+}
+
+/// The answers for both typings; null for the smallest if the bookings aren't met.
+fn answers(sheet: &Sheet) -> [(&'static str, Json); 2] {
+    let (largest, _) = sheet.both.largest;
+    let smallest = match sheet.both.smallest.0 {
+        Smallest::Pairs(pairs) => Json::Fields(vec![("pairs", Json::count(pairs))]),
+        Smallest::NotMet(..) => Json::Null,
+    };
+    let largest = Json::Fields(vec![
+        ("rounds", Json::count(largest.rounds)),
+        ("struck", Json::count(largest.struck)),
+        ("bare", Json::count(largest.bare)),
+    ]);
+    [("largest", largest), ("smallest", smallest)]
+}
+
+/// Why a file isn't a sheet.
+pub fn trouble(trouble: &Trouble) -> Json {
+    let mut fields = vec![("file", Json::text(&trouble.file)), ("form", form(trouble.form))];
+    match &trouble.why {
+        Why::Fault(fault) => {
+            let mut at = place(Some(fault.spot));
+            at.push(("message", Json::text(&fault.message)));
+            fields.extend([("outcome", Json::text("fault")), ("fault", Json::Fields(at))]);
+        }
+        Why::Refused(told) => {
+            fields.extend([("outcome", Json::text("refused")), ("refusal", refusal(told))]);
+        }
+    }
+    Json::Fields(fields)
+}
+
+fn form(form: Form) -> Json {
+    Json::text(match form {
+        Form::Text => "text",
+        Form::Words => "words",
+    })
+}
+
+/// A line and a column; null in a sheet of words.
+fn place(spot: Option<Spot>) -> Vec<(&'static str, Json)> {
+    vec![
+        ("line", Json::maybe(spot, |spot| Json::count(spot.line))),
+        ("column", Json::maybe(spot, |spot| Json::count(spot.column))),
+    ]
+}
+
+fn refusal(told: &Told) -> Json {
+    let word = told.word.as_ref();
+    let mut fields = vec![
+        ("number", Json::count(told.refusal.number.into())),
+        ("place", Json::count(told.refusal.place)),
+        ("message", Json::text(told.refusal.meaning())),
+        ("section", Json::maybe(word, |word| Json::text(word.file))),
+        (
+            "word",
+            Json::maybe(word.and_then(|word| word.value), |word| Json::count(word.into())),
+        ),
+        ("role", Json::maybe(word, |word| Json::text(&word.role))),
+        ("note", Json::maybe(told.note.as_deref(), Json::text)),
+    ];
+    fields.extend(place(told.spot));
+    Json::Fields(fields)
+}
+
+/// A pair: numbers and names of its card and shape.
+fn pair_fields(sheet: &Sheet, (card, shape): Pair) -> Vec<(&'static str, Json)> {
+    vec![
+        ("card", Json::count(card.index())),
+        ("card_name", Json::text(&sheet.text.cards[card.index()].0.text)),
+        ("shape", Json::count(shape.index())),
+        ("shape_name", Json::text(&sheet.text.shapes[shape.index()].0.text)),
+    ]
+}
+
+/// The pair of 50, and the way to it from a booking, which is the first pair of the way.
+fn unmet(sheet: &Sheet, reason: &Reason) -> Json {
+    let mut fields = unmet_fields(sheet, reason);
+    let steps = way(&sheet.setting, &sheet.booked, reason.pair).unwrap_or_default();
+    let way = Json::list(steps, |(asking, kind)| {
+        let mut step = pair_fields(sheet, asking);
+        step.push(("kind", Json::text(&sheet.text.kinds[kind.index()].text)));
+        Json::Fields(step)
+    });
+    fields.push(("way", way));
+    Json::Fields(fields)
+}
+
+/// A pair that isn't met, and why.
+fn unmet_fields(sheet: &Sheet, reason: &Reason) -> Vec<(&'static str, Json)> {
+    let mut fields = pair_fields(sheet, reason.pair);
+    fields.extend(place(sheet.card_spot(reason.pair.0.index())));
+    fields.push(("reason", Json::text(because(&sheet.text, reason))));
+    fields.push(("lacks", Json::list(&reason.misfit.lacks, |one| lack(sheet, one))));
+    fields
+}
+
+/// A card with no shape, and for each shape why it hasn't that one.
+fn bare_card(sheet: &Sheet, (number, reasons): (usize, Vec<Reason>)) -> Json {
+    let mut fields = vec![
+        ("card", Json::count(number)),
+        ("card_name", Json::text(&sheet.text.cards[number].0.text)),
+    ];
+    fields.extend(place(sheet.card_spot(number)));
+    fields.push((
+        "reasons",
+        Json::list(&reasons, |reason| bare_reason(sheet, reason)),
+    ));
+    Json::Fields(fields)
+}
+
+fn bare_reason(sheet: &Sheet, reason: &Reason) -> Json {
+    let shape = reason.pair.1;
+    let mut root = pair_fields(sheet, reason.root());
+    root.push(("reason", Json::text(wrong(&sheet.text, &reason.misfit))));
+    root.push(("lacks", Json::list(&reason.misfit.lacks, |one| lack(sheet, one))));
+    Json::Fields(vec![
+        ("shape", Json::count(shape.index())),
+        ("shape_name", Json::text(&sheet.text.shapes[shape.index()].0.text)),
+        ("distance", Json::Number(reason.distance)),
+        ("reason", Json::text(because(&sheet.text, reason))),
+        ("root", Json::Fields(root)),
+    ])
+}
+
+fn lack(sheet: &Sheet, lack: &Lack) -> Json {
+    Json::Fields(vec![
+        ("kind", Json::text(&sheet.text.kinds[lack.kind.index()].text)),
+        ("low", Json::Number(lack.low)),
+        ("high", Json::maybe(lack.high, Json::Number)),
+        ("there", Json::count(lack.there.into())),
+    ])
+}
+
+/// A card and its shapes in both typings.
+fn card(sheet: &Sheet, number: usize) -> Json {
+    let (name, title) = &sheet.text.cards[number];
+    let shapes = |grid: &[u8]| {
+        let all = (0..sheet.both.shapes).map(Shape);
+        let has = all.filter(|shape| sheet.has(grid, (Card(number as u16), *shape)));
+        Json::list(has, |shape| Json::text(&sheet.text.shapes[shape.index()].0.text))
+    };
+    let mut fields = vec![
+        ("name", Json::text(&name.text)),
+        ("title", Json::maybe(title.as_deref(), Json::text)),
+    ];
+    fields.extend(place(sheet.card_spot(number)));
+    fields.push(("largest", shapes(&sheet.both.largest.1)));
+    fields.push(("smallest", shapes(&sheet.both.smallest.1)));
+    Json::Fields(fields)
+}

@@ -1,0 +1,110 @@
+//! The outcome of a sheet in words: first what bookings ask for and can't be met, then the cards with no shape, those
+//! that are to blame themselves before those that only lead there.
+
+use super::check::Sheet;
+use super::reasons::{all_not_met, reason, reasons, way, Reason};
+use super::roots::Roots;
+use super::sentences::{a_shape, because, booked_by, cannot};
+use super::trouble::place;
+use crate::typing::{Pair, Smallest};
+
+/// The outcome in words.
+pub fn report(sheet: &Sheet, file: &str) -> String {
+    let roots = Roots::new(&sheet.setting);
+    let cards = counted(sheet.text.cards.len(), "card");
+    let links = counted(sheet.text.links.len(), "link");
+    let mut report = format!(
+        "{file}: {cards}, {links}, {}\n",
+        counted(sheet.booked.len(), "booking")
+    );
+    if let Smallest::Pairs(pairs) = sheet.both.smallest.0 {
+        report += &format!("smallest: {}, each of them met\n", counted(pairs, "pair"));
+    }
+    for (order, reason) in all_not_met(sheet, &roots).iter().enumerate() {
+        if order == 0 {
+            report += &not_met(sheet, &roots, file, reason.pair);
+        } else {
+            let start = place(file, sheet.card_spot(reason.pair.0.index()));
+            report += &format!("{start}: {}\n", cannot(&sheet.text, reason));
+        }
+    }
+    let (largest, _) = &sheet.both.largest;
+    report += &format!(
+        "largest: {}, {} struck, {} of {cards} without a shape\n",
+        counted(largest.rounds, "round"),
+        counted(largest.struck, "pair"),
+        largest.bare
+    );
+    for (card, reasons) in bare(sheet, &roots) {
+        report += &no_shape(sheet, file, card, &reasons);
+    }
+    report
+}
+
+/// A count of things.
+fn counted(count: usize, thing: &str) -> String {
+    let end = if count == 1 { "" } else { "s" };
+    format!("{count} {thing}{end}")
+}
+
+/// The cards with no shape, each with its reasons; the nearer to the card that is to blame, the earlier.
+pub fn bare(sheet: &Sheet, roots: &Roots) -> Vec<(usize, Vec<Reason>)> {
+    let cards = (0..sheet.text.cards.len()).filter(|card| sheet.bare(*card));
+    let mut bare: Vec<_> = cards.map(|card| (card, reasons(sheet, roots, card))).collect();
+    bare.sort_by_key(|(_, reasons)| reasons.first().map_or(0, |nearest| nearest.steps.len()));
+    bare
+}
+
+/// A pair that bookings may ask for, and why it isn't met: 50, or why it can't be 50.
+pub fn not_met(sheet: &Sheet, roots: &Roots, file: &str, pair: Pair) -> String {
+    let (text, (card, shape)) = (&sheet.text, pair);
+    let start = place(file, sheet.card_spot(card.index()));
+    let Some(reason) = reason(sheet, roots, pair) else {
+        let who = text.card_title(card.index());
+        return format!("{start}: {who} can be {}\n", a_shape(text, shape));
+    };
+    let mut told = format!("{start}: {}\n", cannot(text, &reason));
+    if sheet.not_met() == Some(pair) {
+        let name = &text.cards[card.index()].0.text;
+        let shape_name = &text.shapes[shape.index()].0.text;
+        told += &format!(
+            "  refused 50 {} {}: the bookings ask for {name} to have shape {shape_name}\n",
+            card.0, shape.0
+        );
+    }
+    let steps = way(&sheet.setting, &sheet.booked, pair);
+    told + &format!("  {}\n", booked_by(text, steps.as_deref(), pair))
+}
+
+/// A card with no shape, and why it hasn't any of them, the nearest first. Shapes with the same reason share a line;
+/// so do those that don't take all of its kinds, except the nearest.
+fn no_shape(sheet: &Sheet, file: &str, card: usize, reasons: &[Reason]) -> String {
+    let text = &sheet.text;
+    let start = place(file, sheet.card_spot(card));
+    let mut lines: Vec<(String, String)> = Vec::new();
+    let mut strangers = Vec::new();
+    for (order, reason) in reasons.iter().enumerate() {
+        let shape = reason.pair.1;
+        let name = &text.shapes[shape.index()].0.text;
+        if order > 0 && reason.strange {
+            strangers.push((shape, name.as_str()));
+            continue;
+        }
+        let why = because(text, reason);
+        match lines.iter_mut().find(|(_, told)| *told == why) {
+            Some((shapes, _)) => *shapes += &format!(", {name}"),
+            None => lines.push((a_shape(text, shape), why)),
+        }
+    }
+    if !strangers.is_empty() {
+        strangers.sort();
+        let names: Vec<&str> = strangers.iter().map(|(_, name)| *name).collect();
+        let why = "it has links of kinds that aren't wanted there";
+        lines.push((names.join(", "), why.to_string()));
+    }
+    let mut told = format!("{start}: {} has no shape\n", text.card_title(card));
+    for (shapes, why) in lines {
+        told += &format!("  not {shapes}: {why}\n");
+    }
+    told
+}

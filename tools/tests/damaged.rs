@@ -1,0 +1,135 @@
+//! Damaged files: whatever is in a file, it is a sheet or it is told why not, and nothing panics.
+
+use prep_tools::generate;
+use prep_tools::random::Random;
+use prep_tools::refusal::Refusal;
+use prep_tools::text::load::{load_input, load_sheet, tell_refusal};
+use prep_tools::text::{machine, write};
+
+const TEXTS: [&str; 3] = [
+    include_str!("../../examples/prep/programme.txt"),
+    include_str!("../../examples/prep/draft.txt"),
+    "kinds: a b\nshape A = choice(all(a[1;2]@B, nothing)*, b[0;]@A)+\nshape B = (nothing)?\ncard x \"t \\\" \\\\\"\n\
+     card y\nlink x a y x\nlink y b x\nbook x A\ntitle \"T\"\n",
+];
+
+/// Pieces that a text is made of, and some that it isn't.
+const PIECES: [&str; 24] = [
+    "(",
+    ")",
+    "[",
+    "]",
+    ";",
+    "@",
+    "*",
+    "+",
+    "?",
+    "\"",
+    "\\",
+    "\n",
+    "#",
+    "choice(",
+    "all(",
+    "nothing",
+    "65535",
+    "99999999999",
+    "card ",
+    "link ",
+    "book ",
+    "\u{feff}",
+    "\u{0}",
+    "é",
+];
+
+/// Everything that can be said about a file, to see that nothing panics.
+fn try_all(bytes: &[u8]) -> bool {
+    let _ = load_input("x", bytes);
+    for number in [0, 1, 4, 12, 20, 25, 33, 40, 50, 60, 65535] {
+        let place = usize::from(number) * 7 % 90;
+        let _ = tell_refusal("x", bytes, Refusal::at(number, place)).to_string();
+    }
+    match load_sheet("x", bytes) {
+        Ok(sheet) => {
+            assert!(sheet.report("x").starts_with("x: "));
+            let _ = machine::outcome(&sheet, "x").to_string();
+            let written = write::sheet_text(&sheet);
+            let again = load_sheet("x", written.as_bytes()).expect("what is written is read");
+            assert_eq!(again.both, sheet.both);
+            true
+        }
+        Err(trouble) => {
+            assert!(trouble.to_string().starts_with("x:"), "{trouble}");
+            let _ = machine::trouble(&trouble).to_string();
+            false
+        }
+    }
+}
+
+/// One damage: bytes changed, put in, left out, repeated, or the end cut off.
+fn damage(random: &mut Random, bytes: &mut Vec<u8>) {
+    let start = random.below(bytes.len() + 1);
+    let end = (start + random.below(30)).min(bytes.len());
+    match random.below(6) {
+        0 if start < bytes.len() => bytes[start] = random.bits() as u8,
+        1 => {
+            bytes.splice(start..start, random.pick(&PIECES).bytes());
+        }
+        2 => {
+            bytes.drain(start..end);
+        }
+        3 => {
+            let piece = bytes[start..end].to_vec();
+            let at = random.below(bytes.len() + 1);
+            bytes.splice(at..at, piece);
+        }
+        4 if random.chance(1, 4) => bytes.truncate(start),
+        _ => {
+            let piece = random.pick(&PIECES).repeat(random.below(100));
+            bytes.splice(start..end, piece.bytes());
+        }
+    }
+}
+
+#[test]
+fn damaged_texts_never_panic() {
+    let mut random = Random::new(61);
+    let mut sheets = 0;
+    for number in 0..3000 {
+        let mut bytes = TEXTS[number % 3].as_bytes().to_vec();
+        for _ in 0..random.between(1, 3) {
+            damage(&mut random, &mut bytes);
+        }
+        sheets += u32::from(try_all(&bytes));
+    }
+    assert!(sheets > 100, "only {sheets} texts are still sheets");
+}
+
+#[test]
+fn damaged_words_never_panic() {
+    let mut random = Random::new(62);
+    let mut sheets = 0;
+    for case in generate::cases(63, 900) {
+        // Large sheets are damaged in other tests and take long.
+        if case.bytes.len() > 3000 {
+            continue;
+        }
+        let mut bytes = case.bytes;
+        sheets += u32::from(try_all(&bytes));
+        damage(&mut random, &mut bytes);
+        sheets += u32::from(try_all(&bytes));
+    }
+    assert!(sheets > 100, "only {sheets} inputs are sheets");
+}
+
+#[test]
+fn random_bytes_never_panic() {
+    let mut random = Random::new(64);
+    for _ in 0..3000 {
+        let most = random.pick(&[4, 40, 255]);
+        let length = random.below(60);
+        let bytes: Vec<u8> = (0..length).map(|_| random.below(most + 1) as u8).collect();
+        try_all(&bytes);
+        let pieces: String = (0..length).map(|_| random.pick(&PIECES)).collect();
+        try_all(format!("kinds: a\nshape A = {pieces}").as_bytes());
+    }
+}

@@ -1,0 +1,173 @@
+//! The page of the formats: every example on it is right, and a page that is wrong is noticed.
+
+use prep_tools::page::{self, answers, examples, Outcome};
+use prep_tools::samples;
+use std::collections::BTreeSet;
+use std::env;
+use std::fs;
+use std::process::{self, Command, Output};
+
+const PROGRAM: &str = env!("CARGO_BIN_EXE_prep-tools");
+const PAGE: &str = concat!(env!("CARGO_MANIFEST_DIR"), "/../docs/FORMAT.md");
+
+fn the_page() -> String {
+    fs::read_to_string(PAGE).expect("the page can be read")
+}
+
+/// What comes out of a page, and what is told.
+fn checked(page: &str) -> (Result<Outcome, String>, String) {
+    let mut told = Vec::new();
+    let outcome = page::check("page", page, None, &mut told);
+    (outcome, String::from_utf8_lossy(&told).into_owned())
+}
+
+fn run(words: &[&str]) -> (Output, String) {
+    let output = Command::new(PROGRAM)
+        .args(words)
+        .output()
+        .expect("the program starts");
+    let text = String::from_utf8_lossy(&output.stdout).into_owned();
+    (output, text)
+}
+
+#[test]
+fn every_example_of_the_page_is_right() {
+    let (outcome, told) = checked(&the_page());
+    let outcome = outcome.expect("the page can be read");
+    assert_eq!(outcome.differ, 0, "{told}");
+    assert!(outcome.checked >= 130, "{told}");
+}
+
+#[test]
+fn the_page_has_an_example_of_every_refusal() {
+    let examples = examples::read(&the_page()).expect("the page can be read");
+    let shown: BTreeSet<String> = examples
+        .iter()
+        .filter_map(|example| answers::number(&example.answer))
+        .collect();
+    let listed = (1..=12)
+        .chain(20..=25)
+        .chain(30..=33)
+        .chain(40..=43)
+        .chain([50, 60]);
+    assert_eq!(shown, listed.map(|number: u16| number.to_string()).collect());
+}
+
+#[test]
+fn the_page_has_the_count_samples_and_no_others() {
+    let examples = examples::read(&the_page()).expect("the page can be read");
+    let on_the_page: Vec<_> = examples
+        .into_iter()
+        .filter_map(|example| {
+            let question = example.question;
+            Some((
+                example.sample?,
+                question.template,
+                question.counts,
+                example.answer,
+            ))
+        })
+        .collect();
+    let table = samples::table().into_iter().map(|sample| {
+        let answer = if sample.fits { "yes" } else { "no" };
+        (
+            sample.label.to_string(),
+            sample.template(),
+            sample.counts.to_vec(),
+            answer.to_string(),
+        )
+    });
+    assert_eq!(on_the_page, table.collect::<Vec<_>>());
+}
+
+#[test]
+fn the_command_shows_the_page_to_a_printer() {
+    let (output, text) = run(&["page", PAGE, "--printer", &format!("{PROGRAM} print -")]);
+    assert!(output.status.success(), "{text}");
+    assert!(text.ends_with(" examples checked, 0 differ\n"), "{text}");
+    let shown = text.lines().next().and_then(|line| line.split(' ').next());
+    let shown: usize = shown
+        .and_then(|word| word.parse().ok())
+        .expect("a number is told");
+    assert!(shown >= 90, "{text}");
+}
+
+#[test]
+fn an_option_that_is_not_known_is_an_error() {
+    let (output, text) = run(&["page", PAGE, "--printer"]);
+    assert_eq!((output.status.code(), text.as_str()), (Some(2), ""));
+}
+
+#[test]
+fn a_printer_that_prints_something_else_is_noticed() {
+    let (output, text) = run(&["page", PAGE, "--printer", &format!("{PROGRAM} samples")]);
+    assert_eq!(output.status.code(), Some(1));
+    assert!(text.contains("the printer says `P1 nothing: 0,0 yes"), "{text}");
+}
+
+#[test]
+fn a_page_with_the_wrong_order_is_noticed() {
+    let head = "| number | template | script | answer |\n|---|---|---|---|\n";
+    for (row, wrong) in [
+        ("| 21 | `1 1 1 0` | `1025 0 7` | `refused 21 0` |\n", 0),
+        ("| 20 | `1 1 1 0` | `1025 0 7` | `refused 20 0` |\n", 1),
+        ("| 20 | `1 1 1 0` | `1025 0 7` | `refused 21 0` |\n", 1),
+        ("| 22 | `1 1 1 0` | `0 9000` | `refused 22 1` |\n", 0),
+        ("| 20 | `1 1 1 0` | `0 9000` | `refused 20 0` |\n", 1),
+    ] {
+        let (outcome, told) = checked(&format!("{head}{row}"));
+        let outcome = outcome.expect("the page can be read");
+        assert_eq!((outcome.checked, outcome.differ), (1, wrong), "{row}{told}");
+        assert_eq!(told.contains("page:3: "), wrong == 1, "{told}");
+    }
+}
+
+#[test]
+fn the_command_tells_the_line_that_is_wrong() {
+    let path = env::temp_dir().join(format!("prep-tools-page-{}.md", process::id()));
+    let head = "| template | script | bookings | answer |\n|---|---|---|---|\n";
+    let wrong = format!("{head}| `1 1 1 0` | `0 0` | `1025` | `refused 30 0` |\n");
+    fs::write(&path, wrong).expect("the file can be written");
+    let (output, text) = run(&["page", &path.to_string_lossy()]);
+    fs::remove_file(&path).expect("the file can be removed");
+    assert_eq!(output.status.code(), Some(1));
+    let told = "the page says `refused 30 0`, the tools say `refused 31 0`";
+    assert_eq!(
+        text,
+        format!("{}:3: {told}\n1 examples checked, 1 differ\n", path.display())
+    );
+}
+
+#[test]
+fn a_page_that_cannot_be_read_is_an_error_with_its_line() {
+    for (page, error) in [
+        ("No table.\n", "page: the page has no examples"),
+        (
+            "| template | answer |\n| `1` | `refused 1 0` |\n",
+            "page:1: the table has no rule below its head",
+        ),
+        (
+            "| template | answer |\n|---|---|\n| `1` |\n",
+            "page:3: the row has 1 cells under 2 columns",
+        ),
+        (
+            "| template | colour | answer |\n|---|---|---|\n| `1` | red | `refused 1 0` |\n",
+            "page:3: no example has a column \"colour\"",
+        ),
+        (
+            "| script | answer |\n|---|---|\n| `1` | `refused 20 0` |\n",
+            "page:3: nothing is asked by the columns \"script\"",
+        ),
+        (
+            "| template | answer |\n|---|---|\n| `65536` | `refused 1 0` |\n",
+            "page:3: \"65536\" isn't a number that fits, nor a name",
+        ),
+        ("\n```sheet\ntemplate 1\n", "page:2: the block doesn't end"),
+        (
+            "\n```sheet\ntemplate 1\n```\n",
+            "page:2: the sheet has no line `prints`",
+        ),
+    ] {
+        assert_eq!(checked(page).0, Err(error.to_string()));
+    }
+}
