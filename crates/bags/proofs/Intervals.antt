@@ -97,7 +97,7 @@ convex empty a i b p q h g = h
 convex (within lo hi) a i b p q h g = omega arith
 convex (from lo) a i b p q h g = omega arith
 
--- "Link with count w: those i with i × low ≤ w ≤ i × high", each side by itself and both.
+-- A link with count w: those i with i × low ≤ w ≤ i × high, each side by itself and both.
 in-low : (w low i : ℕ) → In i (lowRoom w low) ↔ (i * low ≤ w)
 in-low w zero i = (λ h. omega arith, λ h. omega arith)
 in-low w (suc l) i = (

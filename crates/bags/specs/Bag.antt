@@ -1,4 +1,4 @@
--- Bags of (label, shape) and the bags of a part: section 2.1 of the paper, document 01, "Bags".
+-- Bags of (label, shape) and the bags of a part (docs/FORMAT.md, "Bags and counts"; section 2.1 of the paper).
 --   Bag, ∅, _⊕_, copies      a bag, the empty one, the sum of two, n of one (label, shape)
 --   Language                 a set of bags; EmptyBag, Union, Sums, Power, Star, Plus, Copies are those of 2.1
 --   Bags                     the bags of a part
@@ -42,7 +42,7 @@ Language = Bag → Type 0
 abbrev pub NoBag : Language
 NoBag b = ⊥
 
--- "Nothing has the empty bag."
+-- Only the empty bag: that of nothing.
 abbrev pub EmptyBag : Language
 EmptyBag b = b ≡ ∅
 
@@ -72,12 +72,12 @@ abbrev pub Under : ℕ → Limit → Type 0
 Under n (at-most high) = n ≤ high
 Under n no-limit = Unit {0}
 
--- "A link part has the bags of low to high copies of (kind, shape)."
+-- A link takes n times (label, shape), for each n from its low to its high.
 abbrev pub Copies : ℕ → ℕ → ℕ → Limit → Language
 Copies label shape low high b = (n : ℕ) × (low ≤ n) × Under n high × (b ≡ copies n label shape)
 
--- "Choice is the union of its parts, all is the sums of one bag from each. Star is sums of zero or more bags of its
--- part, plus of one or more; optional is a choice of nothing and the part": by definition that of the run of these two.
+-- The bags that a part takes: a choice those of any of its parts, all a bag of each put together, star any number of its
+-- part's bags, plus one or more; optional by definition those of the run of nothing and the part.
 abbrev mutual
   pub Bags : Part → Language
   Bags nothing = EmptyBag
@@ -105,6 +105,6 @@ sumBelow (suc n) f = sumBelow n f + f n
 abbrev pub total : ℕ → Bag → ℕ → ℕ
 total S b k = sumBelow S (b k)
 
--- "Counts fit a shape if they are those of a bag of its part; a kind not named there must count 0": no bag has it.
+-- Counts fit a part that takes a bag with these counts. A label that the part does not name counts 0 in each of its bags.
 abbrev pub Fits : ℕ → Part → (ℕ → ℕ) → Type 0
 Fits S p counts = (b : Bag) × Bags p b × ((k : ℕ) → total S b k ≡ counts k)

@@ -1,4 +1,4 @@
--- When a card's neighbours meet a part (document 01, "Typings"; section 3.2 of the paper).
+-- When a card's neighbours meet a part (docs/FORMAT.md, "Typings"; section 3.2 of the paper).
 --   Neighbour                a label and the far card
 --   Chosen                   a bag of (label, shape) for a choice of one shape of each far card
 --   Met                      some such bag belongs to the part
@@ -21,7 +21,7 @@ Chosen S has [] b = b ≡ ∅
 Chosen S has (to label far ∷ ns) b =
     (s : ℕ) × (s < S) × has far s × ((c : Bag) × Chosen S has ns c × (b ≡ copies 1 label s ⊕ c))
 
--- "For each link of n one shape of its target can be chosen so that the (kind, shape) bag belongs to t."
+-- The part takes the bag of some choice of one shape for each neighbour.
 abbrev pub Met : ℕ → (ℕ → ℕ → Type 0) → List Neighbour → Part → Type 0
 Met S has ns p = (b : Bag) × Chosen S has ns b × Bags p b
 

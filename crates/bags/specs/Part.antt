@@ -1,4 +1,4 @@
--- Parts of a template's shapes (document 01, "Template"): the bag expressions of section 2.1 over (label, shape).
+-- Parts of a template's shapes (docs/FORMAT.md, "Templates"): the bag expressions of section 2.1 over (label, shape).
 --   Part, Parts             a part; a run of parts, under choice and all
 --   Names, Declares         a label stands in the part; it stands there with a shape
 --   Single                  no label stands twice
@@ -18,7 +18,7 @@ pub data Limit : Type 0 where
   no-limit : Limit
 
 mutual
-  -- The codes of document 01, "Template".
+  -- A case for each code.
   pub data Part : Type 0 where
     nothing : Part
     star : Part → Part
@@ -64,7 +64,7 @@ abbrev mutual
   RunDeclares none k s = ⊥
   RunDeclares (more p ps) k s = Declares p k s ⊎ RunDeclares ps k s
 
--- "A kind stands at most once in a shape": no label stands twice.
+-- No label stands twice, not even in two parts of a choice.
 abbrev mutual
   pub Single : Part → Type 0
   Single nothing = Unit {0}
@@ -109,7 +109,7 @@ abbrev mutual
   RunLabelsBelow L none = Unit {0}
   RunLabelsBelow L (more p ps) = LabelsBelow L p × RunLabelsBelow L ps
 
--- "A shape's whole part has depth 1, a part inside another one more": the depth of the deepest part.
+-- How deep the deepest part lies: the part itself is at depth 1, the parts in it one deeper.
 abbrev mutual
   pub depth : Part → ℕ
   depth nothing = 1

@@ -34,6 +34,6 @@ abbrev pub limitUnless : Bool → ℕ → Limit
 limitUnless true n = no-limit
 limitUnless false n = at-most n
 
--- "High is low to 8,192, or 65,535 for no limit."
+-- The high of a link as a word: 65,535 stands for no limit.
 abbrev pub limitOf : ℕ → Limit
 limitOf high = limitUnless (eqb high 65535) high

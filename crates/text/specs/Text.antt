@@ -1,4 +1,4 @@
--- The text of a printed sheet (document 01, "One sheet printed"), as a list of bytes.
+-- The text of a printed sheet (docs/FORMAT.md, "The printer"), as a list of bytes.
 -- digits        a number in base ten
 -- shapeText, shapesText   a shape, and the shapes of a card, ascending, a space before each
 -- cardLine, cardLines   a line for a card, and the lines for all cards
@@ -37,7 +37,7 @@ space = 32
 abbrev pub newline : ℕ
 newline = 10
 
--- "largest ", "smallest ", "no ", "card ", "refused "
+-- The words "largest ", "smallest ", "no ", "card ", "refused ".
 abbrev pub largestWord : List ℕ
 largestWord = 108 ∷ 97 ∷ 114 ∷ 103 ∷ 101 ∷ 115 ∷ 116 ∷ 32 ∷ []
 
@@ -57,32 +57,32 @@ refusedWord = 114 ∷ 101 ∷ 102 ∷ 117 ∷ 115 ∷ 101 ∷ 100 ∷ 32 ∷ []
 unfoldable pub twoNumbers : ℕ → ℕ → List ℕ
 twoNumbers a b = digits a ++ (space ∷ (digits b ++ (newline ∷ [])))
 
--- "First line: rounds, struck, cards with no shape."
+-- The line of the largest typing: rounds, pairs struck, cards with no shape.
 unfoldable pub largestLine : ℕ → ℕ → ℕ → List ℕ
 largestLine rounds struck bare = largestWord ++ (digits rounds ++ (space ∷ twoNumbers struck bare))
 
--- "Then pairs."
+-- The line of the smallest typing: its number of pairs.
 unfoldable pub smallestLine : ℕ → List ℕ
 smallestLine pairs = smallestWord ++ (digits pairs ++ (newline ∷ []))
 
--- "The one line `smallest no 0 1`, the card and shape of 50."
+-- The line of bookings that are not met, as `smallest no 0 1`: the card and the shape of 50.
 unfoldable pub notMetLine : ℕ → ℕ → List ℕ
 notMetLine card shape = smallestWord ++ (noWord ++ twoNumbers card shape)
 
--- "Any refusal but 50 prints only `refused NUMBER PLACE`."
+-- The one line of any other refusal: its number and its place.
 unfoldable pub refusedLine : ℕ → ℕ → List ℕ
 refusedLine number place = refusedWord ++ twoNumbers number place
 
--- A shape, "a space before each", where the grid has its place.
+-- A shape after a space, where the grid has its place.
 abbrev pub shapeText : List ℕ → ℕ → ℕ → List ℕ
 shapeText grid place shape = whenOn (on grid place) (space ∷ digits shape)
 
--- Of the shapes below t, those of the card whose row starts at `base`: "its shapes ascending".
+-- Of the shapes below t, those of the card whose row starts at `base`, ascending.
 unfoldable pub shapesText : List ℕ → ℕ → ℕ → List ℕ
 shapesText grid base zero = []
 shapesText grid base (suc t) = shapesText grid base t ++ shapeText grid (base + t) t
 
--- "A card line."
+-- The line of a card: its number, and its shapes.
 unfoldable pub cardLine : List ℕ → ℕ → ℕ → List ℕ
 cardLine grid shapes n = cardWord ++ (digits n ++ (58 ∷ (shapesText grid (n * shapes) shapes ++ (newline ∷ []))))
 

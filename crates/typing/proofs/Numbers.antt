@@ -34,7 +34,8 @@ module _ (template script : List ℕ) where
   pub largest-numbers : (grid : List ℕ) → Numbered LargestNumber (largestReading template script grid)
   largest-numbers grid =
       grid-numbers LargestNumber (inr refl) grid (readSheet template script)
-      (numbered-map SheetNumber LargestNumber (readSheet template script) (λ n h. inl h) (sheet-numbers template script))
+      (numbered-map SheetNumber LargestNumber (readSheet template script) (λ n h. inl h)
+      (sheet-numbers template script))
 
   module _ (bookings : List ℕ) where
     list-numbers : Numbered SmallestNumber (then (readSheet template script) (withBookings bookings))

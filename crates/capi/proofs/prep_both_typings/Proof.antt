@@ -20,7 +20,8 @@ Allowed a =
     (record { small = now (s .args .small); large = now (s .args .large) })
     (record { small = a .both-typings .last .1 .1 .1 .0; large = a .both-typings .last .1 .1 .1 .1 .0 })
 
-plain : (a : tie.After-both-typings) (number place : ℕ) → Allowed a (record { largest = refusal number (place ∷ []); smallest = refusal number (place ∷ []) }) → Plain number
+plain : (a : tie.After-both-typings) (number place : ℕ)
+    → Allowed a (record { largest = refusal number (place ∷ []); smallest = refusal number (place ∷ []) }) → Plain number
 plain a number place =
     let s = a .before .before .before .before .before .before .before .before in
     both-plain number place (now (s .args .template)) (now (s .args .script)) (now (s .args .bookings))
@@ -73,7 +74,9 @@ returns-3 : tie.Need-returns-3
 returns-3 c =
     let a = c .before .before .before .before .before .before .before in
     let says = said-by (Allowed a) bothSaid (c .before .answer3 .given .1) (a .both-typings .ensures) in
-    both-refused (Allowed a) _ _ (plain a (c .before .answer3 .given .0 .0) (c .before .answer3 .given .0 .1 .0) says) says
+    let number = c .before .answer3 .given .0 .0 in
+    let place = c .before .answer3 .given .0 .1 .0 in
+    both-refused (Allowed a) number place (plain a number place says) says
 
 pub prep-both-typings-spec : {M : Type 1} → statement M
 prep-both-typings-spec =

@@ -21,15 +21,18 @@ enum-known-answer c = search needs
 
 returns : tie.Need-returns
 returns c =
-    tells-found (FitSays _ _ _) _ (said-by (FitSays _ _ _) fitSaid (c .enum-told .given .1) (c .before .before .fit-counts .ensures))
+    let says = said-by (FitSays _ _ _) fitSaid (c .enum-told .given .1) (c .before .before .fit-counts .ensures) in
+    tells-found (FitSays _ _ _) _ says
 
 returns-2 : tie.Need-returns-2
 returns-2 c =
-    tells-found (FitSays _ _ _) _ (said-by (FitSays _ _ _) fitSaid (c .enum-told2 .given .1) (c .before .before .fit-counts .ensures))
+    let says = said-by (FitSays _ _ _) fitSaid (c .enum-told2 .given .1) (c .before .before .fit-counts .ensures) in
+    tells-found (FitSays _ _ _) _ says
 
 returns-3 : tie.Need-returns-3
 returns-3 c =
-    let says = said-by (FitSays _ _ _) fitSaid (c .before .answer .given .1) (c .before .before .before .fit-counts .ensures) in
+    let call = c .before .before .before .fit-counts in
+    let says = said-by (FitSays _ _ _) fitSaid (c .before .answer .given .1) (call .ensures) in
     tells-refused (FitSays _ _ _) 1 _ _ (fit-plain _ _ _ _ _ says) says
 
 pub prep-fit-counts-spec : {M : Type 1} → statement M

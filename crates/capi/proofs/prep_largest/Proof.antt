@@ -48,7 +48,9 @@ returns-2 : tie.Need-returns-2
 returns-2 c =
     let a = c .before .before .before .before .before in
     let says = said-by (Allowed a) largestSaid (c .before .answer2 .given .1) (a .largest .ensures) in
-    tells-refused (Allowed a) 3 _ _ (plain a (c .before .answer2 .given .0 .0) (c .before .answer2 .given .0 .1 .0) says) says
+    let number = c .before .answer2 .given .0 .0 in
+    let place = c .before .answer2 .given .0 .1 .0 in
+    tells-refused (Allowed a) 3 number place (plain a number place says) says
 
 pub prep-largest-spec : {M : Type 1} → statement M
 prep-largest-spec =

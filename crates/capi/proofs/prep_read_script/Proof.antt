@@ -18,11 +18,13 @@ enum-known-answer-2 c = search needs
 
 returns : tie.Need-returns
 returns c =
-    (sym (ap scriptSaid (c .before .answer .given .1)) ∙ c .before .before .before .read-script .ensures, (refl, (refl, (refl, tt))))
+    let call = c .before .before .before .read-script in
+    (sym (ap scriptSaid (c .before .answer .given .1)) ∙ call .ensures, (refl, (refl, (refl, tt))))
 
 returns-2 : tie.Need-returns-2
 returns-2 c =
-    let says = sym (ap scriptSaid (c .before .answer2 .given .1)) ∙ c .before .before .before .read-script .ensures in
+    let call = c .before .before .before .read-script in
+    let says = sym (ap scriptSaid (c .before .answer2 .given .1)) ∙ call .ensures in
     equals-refused _ 2 _ _ (script-plain _ _ _ _ says) says
 
 pub prep-read-script-spec : {M : Type 1} → statement M

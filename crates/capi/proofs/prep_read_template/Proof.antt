@@ -18,11 +18,13 @@ enum-known-answer-2 c = search needs
 
 returns : tie.Need-returns
 returns c =
-    (sym (ap templateSaid (c .before .answer .given .1)) ∙ c .before .before .before .read-template .ensures, (refl, (refl, (refl, tt))))
+    let call = c .before .before .before .read-template in
+    (sym (ap templateSaid (c .before .answer .given .1)) ∙ call .ensures, (refl, (refl, (refl, tt))))
 
 returns-2 : tie.Need-returns-2
 returns-2 c =
-    let says = sym (ap templateSaid (c .before .answer2 .given .1)) ∙ c .before .before .before .read-template .ensures in
+    let call = c .before .before .before .read-template in
+    let says = sym (ap templateSaid (c .before .answer2 .given .1)) ∙ call .ensures in
     equals-refused _ 2 _ _ (template-plain _ _ _ says) says
 
 pub prep-read-template-spec : {M : Type 1} → statement M

@@ -62,7 +62,9 @@ returns-3 : tie.Need-returns-3
 returns-3 c =
     let a = c .before .before .before .before .before in
     let says = said-by (Allowed a) smallestSaid (c .before .answer3 .given .1) (a .smallest .ensures) in
-    tells-refused (Allowed a) 1 _ _ (plain a (c .before .answer3 .given .0 .0) (c .before .answer3 .given .0 .1 .0) says) says
+    let number = c .before .answer3 .given .0 .0 in
+    let place = c .before .answer3 .given .0 .1 .0 in
+    tells-refused (Allowed a) 1 number place (plain a number place says) says
 
 pub prep-smallest-spec : {M : Type 1} → statement M
 prep-smallest-spec =
