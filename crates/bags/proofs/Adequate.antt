@@ -18,8 +18,8 @@ use mathlib.Core.List.{List, [], _∷_}
 use native.Mathlib.Omega.{arith}
 use native.Mathlib.Nat.{not-suc-le-zero}
 use native.Mathlib.Decide.{ℕ-discrete}
-use Rattle.bags.specs.Part.{Limit, at-most, Part, nothing, star, plus, optional, choice, all, link}
-use Rattle.bags.specs.Part.{Parts, none, more, ShapesBelow, RunShapesBelow}
+use Rattle.bags.specs.Part.{Limit, at-most, Part, nothing, star, plus, optional, choice, all, link, Parts, none}
+use Rattle.bags.specs.Part.{more, ShapesBelow, RunShapesBelow}
 use Rattle.bags.specs.Bag.{Bag, ∅, _⊕_, copies, Language, NoBag, EmptyBag, Union, Sums, Power, Star, Under}
 use Rattle.bags.specs.Bag.{Copies, Bags, BagsOfOne, BagsOfEach, total, Fits}
 use Rattle.bags.specs.Choice.{Neighbour, to, Chosen, Met}

@@ -14,10 +14,10 @@ use lib.Dec.{eqb, ltb}
 use borrow.Author.Tests.{eq-eqb, eqb-true, ltb-true, not-true}
 use Rattle.bags.specs.Part.{Part, nothing, star, plus, optional, choice, all, link, Parts, none, more, Names}
 use Rattle.bags.specs.Part.{RunNames, Single, RunSingle, ShapesBelow, RunShapesBelow}
-use Rattle.bags.specs.Bag.{Fits}
-use Rattle.bags.specs.Interval.{inside, interval, names, runNames, count, othersZero, fits}
-use Rattle.words.proofs.Bools.{never-both, and-first, and-second, and-both, or-cases, or-left, or-right}
-use Rattle.words.proofs.Bools.{bool-case, le-or-lt, last-or-below}
+use Rattle.bags.specs.Bag.{Fits, count}
+use Rattle.bags.specs.Interval.{inside, interval, names, runNames, othersZero, fits}
+use Rattle.words.proofs.Bools.{never-both, and-first, and-second, and-both, or-cases, or-left, or-right, bool-case}
+use Rattle.words.proofs.Bools.{le-or-lt, last-or-below}
 use Rattle.bags.proofs.Naming.{names-exact, run-names-exact}
 use Rattle.bags.proofs.Intervals.{inside-exact}
 use Rattle.bags.proofs.Exact.{fits-exact}

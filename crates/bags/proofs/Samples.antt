@@ -5,8 +5,8 @@ use Prim.Native.Nat.{ℕ}
 use mathlib.Core.Path.{_≡_, refl, sym, _∙_}
 use mathlib.Core.Bool.{Bool, true, false, _&&_, true≢false, Bool·beq}
 use mathlib.Core.List.{List, [], _∷_}
-use Rattle.bags.specs.Bag.{Fits}
-use Rattle.bags.specs.Interval.{count, fits}
+use Rattle.bags.specs.Bag.{Fits, count}
+use Rattle.bags.specs.Interval.{fits}
 use Rattle.bags.specs.Samples.{Sample, sample, samples, Says, Holds, AllHold}
 use Rattle.words.proofs.Bools.{and-first, and-second, same-true}
 use Rattle.bags.proofs.Decide.{ok, ok-true, list-decided}

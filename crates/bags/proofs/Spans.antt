@@ -12,10 +12,10 @@ use native.Mathlib.Nat.{not-suc-le-zero, div-le-self, div-lt-iff-lt-mul}
 use native.Mathlib.Decide.{ℕ-discrete}
 use lib.Dec.{ltb, leb, eqb}
 use borrow.Author.Tests.{ltb-true, ltb-false, lt-ltb, le-ltb, eqb-true, eqb-false, eq-eqb, ne-eqb, le-leb, lt-leb}
-use Rattle.bags.specs.Part.{at-most, no-limit}
+use Rattle.bags.specs.Part.{at-most, no-limit, limitUnless, limitOf}
 use Rattle.bags.specs.Interval.{Interval, empty, within, from, inside, keep, range, meet, add, lowRoom}
 use Rattle.bags.specs.Interval.{highRoom, oneUp, oneToHighest, starInterval, plusInterval}
-use Rattle.bags.specs.Span.{top, seenAs, view, Small, limitUnless, limitOf}
+use Rattle.bags.specs.Span.{top, seenAs, view, Small}
 use Rattle.bags.specs.declared.Span.{Span}
 
 abbrev pub span : ℕ → ℕ → Span

@@ -3,11 +3,14 @@
 --   Language                 a set of bags; EmptyBag, Union, Sums, Power, Star, Plus, Copies are those of 2.1
 --   Bags                     the bags of a part
 --   Fits                     counts are those of a bag of the part
+--   count                    the count of a label in a list of counts
 -- Assumes nothing.
 use Prim.Native.Nat.{ℕ, zero, suc, _+_, _≤_}
 use mathlib.Core.Path.{_≡_}
 use mathlib.Core.Logic.{_⊎_}
 use mathlib.Core.Bool.{Bool, true, false}
+use mathlib.Core.List.{List}
+use lib.ListN.{getD}
 use lib.Dec.{eqb}
 use Rattle.bags.specs.Part.{Limit, at-most, no-limit, Part, nothing, star, plus, optional, choice, all, link}
 use Rattle.bags.specs.Part.{Parts, none, more}
@@ -108,3 +111,7 @@ total S b k = sumBelow S (b k)
 -- Counts fit a part that takes a bag with these counts. A label that the part does not name counts 0 in each of its bags.
 abbrev pub Fits : ℕ → Part → (ℕ → ℕ) → Type 0
 Fits S p counts = (b : Bag) × Bags p b × ((k : ℕ) → total S b k ≡ counts k)
+
+-- The count of the label k in a list of counts, 0 past its end.
+abbrev pub count : List ℕ → ℕ → ℕ
+count xs k = getD xs k 0

@@ -1,4 +1,5 @@
--- Intervals of repetitions (docs/FORMAT.md, "Bags and counts"; section 8.2 of the paper).
+-- Intervals of repetitions (docs/FORMAT.md, "Intervals"; section 8.2 of the paper); no part of a promise: what they say
+-- of bags are laws.
 --   Interval, In, inside     a set of numbers of repetitions, and whether a number is in it
 --   meet, add                the intersection, and the sums of a number of each
 --   linkInterval, starInterval, plusInterval   those of a link, and of a star and a plus over a part's
@@ -8,8 +9,6 @@
 -- Assumes nothing.
 use Prim.Native.Nat.{ℕ, zero, suc, _+_, _/_, _≤_, min, max}
 use mathlib.Core.Bool.{Bool, true, false, _&&_, _||_}
-use mathlib.Core.List.{List}
-use lib.ListN.{getD}
 use lib.Dec.{leb, eqb}
 use Rattle.bags.specs.Part.{Limit, at-most, no-limit, Part, nothing, star, plus, optional, choice, all, link}
 use Rattle.bags.specs.Part.{Parts, none, more}
@@ -147,10 +146,6 @@ abbrev mutual
   pub runNames : Parts → ℕ → Bool
   runNames none k = false
   runNames (more p ps) k = names p k || runNames ps k
-
--- The count of the label k in a list of counts, 0 past its end.
-abbrev pub count : List ℕ → ℕ → ℕ
-count xs k = getD xs k 0
 
 -- Whether the labels below a number that the part does not name count 0.
 abbrev pub othersZero : ℕ → Part → (ℕ → ℕ) → Bool

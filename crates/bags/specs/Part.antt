@@ -1,4 +1,5 @@
 -- Parts of a template's shapes (docs/FORMAT.md, "Templates"): the bag expressions of section 2.1 over (label, shape).
+--   Limit, limitOf          the high of a link, and as a template's word has it
 --   Part, Parts             a part; a run of parts, under choice and all
 --   Names, Declares         a label stands in the part; it stands there with a shape
 --   Single                  no label stands twice
@@ -11,11 +12,21 @@ use mathlib.Core.Path.{_≡_}
 use mathlib.Core.Logic.{_⊎_}
 use mathlib.Core.Bool.{Bool, true, false}
 use lib.Dec.{eqb}
+use Rattle.words.specs.Limits.{noLimit}
 
 -- The high of a link.
 pub data Limit : Type 0 where
   at-most : ℕ → Limit
   no-limit : Limit
+
+-- The limit n, but none where the test says so.
+abbrev pub limitUnless : Bool → ℕ → Limit
+limitUnless true n = no-limit
+limitUnless false n = at-most n
+
+-- The high of a link as a word: 65,535 stands for no limit.
+abbrev pub limitOf : ℕ → Limit
+limitOf high = limitUnless (eqb high noLimit) high
 
 mutual
   -- A case for each code.

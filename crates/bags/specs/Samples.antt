@@ -6,8 +6,7 @@ use Prim.Native.Nat.{ℕ}
 use mathlib.Core.Bool.{Bool, true, false}
 use mathlib.Core.List.{List, [], _∷_}
 use Rattle.bags.specs.Part.{at-most, Part, nothing, star, plus, choice, all, link, Parts, none, more}
-use Rattle.bags.specs.Bag.{Fits}
-use Rattle.bags.specs.Interval.{count}
+use Rattle.bags.specs.Bag.{Fits, count}
 
 -- A part, the counts of a and b, and the answer.
 pub data Sample : Type 0 where

@@ -1,13 +1,11 @@
--- What a span of the code stands for.
+-- What a span of the code stands for; no part of a promise.
 --   view        its interval
 --   Small       its ends are at most a number
---   limitOf     the high of a link as a template's word has it
 -- Assumes nothing.
 use Prim.Native.Nat.{ℕ, _≤_}
 use mathlib.Core.Path.{_≡_}
 use mathlib.Core.Bool.{Bool, true, false}
 use lib.Dec.{ltb, eqb}
-use Rattle.bags.specs.Part.{Limit, at-most, no-limit}
 use Rattle.bags.specs.Interval.{Interval, empty, within, from}
 use Rattle.bags.specs.declared.Span.{Span}
 
@@ -28,12 +26,3 @@ view x = seenAs (ltb (x .hi) (x .lo)) (eqb (x .hi) top) (x .lo) (x .hi)
 -- lo is at most n, and so is hi unless it is the top.
 unfoldable pub Small : ℕ → Span → Type 0
 Small n x = (x .lo ≤ n) × ((x .hi ≡ top → ⊥) → x .hi ≤ n)
-
--- The limit n, but none where the test says so.
-abbrev pub limitUnless : Bool → ℕ → Limit
-limitUnless true n = no-limit
-limitUnless false n = at-most n
-
--- The high of a link as a word: 65,535 stands for no limit.
-abbrev pub limitOf : ℕ → Limit
-limitOf high = limitUnless (eqb high 65535) high

@@ -3,7 +3,9 @@ ghost use mathlib.Core.Path.{_≡_};
 ghost use Prim.Native.Nat.{ℕ, _≤_, _+_, min, max};
 ghost use Rattle.bags.specs.Interval.{inside, meet, add, from, lowRoom, highRoom, linkInterval, starInterval};
 ghost use Rattle.bags.specs.Interval.{plusInterval};
-ghost use Rattle.bags.specs.Span.{view, Small, limitOf};
+ghost use Rattle.bags.specs.Span.{view, Small};
+ghost use Rattle.bags.specs.Part.{limitOf};
+use words::NO_LIMIT;
 
 // From lo to hi; hi 4,294,967,295 is no limit; empty where hi is below lo.
 pub struct Span {
@@ -87,7 +89,7 @@ fn high_room(count: u16, high: u16) -> Span
     ensures view { λ r. ⌜ view r ≡ highRoom count (limitOf high) ⌝ }
     ensures small { λ r. ⌜ Small count r ⌝ }
 {
-    if high == 65535 {
+    if high == NO_LIMIT {
         return Span {
             lo: smaller(wide(count), 1),
             hi: TOP,

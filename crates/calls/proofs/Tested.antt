@@ -13,7 +13,8 @@ use mathlib.Core.List.{List}
 use native.Mathlib.Omega.{arith}
 use lib.ListN.{length, getD}
 use Rattle.bags.specs.Part.{Part}
-use Rattle.bags.specs.Interval.{count, fits}
+use Rattle.bags.specs.Bag.{count}
+use Rattle.bags.specs.Interval.{fits}
 use Rattle.words.specs.Limits.{maxGrid}
 use Rattle.words.specs.Reading.{accepted}
 use Rattle.words.proofs.Places.{card-in, shape-in, place-of}

@@ -18,8 +18,8 @@ use Rattle.words.specs.Said.{Said, refusal}
 use Rattle.words.specs.Limits.{maxKinds, maxDepth, tableSize}
 use Rattle.words.specs.Reading.{Reading, accepted, turnedDown}
 use Rattle.bags.specs.Part.{Part, named}
-use Rattle.bags.specs.Bag.{Fits}
-use Rattle.bags.specs.Interval.{count, fits}
+use Rattle.bags.specs.Bag.{Fits, count}
+use Rattle.bags.specs.Interval.{fits}
 use Rattle.bags.proofs.Decide.{list-decided}
 use Rattle.template.specs.Template.{Template, readTemplate, templateSays, Tabled}
 use Rattle.template.specs.Machine.{shapePlace}

@@ -16,8 +16,7 @@ use Rattle.words.specs.Said.{Said, values, refusal}
 use Rattle.words.specs.Limits.{maxCount}
 use Rattle.words.specs.Reading.{Reading, accepted, turnedDown, refuse, then}
 use Rattle.bags.specs.Part.{Part}
-use Rattle.bags.specs.Bag.{Fits}
-use Rattle.bags.specs.Interval.{count}
+use Rattle.bags.specs.Bag.{Fits, count}
 use Rattle.template.specs.Template.{Template, readTemplate}
 
 -- The template's count of shapes, the shape's part, and the counts.

@@ -8,8 +8,7 @@ use Prim.Native.Nat.{ℕ, zero, suc, _+_}
 use mathlib.Core.List.{List}
 use lib.ListN.{length, getD}
 use lib.Dec.{ltb}
-use Rattle.bags.specs.Part.{Part, Parts}
-use Rattle.bags.specs.Span.{limitOf}
+use Rattle.bags.specs.Part.{Part, Parts, limitOf}
 use Rattle.template.specs.Reading.{Code, codeOf}
 use Rattle.template.specs.Template.{Placed, placed, onto}
 

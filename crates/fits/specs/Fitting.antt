@@ -11,7 +11,8 @@ use lib.ListN.{length, getD}
 use Rattle.words.specs.Limits.{maxKinds, tableSize}
 use Rattle.words.specs.Reading.{accepted}
 use Rattle.bags.specs.Part.{Part}
-use Rattle.bags.specs.Interval.{count, fits}
+use Rattle.bags.specs.Bag.{count}
+use Rattle.bags.specs.Interval.{fits}
 use Rattle.bags.specs.Choice.{labelCount}
 use Rattle.template.specs.Template.{readTemplate}
 use Rattle.script.specs.Link.{neighbours}

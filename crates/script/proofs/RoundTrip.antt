@@ -19,7 +19,8 @@ use Rattle.words.proofs.Bools.{eq-or-ne}
 use Rattle.template.proofs.WriterPlaces.{Stands, stands-nil, stands-cons, stands-three, stands-append, stands-only}
 use Rattle.script.specs.Link.{fromIndex, kindIndex, toIndex, fromAt, kindAt, toAt, greater, above}
 use Rattle.script.specs.Script.{ScriptCounts, countsOf, readLinks, readScript}
-use Rattle.script.specs.Writer.{Link, linkAt, writeLinks, writeScript, wordLinks, Before, LinkFormed, WellFormed}
+use Rattle.script.specs.Writer.{Link, linkAt, writeLinks, writeScript, wordLinks, Before, LinkFormed}
+use Rattle.script.specs.Writer.{WellFormed}
 use Rattle.script.proofs.Order.{greater-by-from, greater-by-kind, greater-by-to}
 use Rattle.script.proofs.Reading.{link-passes, script-links-read, script-accepted}
 

@@ -19,8 +19,8 @@ use Rattle.words.specs.Reading.{accepted}
 use Rattle.words.proofs.Readings.{accepted-same, passed, then-accepted}
 use Rattle.template.specs.declared.Sizes.{Sizes}
 use Rattle.template.specs.Reading.{Found, found, readPart}
-use Rattle.template.specs.Template.{Placed, placed, wholePart, noNames, readShape, readShapes, Template, sizesOf}
-use Rattle.template.specs.Template.{readTemplate}
+use Rattle.template.specs.Template.{Placed, placed, wholePart, noNames, readShape, readShapes, Template}
+use Rattle.template.specs.Template.{sizesOf, readTemplate}
 use Rattle.template.specs.Machine.{shapePlace}
 use Rattle.template.proofs.Laws.{reads-within}
 use Rattle.template.proofs.Trees.{LimitsOk, PartRead, reads-part}

@@ -22,8 +22,8 @@ use Rattle.template.specs.declared.Read.{Read}
 use Rattle.template.specs.declared.Read.the-variants.{Next, Refused}
 use Rattle.template.specs.declared.Sizes.{Sizes}
 use Rattle.template.specs.Reading.{Code, nothing, single, group, unknown, link, wrapped, gathered, codeOf}
-use Rattle.template.specs.Reading.{Found, found, into, after, limitsOk}
-use Rattle.template.specs.Reading.{readLink, readRun, readGroup, readCode, readPart}
+use Rattle.template.specs.Reading.{Found, found, into, after, limitsOk, readLink, readRun, readGroup, readCode}
+use Rattle.template.specs.Reading.{readPart}
 use Rattle.template.specs.Machine.{Step, step, shown, outcome}
 
 -- Codes, by their ranges.

@@ -13,8 +13,8 @@ use Rattle.words.specs.Limits.{maxKinds, maxShapes, maxTemplate, maxDepth, minG
 use Rattle.words.specs.Reading.{Reading, refuse, mapped}
 use Rattle.words.proofs.Readings.{Numbered, refuse-numbered, then-numbered, mapped-numbered}
 use Rattle.template.specs.declared.Sizes.{Sizes}
-use Rattle.template.specs.Reading.{Code, nothing, single, group, unknown, link, codeOf, Found, found, into, after}
-use Rattle.template.specs.Reading.{limitsOk, readLink, readRun, readGroup, readCode, readPart}
+use Rattle.template.specs.Reading.{Code, nothing, single, group, unknown, link, codeOf, Found, found, into}
+use Rattle.template.specs.Reading.{after, limitsOk, readLink, readRun, readGroup, readCode, readPart}
 use Rattle.template.specs.Template.{onto, wholePart, noNames, readShape, readShapes, sizesOf, templateOf}
 use Rattle.template.specs.Template.{readTemplate}
 

@@ -16,8 +16,7 @@ use Rattle.words.specs.Limits.{minGroup, maxGroup, maxCount, maxDepth, noLimit}
 use Rattle.words.specs.Reading.{Reading, accepted, turnedDown, then, mapped}
 use Rattle.words.proofs.Bools.{cond-case, never-both, is-true, not-of-false}
 use Rattle.words.proofs.Readings.{refuse-case}
-use Rattle.bags.specs.Part.{Part, Parts}
-use Rattle.bags.specs.Span.{limitUnless, limitOf}
+use Rattle.bags.specs.Part.{Part, Parts, limitUnless, limitOf}
 use Rattle.template.specs.declared.Sizes.{Sizes}
 use Rattle.template.specs.Reading.{Code, wrapped, gathered, codeOf, Found, found, into, after, limitsOk}
 use Rattle.template.specs.Reading.{readLink, readRun, readGroup, readCode, readPart}

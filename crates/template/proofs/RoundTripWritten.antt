@@ -13,15 +13,14 @@ use borrow.Author.Tests.{le-ltb, le-leb, lt-leb, eq-eqb, ne-eqb}
 use lib.ListN.{length, getD, set, length-append}
 use Rattle.words.specs.Limits.{maxKinds, maxDepth, minGroup, maxGroup, noLimit}
 use Rattle.words.specs.Reading.{Reading, accepted}
-use Rattle.bags.specs.Part.{Limit, at-most, no-limit, Part, Parts, Names, RunNames, Single, RunSingle, depth, runDepth}
-use Rattle.bags.specs.Part.{ShapesBelow, RunShapesBelow, LabelsBelow, RunLabelsBelow}
-use Rattle.bags.specs.Span.{limitOf}
+use Rattle.bags.specs.Part.{Limit, at-most, no-limit, Part, Parts, Names, RunNames, Single, RunSingle, depth}
+use Rattle.bags.specs.Part.{runDepth, ShapesBelow, RunShapesBelow, LabelsBelow, RunLabelsBelow, limitOf}
 use Rattle.template.specs.declared.Sizes.{Sizes}
-use Rattle.template.specs.Reading.{single, group, link, codeOf, Found, found, limitsOk}
-use Rattle.template.specs.Reading.{readLink, readRun, readGroup, readCode, readPart}
+use Rattle.template.specs.Reading.{single, group, link, codeOf, Found, found, limitsOk, readLink, readRun}
+use Rattle.template.specs.Reading.{readGroup, readCode, readPart}
 use Rattle.template.specs.Template.{placed, noNames, readShape, readShapes, sizesOf}
-use Rattle.template.specs.Writer.{writeLimit, runLength, writePart, writeRun, writeShapes, LimitsIn, WithinLimits}
-use Rattle.template.specs.Writer.{RunWithinLimits, PartFormed}
+use Rattle.template.specs.Writer.{writeLimit, runLength, writePart, writeRun, writeShapes, LimitsIn}
+use Rattle.template.specs.Writer.{WithinLimits, RunWithinLimits, PartFormed}
 use Rattle.template.proofs.Laws.{code-link}
 use Rattle.template.proofs.Trees.{no-entry}
 use Rattle.template.proofs.WriterPlaces.{Stands, stands-here, stands-after, stands-left, stands-right}

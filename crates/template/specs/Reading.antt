@@ -14,8 +14,7 @@ use lib.ListN.{getD, set}
 use lib.Dec.{ltb, leb, eqb}
 use Rattle.words.specs.Limits.{maxCount, noLimit, minGroup, maxGroup}
 use Rattle.words.specs.Reading.{Reading, accepted, turnedDown, refuse, then, mapped}
-use Rattle.bags.specs.Part.{Part, Parts}
-use Rattle.bags.specs.Span.{limitOf}
+use Rattle.bags.specs.Part.{Part, Parts, limitOf}
 use Rattle.template.specs.declared.Sizes.{Sizes}
 
 -- What a code starts: nothing, one part that is wrapped, a group of parts, a link of a kind, or nothing known.

@@ -14,7 +14,8 @@ use native.Mathlib.Nat.{le-of-suc-le-suc, not-suc-le-zero}
 use lib.ListN.{length, getD}
 use Rattle.words.specs.Limits.{maxKinds}
 use Rattle.bags.specs.Part.{named}
-use Rattle.bags.specs.Interval.{count, fits}
+use Rattle.bags.specs.Bag.{count}
+use Rattle.bags.specs.Interval.{fits}
 use Rattle.bags.specs.Choice.{labelCount}
 use Rattle.template.specs.Template.{Tabled}
 use Rattle.script.specs.Link.{neighbours}

@@ -15,8 +15,8 @@ use native.Mathlib.Omega.{arith}
 use lib.ListN.{length, getD, List·getD-eq-default}
 use Rattle.words.specs.Limits.{maxKinds}
 use Rattle.bags.specs.Part.{Names, Declares}
-use Rattle.bags.specs.Bag.{Fits}
-use Rattle.bags.specs.Interval.{count, fits}
+use Rattle.bags.specs.Bag.{Fits, count}
+use Rattle.bags.specs.Interval.{fits}
 use Rattle.bags.specs.Choice.{to, labelCount}
 use Rattle.bags.proofs.Naming.{names-dec, names-declares, declares-below, declares-unique, named-exact}
 use Rattle.bags.proofs.Exact.{fits-exact}

@@ -2,7 +2,7 @@
 use Prim.Native.Nat.{_+_}
 use lib.ListN.{length}
 use Rattle.words.specs.Limits.{maxDepth}
-use Rattle.bags.specs.Interval.{count}
+use Rattle.bags.specs.Bag.{count}
 use Rattle.counts.specs.Trees.{treeAt}
 use Rattle.counts.proofs.Evaluations.{fits-one, fits-not}
 use borrow.Author.Needs.{needs}

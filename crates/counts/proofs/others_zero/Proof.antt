@@ -7,7 +7,8 @@ use mathlib.Core.Path.{_≡_, refl, sym}
 use mathlib.Core.Bool.{true}
 use lib.ListN.{length}
 use Rattle.bags.specs.Part.{Part}
-use Rattle.bags.specs.Interval.{count, othersZero}
+use Rattle.bags.specs.Bag.{count}
+use Rattle.bags.specs.Interval.{othersZero}
 use Rattle.counts.specs.Machine.{RowOf}
 use Rattle.counts.proofs.Counts.{others-step, others-not}
 use Rattle.counts.proofs.others_zero.Statement.{statement}
