@@ -102,7 +102,8 @@ module _ {s : Sheet} {script names : List ℕ} {e : Extent} {grid : List ℕ} (t
       sized = rw (cards-same t, shapes-same t) closure-full
 
       -- every pair of the closure fits: it is the smallest typing
-      pairs-by : FirstMissing closure grid (length closure) → SmallestFound s (Booked bookings) closure (values (found ∷ []))
+      pairs-by : FirstMissing closure grid (length closure)
+          → SmallestFound s (Booked bookings) closure (values (found ∷ []))
       pairs-by none =
           pairs-found (stands t) booked-in flooded closure
           (record { full = sized; bytes = λ p l. closes .marks p (omega (arith, sized)) })
@@ -129,5 +130,6 @@ module _ {s : Sheet} {script names : List ℕ} {e : Extent} {grid : List ℕ} (t
         unmet-found {card} {shape} h =
             let (same, first, inside, small) =
             rw (sym (shapes-same t)) at (subst (UnfitFound closure grid (e .shapes) after) h judged) in
-            subst (λ (g : List ℕ). SmallestFound s (Booked bookings) g (refusal 50 (card .0 ∷ shape .0 ∷ []))) (sym same)
+            subst (λ (g : List ℕ). SmallestFound s (Booked bookings) g (refusal 50 (card .0 ∷ shape .0 ∷ [])))
+            (sym same)
             (not-met-by (card .0) (shape .0) small inside first)

@@ -1,4 +1,5 @@
--- `printer::print_grids` prints what was found of both typings: a law of proofs/Sheets for each answer. Assumes nothing.
+-- `printer::print_grids` prints what was found of both typings: a law of proofs/Sheets for each answer.
+-- Assumes nothing.
 use native.Mathlib.Omega.{arith}
 use denote.Ref.{now}
 use borrow.Author.Needs.{needs}
