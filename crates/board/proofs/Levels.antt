@@ -163,4 +163,5 @@ module _ {B : Board} (inside : Inside B) where
   }
     where
       struck-of : (p : ℕ) → p < B .size → X p ≡ false → Struck B round p
-      struck-of p l f = let q = s .lists .listed p l f in subst (λ (x : ℕ). Struck B round x) (q .2) (s .old (q .0) (q .1))
+      struck-of p l f =
+          let q = s .lists .listed p l f in subst (λ (x : ℕ). Struck B round x) (q .2) (s .old (q .0) (q .1))

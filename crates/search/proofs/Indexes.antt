@@ -28,7 +28,7 @@ module _ {script names : List ℕ} {shapes : ℕ} (ready : Ready script names sh
             starts-exact script m rise n i (omega (arith, hi, below-le script (n + 1) m)) .1 (lo, hi);
         each = λ i l.
             let n = near script i in
-            let card = ready .from-in i l in
+            let card = ready .near-in i l in
             let stands = starts-exact script m rise n i l .0 refl in (
               omega (arith, exact n (omega (arith, card)), stands .0),
               omega (arith, exact (n + 1) (omega (arith, card)), stands .1),

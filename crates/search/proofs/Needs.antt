@@ -41,7 +41,7 @@ far-word script i = refl
 module _ {script names : List ℕ} {shapes : ℕ} (ready : Ready script names shapes) where
   pub needing-in : (p q : ℕ) → Needs script names shapes p q → p < getD script 0 0 * shapes
   needing-in p q d = place-from shapes (ready .one-shape) (getD script 0 0) p
-      (subst (λ (x : ℕ). x < getD script 0 0) (d .starts) (ready .from-in (d .link) (d .below)))
+      (subst (λ (x : ℕ). x < getD script 0 0) (d .starts) (ready .near-in (d .link) (d .below)))
 
   -- ---- backwards
   target-needs : (p q : ℕ) → TargetGood script names shapes (q / shapes) (q % shapes) p → Needs script names shapes p q
@@ -125,11 +125,11 @@ module _ {script names : List ℕ} {shapes : ℕ} (ready : Ready script names sh
   card-in-grid {t = t} lt lh p g =
       let li : g .link < getD script 1 0 = omega (arith, g .high) in
       subst (λ (x : ℕ). x < getD script 0 0 * shapes) (sym (g .at))
-      (place-in (getD script 0 0) shapes (far script (g .link)) (g .shape) (ready .to-in (g .link) li)
+      (place-in (getD script 0 0) shapes (far script (g .link)) (g .shape) (ready .far-in (g .link) li)
       (entry-shape ready t (g .link) (g .shape) lt li (g .names-it)))
 
 -- ---- the links to a card, by their chain
--- Link i makes good the pairs of its card whose shape names u for its kind.
+-- Link i makes good the pairs of its card whose shape names u for its label.
 abbrev pub LinkGood : List ℕ → List ℕ → ℕ → ℕ → ℕ → ℕ → Type 0
 LinkGood script names shapes u i p = NamedGood names shapes (label script i) (near script i * shapes) u p
 
@@ -141,7 +141,7 @@ pub links-in-grid : {script names : List ℕ} {shapes : ℕ} → Ready script na
     → {m u lo : ℕ} (p : ℕ) → ToCard script names shapes m u lo p → p < getD script 0 0 * shapes
 links-in-grid {script} {names} {shapes} ready p g = subst (λ (x : ℕ). x < getD script 0 0 * shapes) (sym (g .good .at))
     (place-in (getD script 0 0) shapes (near script (g .number)) (g .good .by)
-    (ready .from-in (g .number) (g .below)) (g .good .below))
+    (ready .near-in (g .number) (g .below)) (g .good .below))
 
 pub links-swept : (script names : List ℕ) (shapes m u : ℕ) {w v : Work}
     → Swept (ToCard script names shapes m u 0) w v → Swept (TargetGood script names shapes m u) w v

@@ -113,7 +113,8 @@ fn after_round(tally: Tally, struck: usize) -> Tally
 }
 
 // Strikes rounds from the pairs in the grid, those whose counts fit, until one strikes nothing. The tally has the
-// rounds that are closed: where the head has come to their last strike, another round is over, as is the one at the end.
+// rounds that are closed: where the head has come to their last strike, another round is over, as is the one at the
+// end.
 fn strike_rounds(
     script: &[u16],
     first: &[u16],

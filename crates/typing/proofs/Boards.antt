@@ -114,11 +114,11 @@ module _ {script names : List ℕ} {shapes : ℕ} (ready : Ready script names sh
 
   pub entry-shape : (t i u : ℕ) → t < shapes → i < getD script 1 0 → entryAt names t (label script i) ≡ suc u
       → u < shapes
-  entry-shape t i u lt li e = omega (arith, ready .entry-in t (label script i) lt (ready .kind-in i li), e)
+  entry-shape t i u lt li e = omega (arith, ready .entry-in t (label script i) lt (ready .label-in i li), e)
 
   pub needs-in : (p q : ℕ) → Needs script names shapes p q → q < getD script 0 0 * shapes
   needs-in p q d = subst (λ (x : ℕ). x < getD script 0 0 * shapes) (sym (d .leads))
-      (place-in (getD script 0 0) shapes (far script (d .link)) (d .shape) (ready .to-in (d .link) (d .below))
+      (place-in (getD script 0 0) shapes (far script (d .link)) (d .shape) (ready .far-in (d .link) (d .below))
       (entry-shape (p % shapes) (d .link) (d .shape) (shape-in shapes (ready .one-shape) p) (d .below) (d .names-it)))
 
   module _ (fits : List ℕ) where

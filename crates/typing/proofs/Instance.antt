@@ -124,9 +124,9 @@ module _ {words : List ℕ} {kinds : ℕ} {s : Sheet} (read : SheetAccepted word
       few-cards = omega (arith, read .links .cards, read .links .cards-bound);
       few-links = omega (arith, read .links .links, read .links .links-bound);
       words = omega (arith, read .links .links, read .links .size);
-      from-in = λ i l. omega (arith, read .links .from-below i (links-below l), read .links .cards);
-      kind-in = λ i l. kind-in i (links-below l);
-      to-in = λ i l. omega (arith, read .links .to-below i (links-below l), read .links .cards);
+      near-in = λ i l. omega (arith, read .links .from-below i (links-below l), read .links .cards);
+      label-in = λ i l. kind-in i (links-below l);
+      far-in = λ i l. omega (arith, read .links .to-below i (links-below l), read .links .cards);
       table = room;
       entry-in = entry-in;
     }

@@ -1,7 +1,7 @@
 -- Which pairs a pair needs, by the script's words and the table of names, and their board; no part of a promise.
 -- entryAt      a shape's entry for a label in the table of names: the shape named plus one, or 0
 -- Needs        the pair at place p needs the pair at place q: a link of p's card leads to q's card, and p's shape names
---              q's shape for its kind
+--              q's shape for the link's label
 -- metTest      the test of Proposition 8.1: the counts fit, and each link leads to a pair that is there
 -- boardOf      the board of a script, a table of names, and a grid that is 1 where the counts fit
 -- hasNamed, linkTest   a set has the pair that an entry asks for; that a link leads to
@@ -23,7 +23,7 @@ use Rattle.script.specs.Link.{near, label, far}
 abbrev pub entryAt : List ℕ → ℕ → ℕ → ℕ
 entryAt names t k = getD names (t * maxKinds + k) 0
 
--- A link of p's card leads to q's card, and p's shape names q's shape for the link's kind.
+-- A link of p's card leads to q's card, and p's shape names q's shape for the link's label.
 pub record Needs (script names : List ℕ) (shapes p q : ℕ) : Type 0 where
   pub link : ℕ
   pub below : link < getD script 1 0
@@ -64,8 +64,8 @@ pub record Ready (script names : List ℕ) (shapes : ℕ) : Type 0 where
   pub few-cards : getD script 0 0 ≤ maxCards
   pub few-links : getD script 1 0 ≤ maxLinks
   pub words : 2 + 3 * getD script 1 0 ≤ length script
-  pub from-in : (i : ℕ) → i < getD script 1 0 → near script i < getD script 0 0
-  pub kind-in : (i : ℕ) → i < getD script 1 0 → label script i < maxKinds
-  pub to-in : (i : ℕ) → i < getD script 1 0 → far script i < getD script 0 0
+  pub near-in : (i : ℕ) → i < getD script 1 0 → near script i < getD script 0 0
+  pub label-in : (i : ℕ) → i < getD script 1 0 → label script i < maxKinds
+  pub far-in : (i : ℕ) → i < getD script 1 0 → far script i < getD script 0 0
   pub table : shapes * maxKinds ≤ length names
   pub entry-in : (t k : ℕ) → t < shapes → k < maxKinds → entryAt names t k ≤ shapes

@@ -69,7 +69,7 @@ kind-is a =
 kind-in : (a : tie.After-wide Inv-loop μ-loop) → a .wide .result < maxKinds
 kind-in a =
     let i = a .before .before in
-    omega (arith, kind-is a, Start (i .before) .pre .ready .kind-in (i .before .loop .i) (link-in i))
+    omega (arith, kind-is a, Start (i .before) .pre .ready .label-in (i .before .loop .i) (link-in i))
 
 -- the card read
 target-is : (a : tie.After-wide2 Inv-loop μ-loop) → let l = Loop (Kind a) in
@@ -109,7 +109,7 @@ pair-in a h =
       arith,
       s .pre .full,
       place-in (getD (now (s .args .script)) 0 0) (s .args .shapes) to u
-          (ready .to-in (l .loop .i) (link-in i)) is-shape,
+          (ready .far-in (l .loop .i) (link-in i)) is-shape,
     )
 
 -- as the code computes its place

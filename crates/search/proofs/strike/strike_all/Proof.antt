@@ -56,7 +56,7 @@ chain-requires c κs =
     record {
       few-links = omega (arith, ready .few-links, s .pre .all-links);
       words = omega (arith, ready .words, s .pre .all-links);
-      cards = λ i l. omega (arith, ready .to-in i (omega (arith, l, s .pre .all-links)), ready .few-cards);
+      cards = λ i l. omega (arith, ready .far-in i (omega (arith, l, s .pre .all-links)), ready .few-cards);
       blank = record { zeros = zeros maxCards; room = omega (arith, ready .few-links, s .pre .all-links) };
     }
 

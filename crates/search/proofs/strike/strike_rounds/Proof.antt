@@ -173,7 +173,8 @@ loop-again c =
     let w = work (l .loop .grid) (l .loop .queue) (l .loop .tail) in
     let last = struck .last .1 .1 .1 .1 .1 .1 .1 .1 .1 in
     let v = work (last .0) (last .1 .0) (struck .result) in
-    let swept = subst (λ (x : ℕ). Swept (Good (x / shapes) (x % shapes)) w v) (read .wide .ensures .0) (struck .ensures) in (
+    let swept = subst (λ (x : ℕ). Swept (Good (x / shapes) (x % shapes)) w v) (read .wide .ensures .0)
+    (struck .ensures) in (
       l .loop .inv .0,
       search-turn (here .0) (room-of l) (here .1)
           (λ p g. let d = target-exact ready p q .0 g in (needing-in ready p q d, d))

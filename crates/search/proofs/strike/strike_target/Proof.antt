@@ -79,7 +79,7 @@ card-pairs a =
     let i = a .before .before in
     let s = Start (i .before) in
     let cards = getD (now (s .args .script)) 0 0 in
-    let is-card = s .pre .indexed .ready .from-in (i .before .loop .at - 1) (link-in i) in
+    let is-card = s .pre .indexed .ready .near-in (i .before .loop .at - 1) (link-in i) in
     omega (
       arith,
       s .pre .full,
@@ -111,7 +111,8 @@ loop-holds : tie.Need-loop-holds Inv-loop μ-loop
 loop-holds c =
     let s = Entered (c .before .before) in
     walk-start (c .wide .ensures .0
-    ∙ s .pre .indexed .links .chained .heads (s .args .m) (omega (arith, s .pre .card-in, s .pre .indexed .links .cards)))
+    ∙ s .pre .indexed .links .chained .heads (s .args .m)
+    (omega (arith, s .pre .card-in, s .pre .indexed .links .cards)))
 
 sub-i : tie.Need-sub-i Inv-loop μ-loop
 sub-i c = search needs
@@ -162,7 +163,7 @@ strike-named-requires c κs =
     record {
       table = ready-table ready;
       places = s .pre .indexed .places;
-      label-in = omega (arith, kind-is kind, ready .kind-in (l .loop .at - 1) (link-in turn));
+      label-in = omega (arith, kind-is kind, ready .label-in (l .loop .at - 1) (link-in turn));
       shape-in = omega (arith, s .pre .shape-in, ready .few-shapes);
       few-places = omega (arith, same, s .pre .full, pairs-bound ready);
       pairs = omega (arith, card-pairs (From kind), same);
