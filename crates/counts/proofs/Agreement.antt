@@ -23,7 +23,7 @@ use Rattle.template.specs.Machine.{shapePlace}
 use Rattle.template.proofs.Accepted.{template-accepted}
 use Rattle.counts.specs.Trees.{linkAt, before, treesAt, treeBy, treeAt}
 
-abbrev pub Agrees : {A : Type 0} → Reading (Found A) → Placed A → Type 0
+abbrev Agrees : {A : Type 0} → Reading (Found A) → Placed A → Type 0
 Agrees (accepted (found a next row)) t = placed a next ≡ t
 Agrees (turnedDown number place) t = Unit {0}
 
@@ -79,7 +79,7 @@ module _ (words : List ℕ) (end : ℕ) (sizes : Sizes) where
       (λ e₃. run-agrees f g h (getD words (at + 1) 0) (at + 2) row))))
   code-agrees (Code.link k) f g at row h = link-agrees at row k
 
-  pub part-agrees :
+  part-agrees :
       (left at : ℕ) (row : List ℕ) → end ≤ length words →
       Agrees (readPart left words end sizes at row) (treeAt left words at)
   unfolding readPart treeAt
@@ -96,7 +96,7 @@ module _ (words : List ℕ) (end : ℕ) (sizes : Sizes) where
       (λ next row. part-agrees left next row h)))
 
   -- A part that is read is the one at its place.
-  pub tree-read :
+  tree-read :
       (left at : ℕ) (row : List ℕ) (p : Part) (next : ℕ) (names : List ℕ) → end ≤ length words →
       readPart left words end sizes at row ≡ accepted (found p next names) → placed p next ≡ treeAt left words at
   tree-read left at row p next names h e = rw e at (part-agrees left at row h)

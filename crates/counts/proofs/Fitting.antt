@@ -35,7 +35,7 @@ use Rattle.counts.proofs.Agreement.{shape-tree}
 
 module _ (words : List ℕ) (t : Template) (e : readTemplate words ≡ accepted t) (s : ℕ) (below : s < t .shapes) where
   -- Whether counts fit a shape of an accepted template is what `fits` tests of the part at its place.
-  pub shape-fits :
+  shape-fits :
       (counts : List ℕ) (at : ℕ) → at ≡ shapePlace words s 2 →
       Fits (t .shapes) (getD (t .parts) s Part.nothing) (count counts)
       ↔ (fits (length counts) (treeAt maxDepth words (at + 1) .value) (count counts) ≡ true)

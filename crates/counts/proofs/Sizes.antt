@@ -18,7 +18,7 @@ abbrev pub Ends : {A : Type 0} → List ℕ → ℕ → Placed A → Type 0
 Ends words at t = (at ≤ t .next) × (t .next ≤ max at (length words + 3))
 
 module _ (words : List ℕ) where
-  pub run-ends :
+  run-ends :
       (inner : ℕ → Placed Part) → ((at : ℕ) → Ends words at (inner at)) →
       (n at : ℕ) → Ends words at (treesAt inner n at)
   unfolding treesAt

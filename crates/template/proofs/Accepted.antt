@@ -61,7 +61,7 @@ module _ (sizes : Sizes) (words : List ℕ) (b : sizes .kinds ≤ maxKinds) wher
       })
 
   -- A shape that was read.
-  pub reads-shape :
+  reads-shape :
       (at : ℕ) (p : Placed Part) → readShape sizes words at ≡ accepted p →
       ShapeAccepted sizes words at (p .value) (p .next)
   unfolding readShape
@@ -81,7 +81,7 @@ place-next words zero at = refl
 place-next words (suc n) at = place-next words n (at + 1 + getD words at 0)
 
 -- So many shapes that were read, from the one whose count of words stands at `at`.
-pub record ShapesAccepted (sizes : Sizes) (words : List ℕ) (count at : ℕ) (parts : List Part) : Type 0 where
+record ShapesAccepted (sizes : Sizes) (words : List ℕ) (count at : ℕ) (parts : List Part) : Type 0 where
   pub each :
       (t : ℕ) → t < count →
       readShape sizes words (shapePlace words t at)
@@ -100,7 +100,7 @@ module _ (sizes : Sizes) (words : List ℕ) (b : sizes .kinds ≤ maxKinds) wher
   each-shape count at head tail (suc t) h e w = w .each t (omega arith)
 
   -- Each of the shapes was read at its place, and the last ends where the words end.
-  pub reads-shapes :
+  reads-shapes :
       (count at : ℕ) (all : Placed (List Part)) → readShapes sizes words count at ≡ accepted all →
       ShapesAccepted sizes words count at (all .value)
   unfolding shapePlace

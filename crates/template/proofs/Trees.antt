@@ -53,7 +53,7 @@ pub first-none : (n : ℕ) → firstEntry n 0 ≡ n
 first-none zero = refl
 first-none (suc n) = refl
 
-pub first-assoc : (a b c : ℕ) → firstEntry (firstEntry a b) c ≡ firstEntry a (firstEntry b c)
+first-assoc : (a b c : ℕ) → firstEntry (firstEntry a b) c ≡ firstEntry a (firstEntry b c)
 first-assoc zero b c = refl
 first-assoc (suc a) b c = refl
 

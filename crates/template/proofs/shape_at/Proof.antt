@@ -48,30 +48,26 @@ same-length c = search needs
 
 returns-3 : tie.Need-returns-3
 returns-3 c =
-    let a = c .before .before .before .before .before .before in
-    shape-left _ _ _ _ (omega arith) (a .before .before .before .wide .ensures .0) (omega arith) _ _ _
-    (a .before .before .before .before .before .before .before .before .pre .unnamed) (a .part .ensures)
-    _ _ (c .before .before .whole .given .1) (omega arith)
+    let read = c .before .before .before .before .before .before .part .ensures in
+    shape-left _ _ _ _ (omega arith) (omega arith) (omega arith) _ _ _ (cc) read _ _
+    (c .before .before .whole .given .1) (omega arith)
 
 same-length-2 : tie.Need-same-length-2
 same-length-2 c = search needs
 
 returns-4 : tie.Need-returns-4
 returns-4 c =
-    let a = c .before .before .before .before .before .before in
-    shape-done _ _ _ _ (omega arith) (a .before .before .before .wide .ensures .0) (omega arith) _ _ _
-    (a .before .before .before .before .before .before .before .before .pre .unnamed) (a .part .ensures)
-    _ (omega arith) (c .before .before .whole .given .1) (omega arith)
+    let read = c .before .before .before .before .before .before .part .ensures in
+    shape-done _ _ _ _ (omega arith) (omega arith) (omega arith) _ _ _ (cc) read _ (omega arith)
+    (c .before .before .whole .given .1) (omega arith)
 
 same-length-3 : tie.Need-same-length-3
 same-length-3 c = search needs
 
 returns-5 : tie.Need-returns-5
 returns-5 c =
-    let a = c .before .before .before .before .before in
-    shape-refused _ _ _ _ (omega arith) (a .before .before .before .wide .ensures .0) (omega arith) _ _ _
-    (a .before .before .before .before .before .before .before .before .pre .unnamed) (a .part .ensures)
-    _ _ _ (c .before .whole2 .given .1)
+    let read = c .before .before .before .before .before .part .ensures in
+    shape-refused _ _ _ _ (omega arith) (omega arith) (omega arith) _ _ _ (cc) read _ _ _ (c .before .whole2 .given .1)
 
 pub shape-at-spec : {M : Type 1} → statement M
 shape-at-spec =
