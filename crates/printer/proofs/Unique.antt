@@ -36,7 +36,7 @@ largest-same {a} {b} {c} {x} {y} {z} shapes cards e f =
     let k : c ≡ z = cc in
     rw (i, j, k, f) refl
 
-pub sheet-printed-unique : {s : Sheet} {bookings a b : List ℕ} → Represented (accepted s) → BookedIn s (Booked bookings)
+sheet-printed-unique : {s : Sheet} {bookings a b : List ℕ} → Represented (accepted s) → BookedIn s (Booked bookings)
     → SheetPrinted s bookings a → SheetPrinted s bookings b → a ≡ b
 sheet-printed-unique {s} sheets inside x y =
     let (l, m, small, large) = both-found-unique (sheets s refl .1) inside (x .found) (y .found) in

@@ -1,5 +1,4 @@
 // The sheet printer, from the bytes of its input to the bytes of its output. A program above it only reads and writes.
-ghost use mathlib.Core.Path.{_≡_};
 ghost use Prim.Native.Nat.{_≤_};
 ghost use lib.ListN.{length};
 ghost use Rattle.input.specs.Machine.{wordsIn};

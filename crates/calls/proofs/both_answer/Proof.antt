@@ -1,5 +1,5 @@
 -- `calls::both_answer` says what was found. Assumes nothing.
-use mathlib.Core.Path.{_≡_, sym, ap}
+use mathlib.Core.Path.{sym, ap}
 use borrow.Author.Needs.{needs}
 use Rattle.typing.specs.Answer.{BothSaid}
 use Rattle.calls.specs.Steps.{struckSaid, settledSaid}

@@ -1,7 +1,6 @@
 -- `printer::print_grids` prints what was found of both typings: a law of proofs/Sheets for each answer.
 -- Assumes nothing.
 use native.Mathlib.Omega.{arith}
-use denote.Ref.{now}
 use borrow.Author.Needs.{needs}
 use Rattle.text.proofs.Lines.{not-met-bound}
 use Rattle.calls.proofs.Known.{asked, read, sheet}
