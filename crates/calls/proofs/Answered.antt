@@ -36,7 +36,8 @@ module _ (template script : List ℕ) where
     largest-done before after said e same found = rw (same, h, eq-eqb (length before) (size s) e) found
 
   module _ (bookings : List ℕ) where
-    module _ (number place : ℕ) (h : then (readSheet template script) (withBookings bookings) ≡ turnedDown number place) where
+    module _ (number place : ℕ)
+        (h : then (readSheet template script) (withBookings bookings) ≡ turnedDown number place) where
       pub smallest-refused : (grid : List ℕ)
           → SmallestSays template script bookings grid grid (refusal number (place ∷ []))
       smallest-refused grid = rw h (refl, refl)
@@ -50,7 +51,8 @@ module _ (template script : List ℕ) where
       smallest-size grid ne = rw (h, ne-eqb (length grid) (size s) ne) (refl, refl)
 
       pub smallest-done : (before after : List ℕ) (said : Said) {told : Said} → length before ≡ size s
-          → said ≡ told → SmallestFound s (Booked bookings) after told → SmallestSays template script bookings before after said
+          → said ≡ told → SmallestFound s (Booked bookings) after told
+          → SmallestSays template script bookings before after said
       smallest-done before after said e same found = rw (same, h, eq-eqb (length before) (size s) e) found
 
       pub both-small : (grids : Grids) → (length (grids .small) ≡ size s → ⊥)

@@ -87,7 +87,8 @@ module _ {s : Sheet} {script names : List ℕ} {e : Extent} {grid : List ℕ} (t
       let b = t .fits .each (p / e .shapes) (p % e .shapes) (card-in (e .shapes) one (e .cards) p inside)
       (shape-in (e .shapes) one p) in
       subst (λ (x : ℕ). (getD grid x 0 ≡ 0) ⊎ (getD grid x 0 ≡ 1)) (place-of (e .shapes) one p)
-      (byte-one (fits (length (b .counts)) (getD (s .parts) (p % e .shapes) Part.nothing) (count (b .counts))) (b .test))
+      (byte-one (fits (length (b .counts)) (getD (s .parts) (p % e .shapes) Part.nothing) (count (b .counts)))
+      (b .test))
 
   fits-right : FitsGrid (sheet (t .known)) grid
   fits-right = fits-grid (read (t .known)) grid (λ n u ln lu.

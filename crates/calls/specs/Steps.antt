@@ -4,13 +4,15 @@
 -- Listed        a sheet with its table of names and a booking list, all read; BookedAs: what reading them finds
 -- Sized, Lent   what is read, with a grid or two grids of the sheet's size
 -- Settling      what settling the bookings asks for
+-- Rows          a grid has a row of so many shapes for each card
 -- struckSaid, settledSaid, bothOf   what the two searches say, and both
 -- Assumes nothing.
-use Prim.Native.Nat.{ℕ, _*_}
+use Prim.Native.Nat.{ℕ, _*_, _≤_}
 use mathlib.Core.Path.{_≡_}
 use mathlib.Core.List.{List, [], _∷_}
 use lib.ListN.{length}
 use Rattle.words.specs.Said.{Said, values, refusal}
+use Rattle.words.specs.Limits.{maxCards, maxShapes}
 use Rattle.words.specs.Reading.{accepted, turnedDown, then}
 use Rattle.script.specs.Steps.{StartsOf}
 use Rattle.sheet.specs.Sheet.{Sheet, readSheet}
@@ -70,6 +72,12 @@ pub record Settling (script names : List ℕ) (e : Extent) (fitting bookings : L
   pub list : readBookings (e .cards) (e .shapes) bookings ≡ accepted count
   pub links : StartsOf script starts (e .cards) (e .links)
   pub size : length grid ≡ e .cards * e .shapes
+
+-- A grid has a row of so many shapes for each card, and a sheet can have that many.
+pub record Rows (grid : List ℕ) (cards shapes : ℕ) : Type 0 where
+  pub full : length grid ≡ cards * shapes
+  pub few-cards : cards ≤ maxCards
+  pub few-shapes : shapes ≤ maxShapes
 
 -- Rounds, pairs struck, cards with no shape.
 abbrev pub struckSaid : Struck → Said

@@ -2,9 +2,9 @@
 // A call reads what it is lent, and takes a few steps on the sheet that is read: test the pairs, strike rounds, settle
 // the bookings.
 ghost use mathlib.Core.Path.{_≡_};
-ghost use Prim.Native.Nat.{_*_, _≤_};
-ghost use lib.ListN.{length, replicate};
-ghost use Rattle.words.specs.Limits.{maxCards, maxShapes, tableSize};
+ghost use Prim.Native.Nat.{_*_};
+ghost use lib.ListN.{replicate};
+ghost use Rattle.words.specs.Limits.{tableSize};
 ghost use Rattle.words.specs.Reading.{accepted};
 ghost use Rattle.board.specs.Grid.{on};
 ghost use Rattle.sheet.specs.Sheet.{Sheet, readSheet};
@@ -12,8 +12,8 @@ ghost use Rattle.bookings.specs.Bookings.{Booked};
 ghost use Rattle.typing.specs.Answer.{largestSaid, smallestSaid, bothSaid};
 ghost use Rattle.typing.specs.Largest.{bareCards};
 ghost use Rattle.typing.specs.Calls.{LargestFound, LargestSays, SmallestFound, SmallestSays, BothFound, BothSays};
-ghost use Rattle.calls.specs.Steps.{SheetTested, PairsTested, BookedAs, Sized, Lent, Settling, struckSaid};
-ghost use Rattle.calls.specs.Steps.{settledSaid, bothOf};
+ghost use Rattle.calls.specs.Steps.{SheetTested, PairsTested, BookedAs, Sized, Lent, Settling, Rows};
+ghost use Rattle.calls.specs.Steps.{struckSaid, settledSaid, bothOf};
 use board::count_on;
 use bookings::BookingRead;
 use bookings::read_bookings;
@@ -114,7 +114,7 @@ fn test_pairs(
 
 // Counts the cards with no shape.
 fn count_bare(grid: &[u8], cards: usize, shapes: usize) -> usize
-    requires { ⌜ (length (now grid) ≡ cards * shapes) × (cards ≤ maxCards) × (shapes ≤ maxShapes) ⌝ }
+    requires { ⌜ Rows (now grid) cards shapes ⌝ }
     ensures { λ r. ⌜ ((s : Sheet) → s .cards ≡ cards → s .shapes ≡ shapes
         → r ≡ bareCards s (on (now (grid .entry)))) ⌝ }
 {

@@ -1,9 +1,9 @@
 -- What finding and decoding the sections of the input does; no part of a promise.
 -- Decodes, Decoded       what decoding words into a buffer asks, and what it does
 -- wordsIn, sectionsRead  the words of a section that an answer names, and the reading that an answer stands for
--- Within, Inside         a section is in the input, and each section of an answer is
+-- Within, Laid, Inside   a section is in the input; the input is not too long and each section of an answer is in it
 -- Assumes nothing.
-use Prim.Native.Nat.{ℕ, _+_, _*_, _≤_}
+use Prim.Native.Nat.{ℕ, _+_, _*_, _/_, _≤_}
 use mathlib.Core.Path.{_≡_}
 use mathlib.Core.List.{List}
 use lib.ListN.{length, take}
@@ -36,12 +36,19 @@ sectionsRead bytes (Found template script bookings) =
     accepted (inputOf (wordsIn bytes template) (wordsIn bytes script) (wordsIn bytes bookings))
 sectionsRead bytes Faulty = turnedDown 60 0
 
--- A section is in the bytes, and with its count it is no longer than an input can be.
+-- A section is in the bytes and starts where a word of them does.
 pub record Within (bytes : List ℕ) (s : Section) : Type 0 where
   pub ends : s .at + 2 * s .count ≤ length bytes
-  pub small : 2 + 2 * s .count ≤ maxInput
+  pub even : s .at ≡ 2 * (s .at / 2)
+
+-- The bytes are no more than an input can be, and each section is in them.
+pub record Laid (bytes : List ℕ) (first second third : Section) : Type 0 where
+  pub few : length bytes ≤ maxInput
+  pub template : Within bytes first
+  pub script : Within bytes second
+  pub bookings : Within bytes third
 
 -- Each section of an answer is.
 abbrev pub Inside : List ℕ → Sections → Type 0
-Inside bytes (Found template script bookings) = Within bytes template × Within bytes script × Within bytes bookings
+Inside bytes (Found first second third) = Laid bytes first second third
 Inside bytes Faulty = Unit

@@ -8,8 +8,9 @@ use mathlib.Core.List.{List, [], _∷_, _++_}
 use Prim.Native.Nat.{ℕ}
 use lib.ListN.{length, drop, take-append-drop}
 use Rattle.words.specs.Said.{values}
-use Rattle.input.specs.Input.{InputReading, sections, faulty, readInput}
-use Rattle.sheet.specs.Sheet.{Sheet, SheetReading, ask, turnedDown, readSheet}
+use Rattle.words.specs.Reading.{Reading, accepted, turnedDown, then}
+use Rattle.input.specs.Input.{Input, readInput}
+use Rattle.sheet.specs.Sheet.{Sheet, readSheet}
 use Rattle.bookings.specs.Bookings.{Booked}
 use Rattle.typing.specs.Demand3.{Outcome, pairs, notMet}
 use Rattle.typing.specs.Calls.{withBookings, outcomeSaid}
@@ -35,7 +36,7 @@ largest-same {a} {b} {c} {x} {y} {z} shapes cards e f =
     let k : c ≡ z = cc in
     rw (i, j, k, f) refl
 
-pub sheet-printed-unique : {s : Sheet} {bookings a b : List ℕ} → Represented (ask s) → BookedIn s (Booked bookings)
+sheet-printed-unique : {s : Sheet} {bookings a b : List ℕ} → Represented (accepted s) → BookedIn s (Booked bookings)
     → SheetPrinted s bookings a → SheetPrinted s bookings b → a ≡ b
 sheet-printed-unique {s} sheets inside x y =
     let (l, m, small, large) = both-found-unique (sheets s refl .1) inside (x .found) (y .found) in
@@ -48,17 +49,18 @@ sheet-printed-unique {s} sheets inside x y =
     ∙ sym (y .prints)
 
 module _ (template script bookings : List ℕ) {a b : List ℕ} where
-  sheet-unique : (r : SheetReading) → withBookings bookings (readSheet template script) ≡ r
+  sheet-unique : (r : Reading Sheet) → then (readSheet template script) (withBookings bookings) ≡ r
       → PrintsSheet r bookings a → PrintsSheet r bookings b → a ≡ b
   sheet-unique (turnedDown number place) e x y = x ∙ sym y
-  sheet-unique (ask s) e x y =
+  sheet-unique (accepted s) e x y =
       let (asked, inside) = bookings-asked bookings (readSheet template script) s e in
       sheet-printed-unique (λ q same. represented template script q (asked ∙ same)) inside x y
 
-input-unique : {a b : List ℕ} (r : InputReading) → PrintsInput r a → PrintsInput r b → a ≡ b
-input-unique faulty x y = x ∙ sym y
-input-unique (sections template script bookings) x y =
-    sheet-unique template script bookings (withBookings bookings (readSheet template script)) refl x y
+input-unique : {a b : List ℕ} (r : Reading Input) → PrintsInput r a → PrintsInput r b → a ≡ b
+input-unique (turnedDown number place) x y = x ∙ sym y
+input-unique (accepted i) x y =
+    sheet-unique (i .template) (i .script) (i .bookings)
+    (then (readSheet (i .template) (i .script)) (withBookings (i .bookings))) refl x y
 
 pub prints-unique : (input : List ℕ) {a b : List ℕ} → Prints input a → Prints input b → a ≡ b
 prints-unique input x y = input-unique (readInput input) x y

@@ -9,8 +9,10 @@ use native.Mathlib.Omega.{arith}
 use lib.ListN.{length, drop, length-append}
 use lib.Seq.{drop-at}
 use Rattle.text.specs.Text.{cardLines, largestLine, refusedLine}
+use Rattle.words.specs.Limits.{maxCards, maxShapes}
+use Rattle.words.specs.Reading.{Reading}
 use Rattle.words.specs.Wrote.{Wrote}
-use Rattle.input.specs.Input.{InputReading, readInput}
+use Rattle.input.specs.Input.{Input, readInput}
 use Rattle.text.proofs.Lines.{cards-bound, largest-bound, refused-bound}
 use Rattle.words.proofs.Writing.{wrote-front, wrote-length}
 use Rattle.printer.specs.Printed.{largestText, PrintsInput, Written}
@@ -21,7 +23,7 @@ refused-end number place = omega (arith, refused-bound number place)
 
 -- Where the lines of the largest typing end.
 pub large-end : (rounds struck bare : ℕ) (grid : List ℕ) (shapes cards : ℕ) {out after : List ℕ} {at : ℕ}
-    → Wrote out 0 (largestText rounds struck bare grid shapes cards) after at → shapes ≤ 32 → cards ≤ 1024
+    → Wrote out 0 (largestText rounds struck bare grid shapes cards) after at → shapes ≤ maxShapes → cards ≤ maxCards
     → at ≤ 109639
 large-end rounds struck bare grid shapes cards w hs hc =
     omega (
@@ -33,7 +35,7 @@ large-end rounds struck bare grid shapes cards w hs hc =
     )
 
 -- What is written at the front of the buffer is the text for the input, and the rest is as it was.
-pub written-by : {input before after text : List ℕ} {next : ℕ} (r : InputReading) → readInput input ≡ r
+pub written-by : {input before after text : List ℕ} {next : ℕ} (r : Reading Input) → readInput input ≡ r
     → PrintsInput r text → Wrote before 0 text after next → Written input before after next
 written-by {input} {before} {after} {text} {next} r e p w = record {
   room = omega (arith, w .room, wrote-length w);

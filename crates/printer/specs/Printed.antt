@@ -1,4 +1,4 @@
--- What the sheet printer writes for its input, from bytes to bytes (document 01, "The sheet printer" and "One sheet printed").
+-- What the sheet printer writes for its input, from bytes to bytes (docs/FORMAT.md, "The printer").
 -- largestText, pairsText   the lines of the largest typing, and of the smallest
 -- smallestText    those of the smallest, or the one line of 50
 -- SheetPrinted    the text of a sheet whose template, script and bookings are read
@@ -9,22 +9,24 @@ use Prim.Native.Nat.{ℕ, _≤_}
 use mathlib.Core.Path.{_≡_}
 use mathlib.Core.List.{List, _++_}
 use lib.ListN.{length, take, drop}
+use Rattle.words.specs.Reading.{Reading, accepted, turnedDown, then}
 use Rattle.text.specs.Text.{cardLines, largestLine, smallestLine, notMetLine, refusedLine}
-use Rattle.input.specs.Input.{InputReading, sections, faulty, readInput}
-use Rattle.sheet.specs.Sheet.{Sheet, SheetReading, ask, turnedDown, readSheet}
+use Rattle.input.specs.Input.{Input, readInput}
+use Rattle.sheet.specs.Sheet.{Sheet, readSheet}
+use Rattle.bookings.specs.Bookings.{Booked}
 use Rattle.typing.specs.Answer.{BothSaid}
 use Rattle.typing.specs.Demand3.{Outcome, pairs, notMet}
 use Rattle.typing.specs.Calls.{withBookings, BothFound}
 
--- "First line: rounds, struck, cards with no shape." Then the card lines of the largest typing.
+-- The line of the largest typing: rounds, pairs struck, cards with no shape. Then a line for each card.
 abbrev pub largestText : ℕ → ℕ → ℕ → List ℕ → ℕ → ℕ → List ℕ
 largestText rounds struck bare grid shapes cards = largestLine rounds struck bare ++ cardLines grid shapes cards
 
--- "Then pairs", and the card lines of the smallest typing.
+-- The line of the smallest typing: its number of pairs. Then a line for each card.
 abbrev pub pairsText : ℕ → List ℕ → ℕ → ℕ → List ℕ
 pairsText m grid shapes cards = smallestLine m ++ cardLines grid shapes cards
 
--- "Then pairs, or the one line `smallest no 0 1`, the card and shape of 50, with no card lines after it."
+-- The smallest typing; or the one line of 50, its card and its shape, with no card lines after it.
 abbrev pub smallestText : Sheet → List ℕ → Outcome → List ℕ
 smallestText s grid (pairs m) = pairsText m grid (s .shapes) (s .cards)
 smallestText s grid (notMet n t) = notMetLine n t
@@ -34,20 +36,20 @@ pub record SheetPrinted (s : Sheet) (bookings text : List ℕ) : Type 0 where
   pub small : List ℕ
   pub large : List ℕ
   pub said : BothSaid
-  pub found : BothFound s bookings small large said
+  pub found : BothFound s (Booked bookings) small large said
   pub prints : text ≡ largestText (found .largest .rounds) (found .largest .struck) (found .largest .bare) large
       (s .shapes) (s .cards) ++ smallestText s small (found .smallest .outcome)
 
--- "Any refusal but 50 prints only `refused NUMBER PLACE`."
-abbrev pub PrintsSheet : SheetReading → List ℕ → List ℕ → Type 0
+-- Any refusal but 50 prints only its number and its place.
+abbrev pub PrintsSheet : Reading Sheet → List ℕ → List ℕ → Type 0
 PrintsSheet (turnedDown number place) bookings text = text ≡ refusedLine number place
-PrintsSheet (ask s) bookings text = SheetPrinted s bookings text
+PrintsSheet (accepted s) bookings text = SheetPrinted s bookings text
 
--- "60 place 0", then the refusals of template, script and bookings, each place counted in its own file.
-abbrev pub PrintsInput : InputReading → List ℕ → Type 0
-PrintsInput faulty text = text ≡ refusedLine 60 0
-PrintsInput (sections template script bookings) text =
-    PrintsSheet (withBookings bookings (readSheet template script)) bookings text
+-- 60, then the refusals of template, script and bookings, each place counted in its own file.
+abbrev pub PrintsInput : Reading Input → List ℕ → Type 0
+PrintsInput (turnedDown number place) text = text ≡ refusedLine number place
+PrintsInput (accepted i) text =
+    PrintsSheet (then (readSheet (i .template) (i .script)) (withBookings (i .bookings))) (i .bookings) text
 
 -- The text for the input's bytes.
 abbrev pub Prints : List ℕ → List ℕ → Type 0

@@ -1,34 +1,64 @@
 -- What the steps of printing a sheet ask for and leave behind; no part of a promise.
+-- textRoom, typingRoom   bytes that are enough for any sheet, and for one of its typings
 -- SheetWritten   the text of a sheet was written to the front of a buffer
--- Sized          a template and a script that are read, with their counts of cards and shapes
--- Small          a grid has the places of so many shapes and cards, of each no more than a sheet can have
+-- Putting        a grid of a sheet that can be, and room for its text from a place on
+-- Printing       what is read of a sheet, with its grids and with room for its text
+-- SectionsLaid   where the sections of an input are, and room for its text
+-- partIn, Parted   the words of a section as a part of all words; each section is such a part
 -- Assumes nothing.
-use Prim.Native.Nat.{ℕ, _*_, _≤_}
-use mathlib.Core.Path.{_≡_}
+use Prim.Native.Nat.{ℕ, _+_, _*_, _/_, _≤_}
 use mathlib.Core.List.{List}
-use lib.ListN.{length}
+use lib.ListN.{length, take, drop}
+use Rattle.words.specs.Limits.{maxCards, maxShapes}
+use Rattle.words.specs.Reading.{then}
 use Rattle.words.specs.Wrote.{Wrote}
-use Rattle.sheet.specs.Sheet.{Sheet, ask, readSheet}
+use Rattle.input.specs.Machine.{Laid}
+use Rattle.input.specs.declared.Section.{Section}
+use Rattle.sheet.specs.Sheet.{readSheet}
+use Rattle.sheet.specs.declared.Extent.{Extent}
 use Rattle.typing.specs.Calls.{withBookings}
+use Rattle.calls.specs.Steps.{Lent}
 use Rattle.printer.specs.Printed.{PrintsSheet}
+
+-- Bytes that are enough for one typing.
+abbrev pub typingRoom : ℕ
+typingRoom = 131072
+
+-- Bytes that are enough for both.
+abbrev pub textRoom : ℕ
+textRoom = 2 * typingRoom
 
 -- A text for the sheet of template, script and bookings was written to the front of a buffer.
 pub record SheetWritten (template script bookings before after : List ℕ) (next : ℕ) : Type 0 where
   pub text : List ℕ
-  pub prints : PrintsSheet (withBookings bookings (readSheet template script)) bookings text
+  pub prints : PrintsSheet (then (readSheet template script) (withBookings bookings)) bookings text
   pub wrote : Wrote before 0 text after next
 
--- Template and script are read and make a sheet with so many cards and shapes.
-pub record Sized (template script : List ℕ) (cards shapes : ℕ) : Type 0 where
-  pub sheet : Sheet
-  pub asked : readSheet template script ≡ ask sheet
-  pub cards-are : sheet .cards ≡ cards
-  pub shapes-are : sheet .shapes ≡ shapes
-  pub few-cards : cards ≤ 1024
-  pub few-shapes : shapes ≤ 32
-
--- A grid has the places of so many shapes and cards, and a sheet can have that many.
-pub record Small (grid : List ℕ) (shapes cards : ℕ) : Type 0 where
+-- A grid has the places of so many shapes and cards, a sheet can have that many, and a buffer has room for its lines.
+pub record Putting (grid : List ℕ) (shapes cards at : ℕ) (out : List ℕ) : Type 0 where
   pub inside : cards * shapes ≤ length grid
-  pub few-shapes : shapes ≤ 32
-  pub few-cards : cards ≤ 1024
+  pub few-shapes : shapes ≤ maxShapes
+  pub few-cards : cards ≤ maxCards
+  pub room : at + typingRoom ≤ length out
+
+-- A sheet and a booking list that are read, two grids of its size, and room for its text.
+pub record Printing (template script names : List ℕ) (e : Extent) (bookings : List ℕ) (count : ℕ)
+    (small large out : List ℕ) : Type 0 where
+  pub lent : Lent template script names e bookings count small large
+  pub room : textRoom ≤ length out
+
+-- The sections of an input, and room for its text.
+pub record SectionsLaid (input : List ℕ) (first second third : Section) (out : List ℕ) : Type 0 where
+  pub laid : Laid input first second third
+  pub room : textRoom ≤ length out
+
+-- The words of a section whose first word stands at a byte, as a part of all words.
+abbrev pub partIn : List ℕ → Section → List ℕ
+partIn words s = take (s .count) (drop (s .at / 2) words)
+
+-- Each section is a part of the words, and there is room for its text.
+pub record Parted (words : List ℕ) (first second third : Section) (out : List ℕ) : Type 0 where
+  pub template : first .at / 2 + first .count ≤ length words
+  pub script : second .at / 2 + second .count ≤ length words
+  pub bookings : third .at / 2 + third .count ≤ length words
+  pub room : textRoom ≤ length out

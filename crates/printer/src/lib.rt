@@ -1,42 +1,44 @@
 // The sheet printer, from the bytes of its input to the bytes of its output. A program above it only reads and writes.
-ghost use mathlib.Core.Path.{_≡_};
-ghost use Prim.Native.Nat.{_+_, _*_, _≤_};
+ghost use Prim.Native.Nat.{_≤_};
 ghost use lib.ListN.{length};
-ghost use Rattle.input.specs.Input.{Within, wordsIn};
+ghost use Rattle.input.specs.Machine.{wordsIn};
 ghost use Rattle.words.specs.Wrote.{Wrote};
 ghost use Rattle.printer.specs.Printed.{largestText, pairsText, Written};
-ghost use Rattle.printer.specs.Steps.{SheetWritten, Sized, Small};
-use calls::both_typings;
+ghost use Rattle.printer.specs.Steps.{textRoom, partIn, Putting, Printing, Parted, SectionsLaid, SheetWritten};
+use calls::BookedRead;
+use calls::Settled;
+use calls::Struck;
+use calls::both_of;
+use calls::grid_size;
+use calls::read_booked;
 use input::Section;
 use input::Sections;
 use input::decode;
 use input::find_sections;
-use script::ScriptAnswer;
-use script::read_with_kinds;
-use template::TemplateAnswer;
-use template::read_template;
+use sheet::Extent;
 use text::put_cards;
 use text::put_largest;
 use text::put_not_met;
 use text::put_refused;
 use text::put_smallest;
-use typing::BothAnswer;
+use words::MAX_GRID;
+use words::MAX_INPUT;
+use words::TABLE_SIZE;
+
+// Room for the text of any sheet, as specs/Steps has it.
+pub const TEXT_ROOM: usize = 262144;
+
+// Words of the longest input.
+const MAX_WORDS: usize = MAX_INPUT / 2;
 
 // Writes the largest typing: its numbers and the lines of its cards.
-fn put_large(
-    out: &mut [u8],
-    rounds: usize,
-    struck: usize,
-    bare: usize,
-    grid: &[u8],
-    shapes: usize,
-    cards: usize,
-) -> usize
-    requires { ⌜ Small (now grid) shapes cards × (262144 ≤ length (now out)) ⌝ }
-    ensures { λ r. ⌜ Wrote (now (out .entry)) 0 (largestText rounds struck bare (now (grid .entry)) shapes cards)
+fn put_large(out: &mut [u8], found: Struck, grid: &[u8], shapes: usize, cards: usize) -> usize
+    requires { ⌜ Putting (now grid) shapes cards 0 (now out) ⌝ }
+    ensures { λ r. ⌜ Wrote (now (out .entry)) 0
+        (largestText (found .rounds) (found .struck) (found .bare) (now (grid .entry)) shapes cards)
         (now (out .exit)) r ⌝ }
 {
-    let first = put_largest(out, 0, rounds, struck, bare);
+    let first = put_largest(out, 0, found.rounds, found.struck, found.bare);
     put_cards(out, first, grid, shapes, cards)
 }
 
@@ -49,7 +51,7 @@ fn put_small(
     shapes: usize,
     cards: usize,
 ) -> usize
-    requires { ⌜ Small (now grid) shapes cards × (at + 131072 ≤ length (now out)) ⌝ }
+    requires { ⌜ Putting (now grid) shapes cards at (now out) ⌝ }
     ensures { λ r. ⌜ Wrote (now (out .entry)) at (pairsText pairs (now (grid .entry)) shapes cards)
         (now (out .exit)) r ⌝ }
 {
@@ -57,91 +59,90 @@ fn put_small(
     put_cards(out, first, grid, shapes, cards)
 }
 
-// The sheet of a template and a script that are read, with the two grids lent.
+// The text of a sheet and bookings that are read, with the two grids lent.
 fn print_grids(
     template: &[u16],
     script: &[u16],
     bookings: &[u16],
-    cards: usize,
-    shapes: usize,
+    count: u16,
+    names: &[u8],
+    e: Extent,
     small: &mut [u8],
     large: &mut [u8],
     out: &mut [u8],
 ) -> usize
-    requires { ⌜ Sized (now template) (now script) cards shapes × (length (now small) ≡ cards * shapes)
-        × (length (now large) ≡ cards * shapes) × (262144 ≤ length (now out)) ⌝ }
+    requires { ⌜ Printing (now template) (now script) (now names) e (now bookings) count (now small) (now large)
+        (now out) ⌝ }
     ensures { λ r. ⌜ SheetWritten (now (template .entry)) (now (script .entry)) (now (bookings .entry))
         (now (out .entry)) (now (out .exit)) r ⌝ }
 {
-    let answer = both_typings(template, script, bookings, small, large);
-    match answer {
-        BothAnswer::Refused(number, place) => put_refused(out, 0, number as usize, place),
-        BothAnswer::Typed(rounds, struck, bare, pairs) => {
-            let at = put_large(out, rounds, struck, bare, large, shapes, cards);
-            put_small(out, at, pairs, small, shapes, cards)
-        }
-        BothAnswer::NotMet(rounds, struck, bare, card, shape) => {
-            let at = put_large(out, rounds, struck, bare, large, shapes, cards);
-            put_not_met(out, at, card.0 as usize, shape.0 as usize)
+    let found = both_of(template, script, bookings, count, names, e, small, large);
+    let shapes = e.shapes as usize;
+    let cards = e.cards as usize;
+    let at = put_large(out, found.largest, large, shapes, cards);
+    let settled = found.smallest;
+    match settled {
+        Settled::Pairs(pairs) => put_small(out, at, pairs, small, shapes, cards),
+        Settled::NotMet(card, shape) => put_not_met(out, at, card.0 as usize, shape.0 as usize),
+    }
+}
+
+// The text of a template, a script and bookings.
+fn print_words(template: &[u16], script: &[u16], bookings: &[u16], out: &mut [u8]) -> usize
+    requires { ⌜ textRoom ≤ length (now out) ⌝ }
+    ensures { λ r. ⌜ SheetWritten (now (template .entry)) (now (script .entry)) (now (bookings .entry))
+        (now (out .entry)) (now (out .exit)) r ⌝ }
+{
+    let mut names = [0u8; TABLE_SIZE];
+    let read = read_booked(template, script, bookings, &mut names);
+    match read {
+        BookedRead::Refused(number, place) => put_refused(out, 0, number as usize, place),
+        BookedRead::Sheet(e, count) => {
+            let size = grid_size(e);
+            let mut small = [0u8; MAX_GRID];
+            let mut large = [0u8; MAX_GRID];
+            print_grids(
+                template,
+                script,
+                bookings,
+                count,
+                &names,
+                e,
+                &mut small[0..size],
+                &mut large[0..size],
+                out,
+            )
         }
     }
 }
 
-// The sheet of a template and a script that are read.
-fn print_both(
-    template: &[u16],
-    script: &[u16],
-    bookings: &[u16],
-    cards: usize,
-    shapes: usize,
+// The text of an input's words: each section is a part of them.
+fn print_parts(
+    words: &[u16],
+    first: Section,
+    second: Section,
+    third: Section,
     out: &mut [u8],
 ) -> usize
-    requires { ⌜ Sized (now template) (now script) cards shapes × (262144 ≤ length (now out)) ⌝ }
-    ensures { λ r. ⌜ SheetWritten (now (template .entry)) (now (script .entry)) (now (bookings .entry))
-        (now (out .entry)) (now (out .exit)) r ⌝ }
+    requires { ⌜ Parted (now words) first second third (now out) ⌝ }
+    ensures { λ r. ⌜ SheetWritten (partIn (now (words .entry)) first) (partIn (now (words .entry)) second)
+        (partIn (now (words .entry)) third) (now (out .entry)) (now (out .exit)) r ⌝ }
 {
-    let mut small = [0u8; 32768];
-    let mut large = [0u8; 32768];
-    let size = cards * shapes;
-    print_grids(
-        template,
-        script,
-        bookings,
-        cards,
-        shapes,
-        &mut small[0..size],
-        &mut large[0..size],
+    let template = first.at / 2;
+    let template_end = template + first.count;
+    let script = second.at / 2;
+    let script_end = script + second.count;
+    let bookings = third.at / 2;
+    let bookings_end = bookings + third.count;
+    print_words(
+        &words[template..template_end],
+        &words[script..script_end],
+        &words[bookings..bookings_end],
         out,
     )
 }
 
-// The sheet of a template, a script and bookings.
-fn print_words(template: &[u16], script: &[u16], bookings: &[u16], out: &mut [u8]) -> usize
-    requires { ⌜ 262144 ≤ length (now out) ⌝ }
-    ensures { λ r. ⌜ SheetWritten (now (template .entry)) (now (script .entry)) (now (bookings .entry))
-        (now (out .entry)) (now (out .exit)) r ⌝ }
-{
-    let first = read_template(template);
-    match first {
-        TemplateAnswer::Refused(number, place) => put_refused(out, 0, number as usize, place),
-        TemplateAnswer::Counts(kinds, shapes) => {
-            let second = read_with_kinds(kinds, script);
-            match second {
-                ScriptAnswer::Refused(number, place) => put_refused(out, 0, number as usize, place),
-                ScriptAnswer::Counts(cards, _) => print_both(
-                    template,
-                    script,
-                    bookings,
-                    cards as usize,
-                    shapes as usize,
-                    out,
-                ),
-            }
-        }
-    }
-}
-
-// The sheet of an input whose three sections are found.
+// The text of an input whose three sections are found: its words are decoded once.
 fn print_sections(
     input: &[u8],
     first: Section,
@@ -149,33 +150,18 @@ fn print_sections(
     third: Section,
     out: &mut [u8],
 ) -> usize
-    requires { ⌜ Within (now input) first × Within (now input) second × Within (now input) third
-        × (262144 ≤ length (now out)) ⌝ }
+    requires { ⌜ SectionsLaid (now input) first second third (now out) ⌝ }
     ensures { λ r. ⌜ SheetWritten (wordsIn (now (input .entry)) first) (wordsIn (now (input .entry)) second)
         (wordsIn (now (input .entry)) third) (now (out .entry)) (now (out .exit)) r ⌝ }
 {
-    let mut template = [0u16; 32768];
-    let at = first.at;
-    let count = first.count;
-    decode(input, at, count, &mut template);
-    let mut script = [0u16; 32768];
-    let script_at = second.at;
-    let script_count = second.count;
-    decode(input, script_at, script_count, &mut script);
-    let mut bookings = [0u16; 32768];
-    let bookings_at = third.at;
-    let bookings_count = third.count;
-    decode(input, bookings_at, bookings_count, &mut bookings);
-    print_words(
-        &template[..count],
-        &script[..script_count],
-        &bookings[..bookings_count],
-        out,
-    )
+    let mut words = [0u16; MAX_WORDS];
+    decode(input, 0, input.len() / 2, &mut words);
+    print_parts(&words, first, second, third, out)
 }
 
-// Writes the printed sheet for an input to the front of a buffer that has room for any, and returns its number of bytes.
-pub fn print_sheet(input: &[u8], out: &mut [u8; 262144]) -> usize
+// Writes the printed sheet for an input to the front of a buffer that has room for any, and returns its number of
+// bytes.
+pub fn print_sheet(input: &[u8], out: &mut [u8; TEXT_ROOM]) -> usize
     ensures { λ r. ⌜ Written (now (input .entry)) (now (out .entry)) (now (out .exit)) r ⌝ }
 {
     let found = find_sections(input);

@@ -25,7 +25,7 @@ row-in : (i : tie.In-loop Inv-loop μ-loop) → let s = i .before .before .befor
     i .before .loop .n * s .args .shapes + s .args .shapes ≤ length (now (s .args .grid))
 row-in i =
     let s = i .before .before .before in
-    omega (arith, card-room (s .args .cards) (s .args .shapes) (i .before .loop .n) (i .loop-test .taken), s .pre .0)
+    omega (arith, card-room (s .args .cards) (s .args .shapes) (i .before .loop .n) (i .loop-test .taken), s .pre .full)
 
 loop-holds : tie.Need-loop-holds Inv-loop μ-loop
 loop-holds c =

@@ -38,7 +38,11 @@ count-bare-requires : tie.Need-count-bare-requires
 count-bare-requires c κs =
     let t = start (rounds c .before) .pre .1 in
     let accepted = read (t .known) in
-    (rounds c .strike-all .ensures .1 ∙ t .fits .full, accepted .links .cards-bound, accepted .shapes .shapes-high)
+    record {
+      full = rounds c .strike-all .ensures .1 ∙ t .fits .full;
+      few-cards = accepted .links .cards-bound;
+      few-shapes = accepted .shapes .shapes-high;
+    }
 
 same-length : tie.Need-same-length
 same-length c = search needs

@@ -129,11 +129,12 @@ returns-7 c =
       reads-sections _ (omega arith) (omega arith) (omega arith) (omega arith) (omega arith) (omega arith)
           ∙ ap accepted (same-input (words-at _ refl (first .count-at .ensures .0))
           (words-at _ script (next .count-at2 .ensures .0)) (words-at _ bookings (last .count-at3 .ensures .0))),
-      (
-        record { ends = omega arith; small = omega arith },
-        record { ends = omega arith; small = omega arith },
-        record { ends = omega arith; small = omega arith },
-      ),
+      record {
+        few = omega arith;
+        template = record { ends = omega arith; even = omega arith };
+        script = record { ends = omega arith; even = omega arith };
+        bookings = record { ends = omega arith; even = omega arith };
+      },
     )
 
 pub find-sections-spec : {M : Type 1} → statement M

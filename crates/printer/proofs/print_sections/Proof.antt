@@ -1,47 +1,40 @@
--- `sheet::print_sections` prints the sheet of the words that its sections decode to. Assumes nothing.
+-- `printer::print_sections` decodes all words of the input once, and prints the sheet of its sections. Assumes nothing.
+use native.Mathlib.Omega.{arith}
+use denote.Ref.{now}
 use borrow.Author.Needs.{needs}
+use Rattle.input.proofs.Words.{section-words}
 use Rattle.printer.proofs.Sheets.{same-words}
 use Rattle.printer.proofs.print_sections.Statement.{statement}
 use Rattle.printer.proofs.print_sections.Tie as tie
+
+-- The start, and the words as they were decoded.
+abbrev start : tie.After-decode → tie.Start
+start c = c .before .before .before .before
+
+abbrev decoded : tie.After-print-parts-arg → tie.After-decode
+decoded c = c .before .before .before
 
 slice-aggregate-decode : tie.Need-slice-aggregate-decode
 slice-aggregate-decode c = search needs
 
 decode-requires : tie.Need-decode-requires
-decode-requires c κs = search needs
+decode-requires c κs =
+    let laid = c .before .before .before .pre .laid in
+    record { inside = omega arith; room = omega (arith, laid .few) }
 
-slice-aggregate-decode-2 : tie.Need-slice-aggregate-decode-2
-slice-aggregate-decode-2 c = search needs
+slice-aggregate-print-parts : tie.Need-slice-aggregate-print-parts
+slice-aggregate-print-parts c = search needs
 
-decode-requires-2 : tie.Need-decode-requires-2
-decode-requires-2 c κs = search needs
-
-slice-aggregate-decode-3 : tie.Need-slice-aggregate-decode-3
-slice-aggregate-decode-3 c = search needs
-
-decode-requires-3 : tie.Need-decode-requires-3
-decode-requires-3 c κs = search needs
-
-array-share-prefix-template : tie.Need-array-share-prefix-template
-array-share-prefix-template c = search needs
-
-slice-aggregate-print-words : tie.Need-slice-aggregate-print-words
-slice-aggregate-print-words c = search needs
-
-array-share-prefix-script : tie.Need-array-share-prefix-script
-array-share-prefix-script c = search needs
-
-slice-aggregate-print-words-2 : tie.Need-slice-aggregate-print-words-2
-slice-aggregate-print-words-2 c = search needs
-
-array-share-prefix-bookings : tie.Need-array-share-prefix-bookings
-array-share-prefix-bookings c = search needs
-
-slice-aggregate-print-words-3 : tie.Need-slice-aggregate-print-words-3
-slice-aggregate-print-words-3 c = search needs
-
-print-words-requires : tie.Need-print-words-requires
-print-words-requires c κs = search needs
+print-parts-requires : tie.Need-print-parts-requires
+print-parts-requires c κs =
+    let s = start (decoded c) .pre in
+    let laid = s .laid in
+    record {
+      template = omega (arith, laid .few, laid .template .ends, laid .template .even);
+      script = omega (arith, laid .few, laid .script .ends, laid .script .even);
+      bookings = omega (arith, laid .few, laid .bookings .ends, laid .bookings .even);
+      room = s .room;
+    }
 
 same-length : tie.Need-same-length
 same-length c = search needs
@@ -49,11 +42,14 @@ same-length c = search needs
 returns : tie.Need-returns
 returns c =
     let printed = c .before .before in
-    let bookings = printed .before .before .before .before .before .before in
-    let script = bookings .before .before .before in
-    let template = script .before .before .before in
-    same-words (template .decode .ensures .holds) (script .decode2 .ensures .holds) (bookings .decode3 .ensures .holds)
-    (printed .print-words .ensures)
+    let words = decoded (printed .before) in
+    let s = start words in
+    let input = now (s .args .input) in
+    let laid = s .pre .laid in
+    let all = words .decode .ensures in
+    same-words (section-words input _ (s .args .first) all (laid .template))
+    (section-words input _ (s .args .second) all (laid .script))
+    (section-words input _ (s .args .third) all (laid .bookings)) (printed .print-parts .ensures)
 
 pub print-sections-spec : {M : Type 1} → statement M
 print-sections-spec =
@@ -61,16 +57,7 @@ print-sections-spec =
     (tie.spec
     slice-aggregate-decode
     decode-requires
-    slice-aggregate-decode-2
-    decode-requires-2
-    slice-aggregate-decode-3
-    decode-requires-3
-    array-share-prefix-template
-    slice-aggregate-print-words
-    array-share-prefix-script
-    slice-aggregate-print-words-2
-    array-share-prefix-bookings
-    slice-aggregate-print-words-3
-    print-words-requires
+    slice-aggregate-print-parts
+    print-parts-requires
     same-length
     returns)

@@ -1,10 +1,11 @@
--- `sheet::print_sheet` prints 60 for an input at fault, else the sheet of its sections. Assumes nothing.
+-- `printer::print_sheet` prints 60 for an input at fault, else the sheet of its sections. Assumes nothing.
 use mathlib.Core.Path.{refl, ap, _∙_, subst}
 use native.Mathlib.Omega.{arith}
 use native.Mathlib.Nat.{le-trans}
 use denote.Ref.{now}
 use borrow.Author.Needs.{needs}
-use Rattle.input.specs.Input.{InputReading, sectionsRead, Inside}
+use Rattle.words.specs.Reading.{turnedDown}
+use Rattle.input.specs.Machine.{sectionsRead, Inside}
 use Rattle.printer.proofs.Writes.{refused-end, written-by}
 use Rattle.printer.proofs.print_sheet.Statement.{statement}
 use Rattle.printer.proofs.print_sheet.Tie as tie
@@ -27,8 +28,10 @@ print-sections-requires c κs =
     let known = c .before .before in
     let read = known .before .before in
     let input = now (read .before .before .args .input) in
-    let (first, second, third) = subst (Inside input) (known .found .given .1) (read .find-sections .ensures .1) in
-    (first, second, third, omega arith)
+    record {
+      laid = subst (Inside input) (known .found .given .1) (read .find-sections .ensures .1);
+      room = omega arith;
+    }
 
 returns : tie.Need-returns
 returns c =
@@ -36,7 +39,7 @@ returns c =
     let read = told .before .before in
     let input = now (read .before .before .args .input) in
     let faulty = read .find-sections .ensures .0 ∙ ap (sectionsRead input) (told .enum-told .given .1) in
-    written-by InputReading.faulty faulty refl (c .put-refused .ensures)
+    written-by (turnedDown 60 0) faulty refl (c .put-refused .ensures)
 
 returns-2 : tie.Need-returns-2
 returns-2 c =

@@ -1,123 +1,133 @@
--- `sheet::print_words` prints the refusal of template or script, else the sheet. Assumes nothing.
-use mathlib.Core.Path.{sym, ap, _∙_}
+-- `printer::print_words` prints a refusal, or lends grids of the sheet's size. Assumes nothing.
+use mathlib.Core.Path.{subst}
 use native.Mathlib.Omega.{arith}
 use native.Mathlib.Nat.{le-trans}
 use denote.Ref.{now}
 use borrow.Author.Needs.{needs}
-use Rattle.template.specs.Answer.{templateSaid}
-use Rattle.script.specs.Answer.{scriptSaid}
-use Rattle.sheet.proofs.Openings.{sheet-template, sheet-script}
+use Rattle.calls.specs.Steps.{Listed, BookedAs}
+use Rattle.calls.proofs.Known.{few-pairs}
 use Rattle.printer.proofs.Writes.{refused-end}
-use Rattle.printer.proofs.Sheets.{refused-written, sized-by}
+use Rattle.printer.proofs.Sheets.{refused-written}
 use Rattle.printer.proofs.print_words.Statement.{statement}
 use Rattle.printer.proofs.print_words.Tie as tie
 
-read-template-requires : tie.Need-read-template-requires
-read-template-requires c κs = search needs
+-- The start, and sheet and bookings as they were read.
+abbrev start : tie.After-read-booked → tie.Start
+start c = c .before .before .before .before .before .before
 
-enum-known-first : tie.Need-enum-known-first
-enum-known-first c = search needs
+abbrev read : tie.After-known-told2 → tie.After-read-booked
+read c = c .before .before .before .before
+
+listed : (c : tie.After-known-told2) → let s = start (read c) .args in
+    Listed (now (s .template)) (now (s .script)) (read c .read-booked .last .1 .1 .1 .0) (c .before .read2 .given .0 .0)
+    (now (s .bookings)) (c .before .read2 .given .0 .1 .0)
+listed c =
+    let s = start (read c) .args in
+    subst (BookedAs (now (s .template)) (now (s .script)) (read c .read-booked .last .1 .1 .1 .0) (now (s .bookings)))
+    (c .before .read2 .given .1) (read c .read-booked .ensures)
+
+-- The grids have room for the sheet's pairs.
+abbrev sized : tie.After-names3 → tie.After-grid-size
+sized c = c .before
+
+slice-aggregate-read-booked : tie.Need-slice-aggregate-read-booked
+slice-aggregate-read-booked c = search needs
+
+read-booked-requires : tie.Need-read-booked-requires
+read-booked-requires c κs = search needs
+
+enum-known-read : tie.Need-enum-known-read
+enum-known-read c = search needs
 
 cast-put-refused : tie.Need-cast-put-refused
 cast-put-refused c = search needs
 
 put-refused-requires : tie.Need-put-refused-requires
-put-refused-requires c κs =
-    le-trans (refused-end _ _) (omega arith)
+put-refused-requires c κs = le-trans (refused-end _ _) (omega arith)
 
-enum-known-first-2 : tie.Need-enum-known-first-2
-enum-known-first-2 c = search needs
+enum-known-read-2 : tie.Need-enum-known-read-2
+enum-known-read-2 c = search needs
 
-read-with-kinds-requires : tie.Need-read-with-kinds-requires
-read-with-kinds-requires c κs = search needs
+grid-size-requires : tie.Need-grid-size-requires
+grid-size-requires c κs = search needs
 
-enum-known-second : tie.Need-enum-known-second
-enum-known-second c = search needs
+slice-aggregate-print-grids : tie.Need-slice-aggregate-print-grids
+slice-aggregate-print-grids c = search needs
 
-cast-put-refused-2 : tie.Need-cast-put-refused-2
-cast-put-refused-2 c = search needs
+sub-print-grids : tie.Need-sub-print-grids
+sub-print-grids c = search needs
 
-put-refused-requires-2 : tie.Need-put-refused-requires-2
-put-refused-requires-2 c κs =
-    le-trans (refused-end _ _) (omega arith)
+part-small-start : tie.Need-part-small-start
+part-small-start c = search needs
 
-enum-known-second-2 : tie.Need-enum-known-second-2
-enum-known-second-2 c = search needs
+part-small-end : tie.Need-part-small-end
+part-small-end c =
+    let size = sized c in
+    omega (arith, size .grid-size .ensures, few-pairs (listed (size .before) .known))
 
-cast-print-both : tie.Need-cast-print-both
-cast-print-both c = search needs
+sub-print-grids-2 : tie.Need-sub-print-grids-2
+sub-print-grids-2 c = search needs
 
-cast-print-both-2 : tie.Need-cast-print-both-2
-cast-print-both-2 c = search needs
+part-large-start : tie.Need-part-large-start
+part-large-start c = search needs
 
-print-both-requires : tie.Need-print-both-requires
-print-both-requires c κs =
-    let listed = c .before .before in
-    let list = sym (ap scriptSaid (listed .second2 .given .1)) ∙ listed .before .before .read-with-kinds .ensures in
-    let known = listed .before .before .before .before in
-    let read = known .before .before in
-    let args = read .before .before .before .before .before .args in
-    let template = now (args .template) in
-    let script = now (args .script) in
-    let counts = sym (ap templateSaid (known .first2 .given .1)) ∙ read .read-template .ensures in
-    (sized-by template script _ _ _ _ counts list, omega arith)
+part-large-end : tie.Need-part-large-end
+part-large-end c =
+    let size = sized (c .before) in
+    omega (arith, size .grid-size .ensures, few-pairs (listed (size .before) .known))
+
+print-grids-requires : tie.Need-print-grids-requires
+print-grids-requires c κs =
+    let size = sized (c .before .before .before) in
+    let l = listed (size .before) in
+    let few = few-pairs (l .known) in
+    record {
+      lent = record {
+        listed = l;
+        size = omega (arith, size .grid-size .ensures, few);
+        other-size = omega (arith, size .grid-size .ensures, few);
+      };
+      room = omega arith;
+    }
 
 same-length : tie.Need-same-length
 same-length c = search needs
 
 returns : tie.Need-returns
 returns c =
-    let written = c .before .before in
-    let known = written .before .before .before in
-    let read = known .before .before in
-    let args = read .before .before .before .before .before .args in
-    let template = now (args .template) in
-    let script = now (args .script) in
-    let counts = sym (ap templateSaid (known .first .given .1)) ∙ read .read-template .ensures in
-    refused-written (sheet-template template script _ _ counts) (written .put-refused .ensures)
+    let refused = c .before .before in
+    let both = refused .before .before .before .before .before .before in
+    let s = start both .args in
+    refused-written
+    (subst (BookedAs (now (s .template)) (now (s .script)) (both .read-booked .last .1 .1 .1 .0) (now (s .bookings)))
+    (refused .before .before .before .read .given .1) (both .read-booked .ensures)) (refused .put-refused .ensures)
 
 same-length-2 : tie.Need-same-length-2
 same-length-2 c = search needs
 
 returns-2 : tie.Need-returns-2
-returns-2 c =
-    let written = c .before .before in
-    let listed = written .before .before .before in
-    let list = sym (ap scriptSaid (listed .second .given .1)) ∙ listed .before .before .read-with-kinds .ensures in
-    let known = listed .before .before .before .before in
-    let read = known .before .before in
-    let args = read .before .before .before .before .before .args in
-    let template = now (args .template) in
-    let script = now (args .script) in
-    let counts = sym (ap templateSaid (known .first2 .given .1)) ∙ read .read-template .ensures in
-    refused-written (sheet-script template script _ _ _ _ counts list) (written .put-refused2 .ensures)
-
-same-length-3 : tie.Need-same-length-3
-same-length-3 c = search needs
-
-returns-3 : tie.Need-returns-3
-returns-3 c = search needs
+returns-2 c = search needs
 
 pub print-words-spec : {M : Type 1} → statement M
 print-words-spec =
     tie.close
     (tie.spec
-    read-template-requires
-    enum-known-first
+    slice-aggregate-read-booked
+    read-booked-requires
+    enum-known-read
     cast-put-refused
     put-refused-requires
-    enum-known-first-2
-    read-with-kinds-requires
-    enum-known-second
-    cast-put-refused-2
-    put-refused-requires-2
-    enum-known-second-2
-    cast-print-both
-    cast-print-both-2
-    print-both-requires
+    enum-known-read-2
+    grid-size-requires
+    slice-aggregate-print-grids
+    sub-print-grids
+    part-small-start
+    part-small-end
+    sub-print-grids-2
+    part-large-start
+    part-large-end
+    print-grids-requires
     same-length
     returns
     same-length-2
-    returns-2
-    same-length-3
-    returns-3)
+    returns-2)

@@ -1,4 +1,4 @@
--- `sheet::put_small` writes the lines of the smallest typing, which have room. Assumes nothing.
+-- `printer::put_small` writes the lines of the smallest typing, which have room. Assumes nothing.
 use native.Mathlib.Omega.{arith}
 use denote.Ref.{now}
 use borrow.Author.Needs.{needs}
@@ -7,23 +7,22 @@ use Rattle.words.proofs.Writing.{wrote-append}
 use Rattle.printer.proofs.put_small.Statement.{statement}
 use Rattle.printer.proofs.put_small.Tie as tie
 
+-- The start, and the first line as it was written.
+abbrev start : tie.After-put-smallest → tie.Start
+start c = c .before .before .before .before
+
+abbrev first : tie.After-put-cards-arg → tie.After-put-smallest
+first c = c .before .before .before
+
 put-smallest-requires : tie.Need-put-smallest-requires
-put-smallest-requires c κs =
-    let args = c .before .before .before .args in
-    omega (arith, smallest-bound (args .pairs))
+put-smallest-requires c κs = omega (arith, smallest-bound (c .before .before .before .args .pairs))
 
 put-cards-requires : tie.Need-put-cards-requires
 put-cards-requires c κs =
-    let first = c .before .before .before in
-    let start = first .before .before .before .before in
-    let args = start .args in (
-      start .pre .0 .inside,
-      omega (
-        arith,
-        smallest-bound (args .pairs),
-        cards-bound (now (args .grid)) (args .shapes) (args .cards) (start .pre .0 .few-shapes) (start .pre .0 .few-cards),
-      ),
-    )
+    let s = start (first c) in
+    let lines = cards-bound (now (s .args .grid)) (s .args .shapes) (s .args .cards) (s .pre .few-shapes)
+    (s .pre .few-cards) in
+    (s .pre .inside, omega (arith, smallest-bound (s .args .pairs), lines))
 
 same-length : tie.Need-same-length
 same-length c = search needs
@@ -31,8 +30,13 @@ same-length c = search needs
 returns : tie.Need-returns
 returns c =
     let second = c .before .before in
-    let first = second .before .before .before .before in
-    wrote-append (first .put-smallest .ensures) (second .put-cards .ensures)
+    wrote-append (first (second .before) .put-smallest .ensures) (second .put-cards .ensures)
 
 pub put-small-spec : {M : Type 1} → statement M
-put-small-spec = tie.close (tie.spec put-smallest-requires put-cards-requires same-length returns)
+put-small-spec =
+    tie.close
+    (tie.spec
+    put-smallest-requires
+    put-cards-requires
+    same-length
+    returns)
