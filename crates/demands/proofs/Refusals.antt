@@ -16,131 +16,27 @@ use Rattle.demands.specs.Worked.{lastShape}
 use Rattle.demands.specs.Refusals.{AllGet, refusals, others, listed, numbersOf}
 use Rattle.demands.proofs.Worked.{worked-not-met}
 
+-- One row, and then the others.
+infixr 5 _&_
+abbrev _&_ : {A B : Type 0} → A → B → A × B
+_&_ a b = (a, b)
+
 pub all-listed : numbersOf refusals ≡ listed
 all-listed = refl
 
 pub every-number-happens : AllGet refusals
-unfolding readTemplate readShape readShapes readPart readRun readLink templateSays readScript readLinks fromAt kindAt toAt
-    above greater scriptSays firstOver fitQuestion readSheet cardAt shapeAt readPairs readBookings wordAt sectionEnd
-    scriptStart bookingsStart inputEnd readInput
-every-number-happens = (
-  refl,
-  (
-    refl,
-    (
-      refl,
-      (
-        refl,
-        (
-          refl,
-          (
-            refl,
-            (
-              refl,
-              (
-                refl,
-                (
-                  refl,
-                  (
-                    refl,
-                    (
-                      refl,
-                      (
-                        refl,
-                        (
-                          refl,
-                          (
-                            refl,
-                            (
-                              refl,
-                              (
-                                refl,
-                                (
-                                  refl,
-                                  (
-                                    refl,
-                                    (
-                                      (refl, refl),
-                                      (
-                                        (refl, refl),
-                                        (
-                                          (refl, refl),
-                                          (
-                                            (refl, refl),
-                                            (
-                                              (refl, refl),
-                                              (
-                                                refl,
-                                                (refl, (refl, (worked-not-met lastShape refl, (refl, tt)))),
-                                              ),
-                                            ),
-                                          ),
-                                        ),
-                                      ),
-                                    ),
-                                  ),
-                                ),
-                              ),
-                            ),
-                          ),
-                        ),
-                      ),
-                    ),
-                  ),
-                ),
-              ),
-            ),
-          ),
-        ),
-      ),
-    ),
-  ),
-)
+unfolding readTemplate readShape readShapes readPart readRun readLink templateSays readScript readLinks fromAt kindAt
+    toAt above greater scriptSays firstOver fitQuestion readSheet cardAt shapeAt readPairs readBookings wordAt
+    sectionEnd scriptStart bookingsStart inputEnd readInput
+every-number-happens =
+    refl & refl & refl & refl & refl & refl & refl & refl & refl & refl & refl & refl & refl & refl & refl &
+    refl & refl & refl & (refl, refl) & (refl, refl) & (refl, refl) & (refl, refl) & (refl, refl) & refl & refl
+    & refl & worked-not-met lastShape refl & refl & tt
 
 pub other-faults-happen : AllGet others
-unfolding readTemplate readShape readShapes readPart readRun readLink templateSays readScript readLinks fromAt kindAt toAt
-    above greater scriptSays firstOver fitQuestion readSheet cardAt shapeAt readPairs readBookings wordAt sectionEnd
-    scriptStart bookingsStart inputEnd readInput
-other-faults-happen = (
-  refl,
-  (
-    refl,
-    (
-      refl,
-      (
-        refl,
-        (
-          refl,
-          (
-            refl,
-            (
-              refl,
-              (
-                refl,
-                (
-                  refl,
-                  (
-                    refl,
-                    (
-                      refl,
-                      (
-                        refl,
-                        (
-                          refl,
-                          (
-                            (refl, refl),
-                            ((refl, refl), (refl, (refl, tt))),
-                          ),
-                        ),
-                      ),
-                    ),
-                  ),
-                ),
-              ),
-            ),
-          ),
-        ),
-      ),
-    ),
-  ),
-)
+unfolding readTemplate readShape readShapes readPart readRun readLink templateSays readScript readLinks fromAt kindAt
+    toAt above greater scriptSays firstOver fitQuestion readSheet cardAt shapeAt readPairs readBookings wordAt
+    sectionEnd scriptStart bookingsStart inputEnd readInput
+other-faults-happen =
+    refl & refl & refl & refl & refl & refl & refl & refl & refl & refl & refl & refl & refl & (refl, refl) &
+    (refl, refl) & refl & refl & tt
