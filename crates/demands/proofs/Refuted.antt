@@ -1,5 +1,5 @@
--- Wrong answers are not allowed by the contracts: shown on the worked sheet of docs/FORMAT.md, where one wrong answer is
--- enough to show that a contract says something.
+-- Wrong answers are not allowed by the contracts: shown on the worked sheet of docs/FORMAT.md, so that each of these
+-- promises is seen to say something.
 --   only-largest, only-met, only-not-met    the right answers are the only ones
 --   grid-untouched            an accepting call that leaves the grid as it was
 --   three-rounds              3 rounds instead of 4
@@ -10,16 +10,15 @@
 --   size-first, list-first    30 comes before 40: 40 is not allowed, 30 is
 --   all-refused               a reader that refuses this template
 -- Assumes nothing.
-use Prim.Native.Nat.{ℕ, suc}
-use mathlib.Core.Path.{_≡_, refl, sym, ap, _∙_}
+use Prim.Native.Nat.{ℕ}
+use mathlib.Core.Path.{_≡_, refl, ap}
 use mathlib.Core.List.{List, [], _∷_}
 use native.Mathlib.Omega.{arith}
 use lib.ListN.{length, getD}
 use Rattle.words.specs.Said.{Said, values, refusal}
-use Rattle.words.specs.Reading.{Reading, accepted, turnedDown}
 use Rattle.template.specs.Reading.{readLink, readRun, readPart}
 use Rattle.template.specs.Template.{readShape, readShapes, readTemplate, templateSays}
-use Rattle.bookings.specs.Bookings.{cardAt, shapeAt, readPairs, readBookings}
+use Rattle.bookings.specs.Bookings.{readBookings}
 use Rattle.typing.specs.Calls.{LargestSays, SmallestSays}
 use Rattle.typing.proofs.Existence.{largest-one-answer, smallest-one-answer}
 use Rattle.demands.specs.Worked.{template, script, metBookings, unmetBookings, lastShape, noShapes}
@@ -43,7 +42,7 @@ module _ (before : List ℕ) (six : length before ≡ 6) (after : List ℕ) (sai
       (worked-not-met before six)
 
 -- ---- wrong answers
--- What was in the grid before is not left there, whatever is said: here six bytes of 7, and any that are not the answer.
+-- What was in the grid before is not left there, whatever is said, unless it was the answer; so six bytes of 7 are not.
 pub grid-untouched : (before : List ℕ) (said : Said) → length before ≡ 6 → (before ≡ lastShape → ⊥)
     → LargestSays template script before before said → ⊥
 grid-untouched before said six other x = other (only-largest before six before said x .1)

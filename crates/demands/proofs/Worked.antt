@@ -13,12 +13,11 @@ use mathlib.Core.Logic.{_⊎_, inl, inr, ⊎-elim}
 use mathlib.Core.Bool.{Bool, true, false, not, _||_}
 use mathlib.Core.List.{List, [], _∷_}
 use native.Mathlib.Omega.{arith}
-use native.Mathlib.Nat.{le-of-suc-le-suc, not-suc-le-zero}
+use native.Mathlib.Nat.{le-of-suc-le-suc}
 use lib.Dec.{eqb}
 use lib.ListN.{length, getD, replicate}
-use borrow.Author.Tests.{eq-eqb, eqb-true}
+use borrow.Author.Tests.{eqb-true}
 use Rattle.words.specs.Limits.{maxKinds}
-use Rattle.words.specs.Said.{Said}
 use Rattle.words.specs.Reading.{Reading, accepted}
 use Rattle.words.proofs.Bools.{never-both, or-cases, false-true, false-of-not}
 use Rattle.words.proofs.Places.{place-in, card-of, shape-of}
@@ -26,9 +25,9 @@ use Rattle.bags.specs.Part.{Part, Parts, at-most, named}
 use Rattle.bags.specs.Interval.{count, fits}
 use Rattle.template.specs.Reading.{readLink, readRun, readPart}
 use Rattle.template.specs.Template.{Tabled, readShape, readShapes, readTemplate}
-use Rattle.script.specs.Link.{fromAt, kindAt, toAt, near, label, far, above, greater, neighbours}
+use Rattle.script.specs.Link.{fromAt, kindAt, toAt, far, above, greater, neighbours}
 use Rattle.script.specs.Script.{readLinks, readScript}
-use Rattle.sheet.specs.Sheet.{Sheet, partOf, place, size, readSheet}
+use Rattle.sheet.specs.Sheet.{Sheet, partOf, place, readSheet}
 use Rattle.sheet.proofs.Accepted.{SheetAccepted, sheet-made}
 use Rattle.board.specs.Grid.{on, bit, tally}
 use Rattle.board.specs.Machine.{all}
@@ -39,7 +38,7 @@ use Rattle.typing.specs.Needs.{linkTest, metTest, boardOf}
 use Rattle.bookings.specs.Bookings.{cardAt, shapeAt, readPairs, readBookings, Booked}
 use Rattle.typing.specs.Typing.{Pairs, Has, Met, Typing}
 use Rattle.typing.specs.Largest.{Largest, bare, bareCards}
-use Rattle.typing.specs.Smallest.{Closure, booked, follow, IsClosure, Accepted, TurnedDown}
+use Rattle.typing.specs.Smallest.{Closure, booked, follow, IsClosure}
 use Rattle.typing.specs.Demand3.{pairs, notMet}
 use Rattle.typing.specs.Calls.{largestReading, smallestReading, LargestFound, LargestAnswered, LargestSays}
 use Rattle.typing.specs.Calls.{SmallestFound, SmallestAnswered, SmallestSays}
