@@ -53,9 +53,9 @@ pairs-or-down said (notMet n t) e = inr (n, t, e)
 pub first-demand : FirstDemand
 unfolding templateSays scriptSays
 first-demand = record {
-  templates = templates-are;
-  sheets = sheets-are;
-  bookings = bookings-are;
+  template-exact = templates-are;
+  sheet-exact = sheets-are;
+  bookings-exact = bookings-are;
   largest-takes = largest-taken;
   smallest-takes = smallest-taken;
   both-takes = both-taken;

@@ -15,7 +15,7 @@
 --   TemplateListed .. PrinterListed     the numbers that an operation's refusals have
 --   TurnedDown                          the bookings cannot be met: 50
 --   FirstDemand                         faults get their refusals, and nothing else is refused
---   Neighbourhood, RuleTwo, SecondDemand    the bag language and sound typings are the paper's
+--   Neighbourhood, RuleTwo, Belong, SecondDemand   the bag language and sound typings are the paper's
 --   TwoTypings, ThirdDemand             the smallest and the largest typing
 -- Assumes nothing.
 use Prim.Native.Nat.{ℕ, _+_, _*_, _≤_, _<_}
@@ -28,13 +28,12 @@ use Rattle.words.specs.Limits.{maxCount, maxBookings}
 use Rattle.words.specs.Said.{Said, values, refusal}
 use Rattle.words.specs.Reading.{accepted, turnedDown}
 use Rattle.bags.specs.Part.{Part}
-use Rattle.bags.specs.Bag.{Bag, Bags, Fits}
-use Rattle.bags.specs.Interval.{count}
+use Rattle.bags.specs.Bag.{Bag, Bags, total}
 use Rattle.bags.proofs.Adequate.{Flattened}
 use Rattle.template.specs.Template.{Template, readTemplate, templateSays}
-use Rattle.template.specs.Writer as template
+use Rattle.template.specs.Writer as templates
 use Rattle.script.specs.Script.{readWith, scriptSays}
-use Rattle.script.specs.Writer as script
+use Rattle.script.specs.Writer as scripts
 use Rattle.sheet.specs.Sheet.{Sheet, partOf, neighboursOf, place, size, readSheet}
 use Rattle.bookings.specs.Bookings.{cardAt, shapeAt, readBookings, Booked}
 use Rattle.counts.specs.Fit.{fitQuestion, FitSays}
@@ -51,16 +50,16 @@ use Rattle.input.specs.Input.{readInput}
 -- The words are those of a template and a script within all limits of docs/FORMAT.md, and the sheet is theirs. The
 -- limits and layout rules are the fields of the two `WellFormed`; what the words of a template and a script are is
 -- `writeTemplate` and `writeScript`.
-pub record Formed (template-words script-words : List ℕ) (s : Sheet) : Type 0 where
+pub record Formed (template script : List ℕ) (s : Sheet) : Type 0 where
   pub kinds : ℕ
-  pub links : List script.Link
-  pub template-formed : template.WellFormed kinds (s .shapes) (s .parts)
-  pub template-written : template-words ≡ template.writeTemplate kinds (s .shapes) (s .parts)
-  pub script-formed : script.WellFormed kinds (s .cards) links
-  pub script-written : script-words ≡ script.writeScript (s .cards) links
+  pub links : List scripts.Link
+  pub template-formed : templates.WellFormed kinds (s .shapes) (s .parts)
+  pub template-written : template ≡ templates.writeTemplate kinds (s .shapes) (s .parts)
+  pub script-formed : scripts.WellFormed kinds (s .cards) links
+  pub script-written : script ≡ scripts.writeScript (s .cards) links
   -- the sheet keeps the script's words and the number of its links
   pub count : s .links ≡ length links
-  pub words : s .script ≡ script-words
+  pub words : s .script ≡ script
 
 -- The words are a list of bookings within all limits: at most 1,024, each of a card and a shape that there are.
 pub record BookingsFormed (cards shapes : ℕ) (bookings : List ℕ) : Type 0 where
@@ -70,6 +69,7 @@ pub record BookingsFormed (cards shapes : ℕ) (bookings : List ℕ) : Type 0 wh
   pub shape-in : (i : ℕ) → i < getD bookings 0 0 → shapeAt bookings i < shapes
 
 -- ================ the numbers of the refusals
+-- A number from low to high.
 abbrev pub FromTo : ℕ → ℕ → ℕ → Type 0
 FromTo low high n = (low ≤ n) × (n ≤ high)
 
@@ -107,57 +107,68 @@ TurnedDown said = (card : ℕ) × (shape : ℕ) × (said ≡ refusal 50 (card �
 pub record FirstDemand : Type 0 where
   -- ---- nothing is refused exactly where all is well-formed
   -- a template is read exactly if its words are those of a well-formed one,
-  pub templates : (words : List ℕ) (t : Template) → (readTemplate words ≡ accepted t)
-      ↔ (template.WellFormed (t .kinds) (t .shapes) (t .parts)
-      × (words ≡ template.writeTemplate (t .kinds) (t .shapes) (t .parts)))
+  pub template-exact : (template : List ℕ) (t : Template) → (readTemplate template ≡ accepted t)
+      ↔ (templates.WellFormed (t .kinds) (t .shapes) (t .parts)
+      × (template ≡ templates.writeTemplate (t .kinds) (t .shapes) (t .parts)))
   -- with a script exactly if the script is well-formed too,
-  pub sheets : (words list : List ℕ) (s : Sheet) → (readSheet words list ≡ accepted s) ↔ Formed words list s
+  pub sheet-exact : (template script : List ℕ) (s : Sheet)
+      → (readSheet template script ≡ accepted s) ↔ Formed template script s
   -- with bookings exactly if these are too,
-  pub bookings : (cards shapes : ℕ) (list : List ℕ)
-      → ((n : ℕ) × (readBookings cards shapes list ≡ accepted n)) ↔ BookingsFormed cards shapes list
+  pub bookings-exact : (cards shapes : ℕ) (bookings : List ℕ)
+      → ((n : ℕ) × (readBookings cards shapes bookings ≡ accepted n)) ↔ BookingsFormed cards shapes bookings
   -- and with a grid, or two, exactly if each has a byte for each pair
-  pub largest-takes : (words list grid : List ℕ) (s : Sheet)
-      → (largestReading words list grid ≡ accepted s) ↔ (Formed words list s × (length grid ≡ size s))
-  pub smallest-takes : (words list booked grid : List ℕ) (s : Sheet)
-      → (smallestReading words list booked grid ≡ accepted s)
-      ↔ (Formed words list s × BookingsFormed (s .cards) (s .shapes) booked × (length grid ≡ size s))
-  pub both-takes : (words list booked : List ℕ) (grids : Grids) (s : Sheet)
-      → (bothReading words list booked grids ≡ accepted s)
-      ↔ (Formed words list s × BookingsFormed (s .cards) (s .shapes) booked
+  pub largest-takes : (template script grid : List ℕ) (s : Sheet)
+      → (largestReading template script grid ≡ accepted s) ↔ (Formed template script s × (length grid ≡ size s))
+  pub smallest-takes : (template script bookings grid : List ℕ) (s : Sheet)
+      → (smallestReading template script bookings grid ≡ accepted s)
+      ↔ (Formed template script s × BookingsFormed (s .cards) (s .shapes) bookings × (length grid ≡ size s))
+  pub both-takes : (template script bookings : List ℕ) (grids : Grids) (s : Sheet)
+      → (bothReading template script bookings grids ≡ accepted s)
+      ↔ (Formed template script s × BookingsFormed (s .cards) (s .shapes) bookings
       × (length (grids .small) ≡ size s) × (length (grids .large) ≡ size s))
   -- ---- the first fault is said, and no grid changes
-  pub template-first : (words : List ℕ) (number at : ℕ) → readTemplate words ≡ turnedDown number at
-      → templateSays words ≡ refusal number (at ∷ [])
-  pub script-first : (words list : List ℕ) (number at : ℕ) → readWith words list ≡ turnedDown number at
-      → scriptSays words list ≡ refusal number (at ∷ [])
-  pub largest-first : (words list before after : List ℕ) (said : Said) (number at : ℕ)
-      → largestReading words list before ≡ turnedDown number at → LargestSays words list before after said
+  pub template-first : (template : List ℕ) (number at : ℕ) → readTemplate template ≡ turnedDown number at
+      → templateSays template ≡ refusal number (at ∷ [])
+  pub script-first : (template script : List ℕ) (number at : ℕ) → readWith template script ≡ turnedDown number at
+      → scriptSays template script ≡ refusal number (at ∷ [])
+  pub largest-first : (template script before after : List ℕ) (said : Said) (number at : ℕ)
+      → largestReading template script before ≡ turnedDown number at → LargestSays template script before after said
       → (said ≡ refusal number (at ∷ [])) × (after ≡ before)
-  pub smallest-first : (words list booked before after : List ℕ) (said : Said) (number at : ℕ)
-      → smallestReading words list booked before ≡ turnedDown number at
-      → SmallestSays words list booked before after said
+  pub smallest-first : (template script bookings before after : List ℕ) (said : Said) (number at : ℕ)
+      → smallestReading template script bookings before ≡ turnedDown number at
+      → SmallestSays template script bookings before after said
       → (said ≡ refusal number (at ∷ [])) × (after ≡ before)
-  pub both-first : (words list booked : List ℕ) (before after : Grids) (said : BothSaid) (number at : ℕ)
-      → bothReading words list booked before ≡ turnedDown number at → BothSays words list booked before after said
+  pub both-first : (template script bookings : List ℕ) (before after : Grids) (said : BothSaid) (number at : ℕ)
+      → bothReading template script bookings before ≡ turnedDown number at
+      → BothSays template script bookings before after said
       → (said .largest ≡ refusal number (at ∷ [])) × (said .smallest ≡ refusal number (at ∷ [])) × (after ≡ before)
-  pub fit-first : (words : List ℕ) (shape : ℕ) (counts : List ℕ) (said : Said) (number at : ℕ)
-      → fitQuestion words shape counts ≡ turnedDown number at → FitSays words shape counts said
+  pub fit-first : (template : List ℕ) (shape : ℕ) (counts : List ℕ) (said : Said) (number at : ℕ)
+      → fitQuestion template shape counts ≡ turnedDown number at → FitSays template shape counts said
       → said ≡ refusal number (at ∷ [])
+  -- ---- where all is well-formed, nothing but 50 is refused
+  pub largest-accepts : (template script before after : List ℕ) (said : Said) (s : Sheet)
+      → Formed template script s → length before ≡ size s → LargestSays template script before after said
+      → (rounds : ℕ) × (struck : ℕ) × (bare : ℕ) × (said ≡ values (rounds ∷ struck ∷ bare ∷ []))
+  pub smallest-accepts : (template script bookings before after : List ℕ) (said : Said) (s : Sheet)
+      → Formed template script s → BookingsFormed (s .cards) (s .shapes) bookings → length before ≡ size s
+      → SmallestSays template script bookings before after said
+      → ((pairs : ℕ) × (said ≡ values (pairs ∷ []))) ⊎ TurnedDown said
   -- ---- a refusal is a listed one, and but for 50 no grid changes
-  pub template-listed : (words : List ℕ) (number : ℕ) (at : List ℕ) → templateSays words ≡ refusal number at
+  pub template-listed : (template : List ℕ) (number : ℕ) (at : List ℕ) → templateSays template ≡ refusal number at
       → TemplateListed number
-  pub script-listed : (words list : List ℕ) (number : ℕ) (at : List ℕ) → scriptSays words list ≡ refusal number at
+  pub script-listed : (template script : List ℕ) (number : ℕ) (at : List ℕ)
+      → scriptSays template script ≡ refusal number at
       → ScriptListed number
-  pub fit-listed : (words : List ℕ) (shape : ℕ) (counts : List ℕ) (number : ℕ) (at : List ℕ)
-      → FitSays words shape counts (refusal number at) → FitListed number
-  pub largest-listed : (words list before after : List ℕ) (number : ℕ) (at : List ℕ)
-      → LargestSays words list before after (refusal number at) → LargestListed number × (after ≡ before)
+  pub fit-listed : (template : List ℕ) (shape : ℕ) (counts : List ℕ) (number : ℕ) (at : List ℕ)
+      → FitSays template shape counts (refusal number at) → FitListed number
+  pub largest-listed : (template script before after : List ℕ) (number : ℕ) (at : List ℕ)
+      → LargestSays template script before after (refusal number at) → LargestListed number × (after ≡ before)
   -- 50 leaves a grid of zeros
-  pub smallest-listed : (words list booked before after : List ℕ) (number : ℕ) (at : List ℕ)
-      → SmallestSays words list booked before after (refusal number at)
+  pub smallest-listed : (template script bookings before after : List ℕ) (number : ℕ) (at : List ℕ)
+      → SmallestSays template script bookings before after (refusal number at)
       → (SmallestListed number × (after ≡ before)) ⊎ ((number ≡ 50) × (after ≡ replicate (length before) 0))
-  pub both-listed : (words list booked : List ℕ) (before after : Grids) (said : BothSaid)
-      → BothSays words list booked before after said → (number : ℕ) (at : List ℕ)
+  pub both-listed : (template script bookings : List ℕ) (before after : Grids) (said : BothSaid)
+      → BothSays template script bookings before after said → (number : ℕ) (at : List ℕ)
       → ((said .largest ≡ refusal number at) → SmallestListed number × (after ≡ before))
       × ((said .smallest ≡ refusal number at) → (SmallestListed number × (after ≡ before))
       ⊎ ((number ≡ 50) × (after .small ≡ replicate (length (before .small)) 0)))
@@ -174,16 +185,21 @@ abbrev pub RuleTwo : Sheet → Pairs → Type 0
 RuleTwo s X = (n t : ℕ) → n < s .cards → t < s .shapes → Has s X n t
     → (b : Bag) × Neighbourhood s X n t b × Bags (partOf s t) b
 
+-- Counts of links belong to the bag language of a shape: some bag of the shape's part has, over all shapes, just so many
+-- of each label. `Bags` is the bag language of section 2.1.
+abbrev pub Belong : Template → ℕ → List ℕ → Type 0
+Belong t shape counts =
+    (b : Bag) × Bags (getD (t .parts) shape Part.nothing) b × ((k : ℕ) → total (t .shapes) b k ≡ getD counts k 0)
+
 pub record SecondDemand : Type 0 where
-  -- Counts fit a shape exactly where some bag of the shape's part has these counts: `Bags` is the bag language of
-  -- section 2.1. Asked of a shape of a well-formed template and a count of at most 8,192 for each kind, "Fit counts"
-  -- says 1 exactly there, and else 0.
-  pub counts-fit : (words : List ℕ) (t : Template) → readTemplate words ≡ accepted t
+  -- Asked of a shape of a template that is read, and a count of at most 8,192 for each kind, "Fit counts" says 1 exactly
+  -- where the counts belong to the shape's bag language, and else 0.
+  pub counts-fit : (template : List ℕ) (t : Template) → readTemplate template ≡ accepted t
       → (shape : ℕ) → shape < t .shapes
       → (counts : List ℕ) → length counts ≡ t .kinds → ((k : ℕ) → getD counts k 0 ≤ maxCount)
-      → (said : Said) → FitSays words shape counts said
-      → ((said ≡ values (1 ∷ [])) ↔ Fits (t .shapes) (getD (t .parts) shape Part.nothing) (count counts))
-      × ((said ≡ values (0 ∷ [])) ↔ (Fits (t .shapes) (getD (t .parts) shape Part.nothing) (count counts) → ⊥))
+      → (said : Said) → FitSays template shape counts said
+      → ((said ≡ values (1 ∷ [])) ↔ Belong t shape counts)
+      × ((said ≡ values (0 ∷ [])) ↔ (Belong t shape counts → ⊥))
   -- A grid is a sound typing exactly where it is a typing that meets rule 2.
   pub sound-typing : (s : Sheet) (grid : List ℕ) → SoundTyping s grid ↔ (Typing s grid × RuleTwo s (on grid))
 
@@ -199,7 +215,7 @@ pub record TwoTypings (s : Sheet) (bookings large small : List ℕ) (of-large of
   -- and each sound typing that has them lies between the two
   pub between : (TurnedDown of-small → ⊥) → (h : List ℕ) → SoundTyping s h → Holds s (Booked bookings) (on h)
       → Below s (on small) (on h) × Below s (on h) (on large)
-  -- whatever is booked, a card has no shape in the largest exactly if no sound typing gives it one
+  -- whatever is bookings, a card has no shape in the largest exactly if no sound typing gives it one
   pub shapeless : (n : ℕ) → n < s .cards
       → ((t : ℕ) → t < s .shapes → on large (place s n t) ≡ false)
       ↔ ((h : List ℕ) → SoundTyping s h → (t : ℕ) → t < s .shapes → on h (place s n t) ≡ false)
@@ -212,18 +228,18 @@ pub record TwoTypings (s : Sheet) (bookings large small : List ℕ) (of-large of
   -- there is at most one round more than there are strikes
   pub bound : (rounds struck bare : ℕ) → of-large ≡ values (rounds ∷ struck ∷ bare ∷ []) → rounds ≤ struck + 1
 
--- For every well-formed template, script and list of bookings, and two grids of the right size whatever their bytes:
+-- For every well-formed template, script and script of bookings, and two grids of the right size whatever their bytes:
 -- what is left by the two calls, and what by the one call for both.
 pub record ThirdDemand : Type 0 where
-  pub apart : (words list bookings : List ℕ) (s : Sheet) → Formed words list s
+  pub apart : (template script bookings : List ℕ) (s : Sheet) → Formed template script s
       → BookingsFormed (s .cards) (s .shapes) bookings
       → (large-before small-before : List ℕ) → length large-before ≡ size s → length small-before ≡ size s
       → (large small : List ℕ) (of-large of-small : Said)
-      → LargestSays words list large-before large of-large
-      → SmallestSays words list bookings small-before small of-small
+      → LargestSays template script large-before large of-large
+      → SmallestSays template script bookings small-before small of-small
       → TwoTypings s bookings large small of-large of-small
-  pub both : (words list bookings : List ℕ) (s : Sheet) → Formed words list s
+  pub both : (template script bookings : List ℕ) (s : Sheet) → Formed template script s
       → BookingsFormed (s .cards) (s .shapes) bookings
       → (before after : Grids) → length (before .large) ≡ size s → length (before .small) ≡ size s
-      → (said : BothSaid) → BothSays words list bookings before after said
+      → (said : BothSaid) → BothSays template script bookings before after said
       → TwoTypings s bookings (after .large) (after .small) (said .largest) (said .smallest)
