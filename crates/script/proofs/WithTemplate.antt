@@ -2,6 +2,7 @@
 -- script-counts, script-refused   what the script's reading says, from what the template's says
 -- BothRead, both-read             template and script are both read
 -- card-links-none, card-links-outside, card-links-part   a card's links: none, or its words
+-- links-start-none, links-start-outside, links-start-part   where they start
 -- Assumes nothing.
 use Prim.Native.Nat.{ℕ, _≤_, _<_}
 use mathlib.Core.Path.{_≡_, refl, sym, ap, _∙_}
@@ -12,8 +13,9 @@ use Rattle.words.specs.Reading.{Reading, accepted, then, saidOf}
 use Rattle.words.proofs.Readings.{then-accepted, said-turned}
 use Rattle.template.specs.Template.{Template, readTemplate, templateSays}
 use Rattle.template.proofs.Answers.{template-read, template-turned}
-use Rattle.script.specs.Link.{cardWords}
+use Rattle.script.specs.Link.{fromIndex, cardWords, below}
 use Rattle.script.specs.Script.{countsOf, readScript, scriptValues, readWith, scriptSays, cardLinks}
+use Rattle.script.specs.Script.{linksStart}
 use Rattle.script.proofs.Reading.{Accepted, script-accepted}
 use Rattle.script.proofs.Answers.{script-read}
 
@@ -52,6 +54,12 @@ unfolding scriptSays cardLinks
 card-links-none template script card number place e =
     rw (said-turned scriptValues (readWith template script) number place e) refl
 
+pub links-start-none : (template script : List ℕ) (card number place : ℕ)
+    → refusal number (place ∷ []) ≡ scriptSays template script → 0 ≡ linksStart template script card
+unfolding scriptSays
+links-start-none template script card number place e =
+    rw (said-turned scriptValues (readWith template script) number place e) refl
+
 module _ (template script : List ℕ) (N M card : ℕ) (both : BothRead template script N M) where
   pub card-links-outside : N ≤ card → [] ≡ cardLinks template script card
   unfolding cardLinks
@@ -60,3 +68,9 @@ module _ (template script : List ℕ) (N M card : ℕ) (both : BothRead template
   pub card-links-part : card < N → cardWords script card M ≡ cardLinks template script card
   unfolding cardLinks
   card-links-part h = rw (both .reading, lt-ltb card N h) refl
+
+  pub links-start-outside : N ≤ card → 0 ≡ linksStart template script card
+  links-start-outside h = rw (both .reading, le-ltb card N h) refl
+
+  pub links-start-part : card < N → fromIndex (below script card M) ≡ linksStart template script card
+  links-start-part h = rw (both .reading, lt-ltb card N h) refl

@@ -4,6 +4,7 @@
 -- readWith                              a script read with a template
 -- scriptSays                            what the operation "Read a script" says
 -- cardLinks                             the words that the operation "Links of a card" gives
+-- linksStart                            the word of the script at which these start
 -- Assumes nothing.
 use Prim.Native.Nat.{ℕ, zero, suc, _+_, _*_}
 use mathlib.Core.Bool.{not, cond}
@@ -14,7 +15,7 @@ use Rattle.words.specs.Said.{Said}
 use Rattle.words.specs.Limits.{maxCards, maxLinks}
 use Rattle.words.specs.Reading.{Reading, accepted, turnedDown, refuse, then, saidOf}
 use Rattle.template.specs.Template.{readTemplate}
-use Rattle.script.specs.Link.{fromIndex, kindIndex, toIndex, fromAt, kindAt, toAt, above, cardWords}
+use Rattle.script.specs.Link.{fromIndex, kindIndex, toIndex, fromAt, kindAt, toAt, above, cardWords, below}
 
 -- How many cards and links a script has.
 pub record ScriptCounts : Type 0 where
@@ -65,3 +66,13 @@ linksOf (turnedDown number place) script card = []
 
 unfoldable pub cardLinks : List ℕ → List ℕ → ℕ → List ℕ
 cardLinks template script card = linksOf (readWith template script) script card
+
+-- The word of the script at which that part starts: 0 where template or script is refused, or the card is not below the
+-- count of cards; else the first word after those of the links that start at a card below.
+abbrev pub startOf : Reading ScriptCounts → List ℕ → ℕ → ℕ
+startOf (accepted counts) script card =
+    cond (ltb card (counts .cards)) (fromIndex (below script card (counts .links))) 0
+startOf (turnedDown number place) script card = 0
+
+abbrev pub linksStart : List ℕ → List ℕ → ℕ → ℕ
+linksStart template script card = startOf (readWith template script) script card

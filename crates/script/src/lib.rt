@@ -5,13 +5,13 @@ use words::MAX_CARDS;
 use words::MAX_LINKS;
 use words::wide;
 ghost use mathlib.Core.Path.{_≡_};
-ghost use Prim.Native.Nat.{ℕ, suc, _≤_, _<_};
+ghost use Prim.Native.Nat.{ℕ, suc, _+_, _*_, _≤_, _<_};
 ghost use lib.ListN.{length, getD};
 ghost use Rattle.words.specs.Reading.{Reading, accepted, saidOf};
-ghost use Rattle.script.specs.Link.{kindAt, greater, above, Ascending, cardWords, below, kindCount};
+ghost use Rattle.script.specs.Link.{fromIndex, kindAt, greater, above, Ascending, cardWords, below, kindCount};
 ghost use Rattle.script.specs.Answer.{scriptSaid};
 ghost use Rattle.script.specs.Script.{ScriptCounts, countsOf, readLinks, readScript, scriptValues, scriptSays};
-ghost use Rattle.script.specs.Script.{cardLinks};
+ghost use Rattle.script.specs.Script.{cardLinks, linksStart};
 ghost use Rattle.script.specs.Steps.{afterLink, LinkIn, Within};
 
 // The number of a card: it counts the script's cards from 0.
@@ -162,16 +162,20 @@ pub fn card_part(script: &[u16], links: usize, card: usize) -> &[u16]
     requires { ⌜ card < 65536 ⌝ }
     ensures list { λ r. ⌜ now r ≡ cardWords (now (script .entry)) card links ⌝ }
     ensures lent { λ r. ⌜ r .ptr .0 ≡ script .entry .ptr .0 ⌝ }
+    ensures place { λ r. ⌜ r .ptr .1
+        ≡ fromIndex (below (now (script .entry)) card links) * 2 + script .entry .ptr .1 ⌝ }
 {
     let start = count_below(script, links, card);
     let end = count_below(script, links, card + 1);
     &script[2 + 3 * start..2 + 3 * end]
 }
 
-// The links of one card, as a part of the script: where it is empty, the readings tell why.
+// The links of one card, as the part of the script that holds them: where it is empty, the readings tell why.
 pub fn links_of_card<'t, 's>(template: &'t [u16], script: &'s [u16], card: Card) -> &'s [u16]
     ensures list { λ r. ⌜ now r ≡ cardLinks (now (template .entry)) (now (script .entry)) (card .0) ⌝ }
     ensures lent { λ r. ⌜ r .ptr .0 ≡ script .entry .ptr .0 ⌝ }
+    ensures place { λ r. ⌜ r .ptr .1
+        ≡ linksStart (now (template .entry)) (now (script .entry)) (card .0) * 2 + script .entry .ptr .1 ⌝ }
 {
     let none = &script[0..0];
     let read = read_script(template, script);

@@ -1,9 +1,11 @@
 -- `script::card_part` lends the part of the script between two counts.
 -- Assumes nothing.
-use mathlib.Core.Path.{refl}
+use Prim.Native.Nat.{ℕ, _+_, _*_}
+use mathlib.Core.Path.{refl, ap}
 use native.Mathlib.Omega.{arith}
 use denote.Ref.{now}
 use borrow.Author.Needs.{needs}
+use Rattle.script.specs.Link.{fromIndex}
 use Rattle.script.specs.Steps.{Within}
 use Rattle.script.proofs.Cards.{part-within, part-words}
 use Rattle.script.proofs.card_part.Tie as tie
@@ -52,8 +54,10 @@ part-result-end c = omega (arith, lies c .order, lies c .few, lies c .end)
 returns : tie.Need-returns
 returns c =
     let a = c .before in
-    let s = a .before .before .before in
-    (part-words _ _ (s .pre .0) _ _ _ (a .before .count-below .ensures) (a .count-below2 .ensures), refl)
+    let s = a .before .before .before in (
+      part-words _ _ (s .pre .0) _ _ _ (a .before .count-below .ensures) (a .count-below2 .ensures),
+      (refl, ap (λ (x : ℕ). fromIndex x * 2 + s .args .script .ptr .1) (a .before .count-below .ensures)),
+    )
 
 pub card-part-spec : {M : Type 1} → statement M
 card-part-spec =

@@ -1,13 +1,19 @@
 -- `script::links_of_card` lends an empty part or the card's part.
 -- Assumes nothing.
-use mathlib.Core.Path.{refl, sym, ap, subst, _∙_}
+use Prim.Native.Nat.{ℕ, _+_, _*_}
+use mathlib.Core.Path.{_≡_, refl, sym, ap, subst, _∙_}
 use native.Mathlib.Omega.{arith}
 use borrow.Author.Needs.{needs}
 use Rattle.script.specs.Link.{Ascending}
 use Rattle.script.specs.Answer.{scriptSaid}
 use Rattle.script.proofs.WithTemplate.{both-read, card-links-none, card-links-outside, card-links-part}
+use Rattle.script.proofs.WithTemplate.{links-start-none, links-start-outside, links-start-part}
 use Rattle.script.proofs.links_of_card.Tie as tie
 use Rattle.script.proofs.links_of_card.Statement.{statement}
+
+-- Words are two bytes each.
+at-word : {a b : ℕ} (base : ℕ) → a ≡ b → a * 2 + base ≡ b * 2 + base
+at-word base e = ap (λ (x : ℕ). x * 2 + base) e
 
 sub-none : tie.Need-sub-none
 sub-none c = search needs
@@ -28,7 +34,8 @@ returns : tie.Need-returns
 returns c =
     let a = c .before .before in
     let both = both-read _ _ _ _ (sym (ap scriptSaid (a .read .given .1)) ∙ a .before .before .read-script .ensures) in
-    (card-links-outside _ _ _ _ _ both (c .if1 .taken), refl)
+    let outside = c .if1 .taken in
+    (card-links-outside _ _ _ _ _ both outside, (refl, at-word _ (links-start-outside _ _ _ _ _ both outside)))
 
 wide-requires : tie.Need-wide-requires
 wide-requires c κs = search needs
@@ -50,13 +57,18 @@ returns-2 c =
     let w = c .before in
     let a = w .before .before .before .before in
     let both = both-read _ _ _ _ (sym (ap scriptSaid (a .read .given .1)) ∙ a .before .before .read-script .ensures) in
-    let words = card-links-part _ _ _ _ _ both (w .before .before .if1 .left) in
-    (c .card-part .ensures .0 ∙ rw (w .wide2 .ensures .0, w .before .wide .ensures .0) words, c .card-part .ensures .1)
+    let inside = w .before .before .if1 .left in
+    let words = card-links-part _ _ _ _ _ both inside in
+    let start = at-word _ (links-start-part _ _ _ _ _ both inside) in
+    let part = c .card-part .ensures in (
+      part .0 ∙ rw (w .wide2 .ensures .0, w .before .wide .ensures .0) words,
+      (part .1 .0, part .1 .1 ∙ rw (w .wide2 .ensures .0, w .before .wide .ensures .0) start),
+    )
 
 returns-3 : tie.Need-returns-3
 returns-3 c =
     let said = sym (ap scriptSaid (c .enum-told .given .1)) ∙ c .before .before .read-script .ensures in
-    (card-links-none _ _ _ _ _ said, refl)
+    (card-links-none _ _ _ _ _ said, (refl, at-word _ (links-start-none _ _ _ _ _ said)))
 
 pub links-of-card-spec : {M : Type 1} → statement M
 links-of-card-spec =

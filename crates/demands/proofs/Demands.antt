@@ -1,0 +1,204 @@
+-- The three demands of specs/Demands hold.
+--   first-demand    faults get their refusals, and nothing else is refused
+--   second-demand   counts and sound typings are the paper's
+--   third-demand    the smallest and the largest typing
+-- Assumes nothing.
+use Prim.Native.Nat.{ℕ, suc, _≤_, _<_}
+use mathlib.Core.Path.{_≡_, refl, sym, ap, _∙_}
+use mathlib.Core.Logic.{_⊎_, inl, inr, _↔_}
+use mathlib.Core.List.{List, [], _∷_}
+use native.Mathlib.Omega.{arith}
+use lib.ListN.{length, getD}
+use borrow.Author.Tests.{lt-leb, le-ltb, eq-eqb}
+use Rattle.words.specs.Limits.{maxCount}
+use Rattle.words.specs.Said.{Said, values}
+use Rattle.words.specs.Reading.{accepted, turnedDown, saidOf}
+use Rattle.words.proofs.Readings.{numbered-turned}
+use Rattle.template.specs.Template.{Template, readTemplate, templateValues, templateSays}
+use Rattle.template.proofs.Numbers.{template-numbers}
+use Rattle.template.proofs.RoundTrip.{templates-are}
+use Rattle.script.specs.Script.{readWith, scriptValues, scriptSays}
+use Rattle.bags.specs.Part.{Part}
+use Rattle.bags.specs.Bag.{Bag, Bags, Fits}
+use Rattle.bags.specs.Interval.{count}
+use Rattle.bags.proofs.Adequate.{met-is}
+use Rattle.board.specs.Grid.{on, tally}
+use Rattle.sheet.specs.Sheet.{Sheet, partOf, neighboursOf, size}
+use Rattle.bookings.specs.Bookings.{Booked}
+use Rattle.counts.specs.Fit.{firstOver, fitQuestion, FitSays}
+use Rattle.counts.proofs.Numbers.{fit-numbers}
+use Rattle.input.specs.Input.{readInput}
+use Rattle.input.proofs.Inputs.{input-numbers}
+use Rattle.typing.specs.Typing.{Pairs, Has, Met, Typing, SoundTyping}
+use Rattle.typing.specs.Smallest.{IsClosure}
+use Rattle.typing.specs.Demand3.{Outcome, pairs, notMet, Refused, Demand3}
+use Rattle.typing.specs.Answer.{BothSaid}
+use Rattle.typing.specs.Calls.{largestReading, smallestReading, bothReading}
+use Rattle.typing.specs.Calls.{outcomeSaid, BothAnswered, BothFound, LargestFound, SmallestFound}
+use Rattle.typing.proofs.Numbers.{largest-numbers, smallest-numbers, both-numbers}
+use Rattle.typing.proofs.Apart.{apart}
+use Rattle.demands.specs.Demands.{TemplateListed, ScriptListed, FitListed}
+use Rattle.demands.specs.Demands.{LargestListed, SmallestListed, PrinterListed, FirstDemand}
+use Rattle.demands.specs.Demands.{Neighbourhood, RuleTwo, SecondDemand, TurnedDown, TwoTypings, ThirdDemand}
+use Rattle.demands.proofs.Formed.{sheets-are, bookings-are, largest-taken, smallest-taken, both-taken}
+use Rattle.demands.proofs.Listed.{no-values, said-listed, fit-refused, largest-refused, smallest-refused}
+use Rattle.demands.proofs.Listed.{both-refused, script-numbered}
+
+-- ---- the first demand
+pairs-or-down : (said : Said) (o : Outcome) → said ≡ outcomeSaid o
+    → ((m : ℕ) × (said ≡ values (m ∷ []))) ⊎ TurnedDown said
+pairs-or-down said (pairs m) e = inl (m, e)
+pairs-or-down said (notMet n t) e = inr (n, t, e)
+
+pub first-demand : FirstDemand
+unfolding templateSays scriptSays
+first-demand = record {
+  template-exact = templates-are;
+  sheet-exact = sheets-are;
+  bookings-exact = bookings-are;
+  largest-takes = largest-taken;
+  smallest-takes = smallest-taken;
+  both-takes = both-taken;
+  largest-first = λ words list before after said number at e x. rw e at x;
+  smallest-first = λ words list booked before after said number at e x. rw e at x;
+  both-first = λ words list booked before after said number at e x.
+      let y : BothAnswered (turnedDown number at) (Booked booked) before after said = rw e at x in (
+        ap (λ (z : BothSaid). z .largest) (y .0),
+        ap (λ (z : BothSaid). z .smallest) (y .0),
+        y .1,
+      );
+  fit-first = λ words shape counts said number at e x. rw e at x;
+  template-first = λ words number at e. ap (saidOf templateValues) e;
+  script-first = λ words list number at e. ap (saidOf scriptValues) e;
+  template-listed = λ words number at.
+      said-listed TemplateListed templateValues (readTemplate words) number at (template-numbers words);
+  script-listed = λ words list number at.
+      said-listed ScriptListed scriptValues (readWith words list) number at (script-numbered words list);
+  fit-listed = λ words shape counts number at.
+      fit-refused FitListed (fitQuestion words shape counts) (fit-numbers words shape counts) number at;
+  largest-listed = λ words list before after number at.
+      largest-refused LargestListed (largestReading words list before) (largest-numbers words list before)
+      before after number at;
+  smallest-listed = λ words list booked before after number at.
+      smallest-refused SmallestListed (smallestReading words list booked before)
+      (smallest-numbers words list booked before) (Booked booked) before after
+      (λ s e. smallest-taken words list booked before s .0 e .2) number at;
+  both-listed = λ words list booked before after said x number at.
+      both-refused SmallestListed (bothReading words list booked before) (both-numbers words list booked before)
+      (Booked booked) before after (λ s e. both-taken words list booked before s .0 e .2) said x number at;
+  largest-accepts = λ words list before after said s f full x.
+      let found : LargestFound s after said = rw (largest-taken words list before s .1 (f, full)) at x in
+      (found .rounds, found .struck, found .bare, found .says);
+  smallest-accepts = λ words list booked before after said s f b full x.
+      let found : SmallestFound s (Booked booked) after said =
+      rw (smallest-taken words list booked before s .1 (f, b, full)) at x in
+      pairs-or-down said (found .outcome) (found .says);
+  printer-listed = λ bytes number at e.
+      numbered-turned PrinterListed (readInput bytes) number at (input-numbers bytes) e;
+}
+
+-- ---- the second demand
+none-over : (counts : List ℕ) → ((k : ℕ) → getD counts k 0 ≤ maxCount) → length counts ≤ firstOver counts
+unfolding firstOver
+none-over [] low = omega arith
+none-over (w ∷ ws) low = rw (le-ltb maxCount w (low 0)) (omega (arith, none-over ws (λ k. low (suc k))))
+
+module _ (words : List ℕ) (t : Template) (read : readTemplate words ≡ accepted t)
+    (shape : ℕ) (inside : shape < t .shapes)
+    (counts : List ℕ) (whole : length counts ≡ t .kinds) (low : (k : ℕ) → getD counts k 0 ≤ maxCount) where
+  -- the shape's part has a bag with these counts
+  abbrev Fit : Type 0
+  Fit = Fits (t .shapes) (getD (t .parts) shape Part.nothing) (count counts)
+
+  nothing-refused : fitQuestion words shape counts
+      ≡ accepted (record { shapes = t .shapes; part = getD (t .parts) shape Part.nothing; counts = counts })
+  unfolding fitQuestion
+  nothing-refused = rw (
+    read,
+    lt-leb (t .shapes) shape inside,
+    eq-eqb (length counts) (t .kinds) whole,
+    le-ltb (firstOver counts) (length counts) (none-over counts low),
+  ) refl
+
+  counts-fit-exactly : (said : Said) → FitSays words shape counts said
+      → ((said ≡ values (1 ∷ [])) ↔ Fit) × ((said ≡ values (0 ∷ [])) ↔ (Fit → ⊥))
+  counts-fit-exactly said x = by-answer (rw nothing-refused at x)
+    where
+      not-both : {A : Type 0} → said ≡ values (1 ∷ []) → said ≡ values (0 ∷ []) → A
+      not-both e f = let z : _≡_ {A = ℕ} 1 0 = cc in absurd (omega arith)
+
+      by-answer : (Fit × (said ≡ values (1 ∷ []))) ⊎ ((Fit → ⊥) × (said ≡ values (0 ∷ [])))
+          → ((said ≡ values (1 ∷ [])) ↔ Fit) × ((said ≡ values (0 ∷ [])) ↔ (Fit → ⊥))
+      by-answer (inl (f, e)) = ((λ _. f, λ _. e), (λ d. not-both e d, λ g. absurd (g f)))
+      by-answer (inr (g, e)) = ((λ d. not-both d e, λ f. absurd (g f)), (λ _. g, λ _. e))
+
+sound-exactly : (s : Sheet) (grid : List ℕ) → SoundTyping s grid ↔ (Typing s grid × RuleTwo s (on grid))
+sound-exactly s grid = (
+  λ w. (w .typing, λ n t ln lt h. rule n t .0 (w .sound n t ln lt h)),
+  λ h. record { typing = h .0; sound = λ n t ln lt e. rule n t .1 (h .1 n t ln lt e) },
+)
+  where
+    rule : (n t : ℕ) → Met s (on grid) n t ↔ ((b : Bag) × Neighbourhood s (on grid) n t b × Bags (partOf s t) b)
+    rule n t = met-is (s .shapes) (Has s (on grid)) (neighboursOf s n t) (partOf s t)
+
+pub second-demand : SecondDemand
+second-demand = record { counts-fit = counts-fit-exactly; sound-typing = sound-exactly }
+
+-- ---- the third demand
+turned-refused : (said : Said) (o : Outcome) → said ≡ outcomeSaid o → TurnedDown said → Refused o
+turned-refused said (pairs m) e (card, shape, f) = no-values (sym f ∙ e)
+turned-refused said (notMet n t) e d = tt
+
+refused-turned : (said : Said) (o : Outcome) → said ≡ outcomeSaid o → Refused o → TurnedDown said
+refused-turned said (pairs m) e never = absurd never
+refused-turned said (notMet n t) e d = (n, t, e)
+
+pairs-are : (s : Sheet) (Wanted : ℕ → ℕ → Type 0) (large small : List ℕ) (r m b : ℕ) (said : Said) (o : Outcome)
+    → said ≡ outcomeSaid o → Demand3 s Wanted large r m b small o → (TurnedDown said → ⊥)
+    → (X : Pairs) → IsClosure s Wanted X → said ≡ values (tally X (size s) ∷ [])
+pairs-are s Wanted large small r m b said (pairs k) e d taken X c =
+    e ∙ ap (λ (x : ℕ). values (x ∷ [])) (d .pairs-counted k X refl c)
+pairs-are s Wanted large small r m b said (notMet n t) e d taken X c = absurd (taken (n, t, e))
+
+same-first : {r m b x y z : ℕ} → values (r ∷ m ∷ b ∷ []) ≡ values (x ∷ y ∷ z ∷ []) → (r ≡ x) × (m ≡ y)
+same-first e = (cc, cc)
+
+two-typings : (s : Sheet) (bookings large small : List ℕ) (said : BothSaid)
+    → BothFound s (Booked bookings) small large said
+    → TwoTypings s bookings large small (said .largest) (said .smallest)
+two-typings s bookings large small said x =
+    let d = x .demand in
+    let l = x .largest .says in
+    let o = x .smallest .outcome in
+    let e = x .smallest .says in
+    let taken : (TurnedDown (said .smallest) → ⊥) → Refused o → ⊥ =
+    λ never r. never (refused-turned (said .smallest) o e r) in
+    record {
+      turned-down = (
+        λ t. d .turned-down .0 (turned-refused (said .smallest) o e t),
+        λ none. refused-turned (said .smallest) o e (d .turned-down .1 none),
+      );
+      small-sound = λ never. d .small-sound (taken never);
+      large-sound = λ never. d .large-sound (taken never);
+      between = λ never. d .between (taken never);
+      shapeless = d .shapeless;
+      numbers = λ r m X h. let (i, j, k) = d .numbers r m X h in l ∙ rw (i, j, k) refl;
+      some-numbers = d .counts-some;
+      pairs = pairs-are s (Booked bookings) large small (x .largest .rounds) (x .largest .struck) (x .largest .bare)
+          (said .smallest) o e d;
+      bound = λ rounds struck bare f.
+          let (i, j) = same-first (sym l ∙ f) in
+          omega (arith, d .bound, i, j);
+    }
+
+pub third-demand : ThirdDemand
+third-demand = record {
+  apart = λ words list bookings s f b large-before small-before fl fs large small of-large of-small x y.
+      two-typings s bookings large small (record { largest = of-large; smallest = of-small })
+      (apart words list bookings large-before small-before s (largest-taken words list large-before s .1 (f, fl))
+      (smallest-taken words list bookings small-before s .1 (f, b, fs)) large small of-large of-small x y);
+  both = λ words list bookings s f b before after fl fs said x.
+      let taken = both-taken words list bookings before s .1 (f, b, fs, fl) in
+      let found : BothFound s (Booked bookings) (after .small) (after .large) said = rw taken at x in
+      two-typings s bookings (after .large) (after .small) said found;
+}

@@ -1,0 +1,8 @@
+-- Worked: the right answers of the worked sheet are allowed. Refusals: every refusal happens. Refuted: wrong answers
+-- are not allowed. Formed, Listed: what is well-formed is read, and what is refused is listed. Demands: the demands.
+pub mod Worked
+pub mod Refusals
+pub mod Refuted
+pub mod Formed
+pub mod Listed
+pub mod Demands

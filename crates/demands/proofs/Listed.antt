@@ -1,0 +1,96 @@
+-- A refusal that an operation's contract allows is one of a listed number, and changes no grid but for 50.
+--   no-values                                    a refusal is no value
+--   said-listed, fit-refused, largest-refused, smallest-refused, both-refused   from the numbers of the readings
+--   script-numbered                              the numbers that a script with its template is refused with
+-- Assumes nothing.
+use Prim.Native.Nat.{ℕ}
+use mathlib.Core.Path.{_≡_, refl, sym, ap, _∙_, subst}
+use mathlib.Core.Logic.{_⊎_, inl, inr}
+use mathlib.Core.List.{List, [], _∷_}
+use native.Mathlib.Omega.{arith}
+use lib.ListN.{length, replicate}
+use Rattle.words.specs.Said.{values, refusal}
+use Rattle.words.specs.Reading.{Reading, accepted, turnedDown, saidOf}
+use Rattle.words.proofs.Readings.{Numbered, then-numbered, numbered-map}
+use Rattle.template.specs.Template.{readTemplate}
+use Rattle.template.proofs.Numbers.{TemplateNumber, template-numbers}
+use Rattle.script.specs.Script.{readScript, readWith}
+use Rattle.script.proofs.Reading.{ScriptNumber, script-numbers}
+use Rattle.sheet.specs.Sheet.{Sheet, size}
+use Rattle.counts.specs.Fit.{Question, Answers}
+use Rattle.typing.specs.Demand3.{Outcome, pairs, notMet}
+use Rattle.typing.specs.Answer.{BothSaid}
+use Rattle.typing.specs.Calls.{Grids, Leaves}
+use Rattle.typing.specs.Calls.{outcomeSaid, LargestAnswered, SmallestAnswered, BothAnswered}
+use Rattle.demands.specs.Demands.{ScriptListed}
+
+pub no-values : {B : Type 0} {xs at : List ℕ} {number : ℕ} → refusal number at ≡ values xs → B
+no-values e = let z : _≡_ {A = ℕ} 0 1 = cc in absurd (omega arith)
+
+same-number : {n m : ℕ} {xs ys : List ℕ} → refusal n xs ≡ refusal m ys → n ≡ m
+same-number e = cc
+
+module _ (Number : ℕ → Type 0) where
+  -- what a reading says is refused with one of its numbers
+  pub said-listed : {A : Type 0} (found : A → List ℕ) (r : Reading A) (number : ℕ) (at : List ℕ)
+      → Numbered Number r → saidOf found r ≡ refusal number at → Number number
+  said-listed found (accepted a) number at h e = no-values (sym e)
+  said-listed found (turnedDown n p) number at h e = subst Number (same-number e) h
+
+  pub largest-refused : (r : Reading Sheet) → Numbered Number r → (before after : List ℕ) (number : ℕ) (at : List ℕ)
+      → LargestAnswered r before after (refusal number at) → Number number × (after ≡ before)
+  largest-refused (accepted s) h before after number at x = no-values (x .says)
+  largest-refused (turnedDown n p) h before after number at x =
+      (subst Number (sym (same-number (x .0))) h, x .1)
+
+  pub fit-refused : (r : Reading Question) → Numbered Number r → (number : ℕ) (at : List ℕ)
+      → Answers r (refusal number at) → Number number
+  fit-refused (accepted q) h number at (inl x) = no-values (x .1)
+  fit-refused (accepted q) h number at (inr x) = no-values (x .1)
+  fit-refused (turnedDown n p) h number at x = subst Number (sym (same-number x)) h
+
+  -- a refusal of the smallest: a listed one, or 50, which leaves zeros
+  abbrev pub SmallestRefused : ℕ → (List ℕ) → List ℕ → Type 0
+  SmallestRefused number before after =
+      (Number number × (after ≡ before)) ⊎ ((number ≡ 50) × (after ≡ replicate (length before) 0))
+
+  found-refused : (s : Sheet) (Wanted : ℕ → ℕ → Type 0) (before after : List ℕ) (number : ℕ) (at : List ℕ)
+      → length before ≡ size s → (o : Outcome) → refusal number at ≡ outcomeSaid o → Leaves s Wanted after o
+      → (number ≡ 50) × (after ≡ replicate (length before) 0)
+  found-refused s Wanted before after number at full (pairs m) e l = no-values e
+  found-refused s Wanted before after number at full (notMet n t) e l =
+      (same-number e, l .zeros ∙ ap (λ (k : ℕ). replicate k 0) (sym full))
+
+  pub smallest-refused : (r : Reading Sheet) → Numbered Number r → (Wanted : ℕ → ℕ → Type 0) (before after : List ℕ)
+      → ((s : Sheet) → r ≡ accepted s → length before ≡ size s) → (number : ℕ) (at : List ℕ)
+      → SmallestAnswered r Wanted before after (refusal number at) → SmallestRefused number before after
+  smallest-refused (accepted s) h Wanted before after full number at x =
+      inr (found-refused s Wanted before after number at (full s refl) (x .outcome) (x .says) (x .leaves))
+  smallest-refused (turnedDown n p) h Wanted before after full number at x =
+      inl (subst Number (sym (same-number (x .0))) h, x .1)
+
+  pub both-refused : (r : Reading Sheet) → Numbered Number r → (Wanted : ℕ → ℕ → Type 0) (before after : Grids)
+      → ((s : Sheet) → r ≡ accepted s → length (before .small) ≡ size s) → (said : BothSaid)
+      → BothAnswered r Wanted before after said → (number : ℕ) (at : List ℕ)
+      → ((said .largest ≡ refusal number at) → Number number × (after ≡ before))
+      × ((said .smallest ≡ refusal number at) → (Number number × (after ≡ before))
+      ⊎ ((number ≡ 50) × (after .small ≡ replicate (length (before .small)) 0)))
+  both-refused (accepted s) h Wanted before after full said x number at = (
+    λ e. no-values (sym e ∙ x .largest .says),
+    λ e. inr (found-refused s Wanted (before .small) (after .small) number at (full s refl) (x .smallest .outcome)
+        (sym e ∙ x .smallest .says) (x .smallest .leaves)),
+  )
+  both-refused (turnedDown n p) h Wanted before after full said x number at =
+      let large : said .largest ≡ refusal n (p ∷ []) = ap (λ (z : BothSaid). z .largest) (x .0) in
+      let small : said .smallest ≡ refusal n (p ∷ []) = ap (λ (z : BothSaid). z .smallest) (x .0) in (
+        λ e. (subst Number (same-number (sym large ∙ e)) h, x .1),
+        λ e. inl (subst Number (same-number (sym small ∙ e)) h, x .1),
+      )
+
+-- A script is refused with a template's number or one of its own.
+pub script-numbered : (words list : List ℕ) → Numbered ScriptListed (readWith words list)
+script-numbered words list =
+    then-numbered ScriptListed (readTemplate words) (λ t. readScript (t .kinds) list)
+    (numbered-map TemplateNumber ScriptListed (readTemplate words) (λ n h. inl h) (template-numbers words))
+    (λ t. numbered-map ScriptNumber ScriptListed (readScript (t .kinds) list) (λ n h. inr h)
+    (script-numbers (t .kinds) list))

@@ -1,0 +1,115 @@
+-- Wrong answers are not allowed by the contracts: shown on the worked sheet of docs/FORMAT.md, so that each of these
+-- promises is seen to say something.
+--   only-largest, only-met, only-not-met    the right answers are the only ones
+--   grid-untouched            an accepting call that leaves the grid as it was
+--   three-rounds              3 rounds instead of 4
+--   closure-left              50 that leaves the closure in the grid instead of zeros
+--   booking-named             50 that names the booked pair instead of the pair that is not met
+--   met-turned-down           50 for bookings that can be met; unmet-accepted: pairs for bookings that cannot
+--   refusal-changes           a refusal that changes a byte of the grid
+--   size-first, list-first    30 comes before 40: 40 is not allowed, 30 is
+--   all-refused               a reader that refuses this template
+-- Assumes nothing.
+use Prim.Native.Nat.{ℕ}
+use mathlib.Core.Path.{_≡_, refl, ap}
+use mathlib.Core.List.{List, [], _∷_}
+use native.Mathlib.Omega.{arith}
+use lib.ListN.{length, getD}
+use Rattle.words.specs.Said.{Said, values, refusal}
+use Rattle.template.specs.Reading.{readLink, readRun, readPart}
+use Rattle.template.specs.Template.{readShape, readShapes, readTemplate, templateSays}
+use Rattle.bookings.specs.Bookings.{readBookings}
+use Rattle.typing.specs.Calls.{LargestSays, SmallestSays}
+use Rattle.typing.proofs.Existence.{largest-one-answer, smallest-one-answer}
+use Rattle.demands.specs.Worked.{template, script, metBookings, unmetBookings, lastShape, noShapes}
+use Rattle.demands.specs.Worked.{largestAnswer, smallestAnswer, notMetAnswer}
+use Rattle.demands.proofs.Worked.{worked-read, worked-largest, worked-smallest, worked-not-met}
+
+-- ---- the right answers are the only ones
+module _ (before : List ℕ) (six : length before ≡ 6) (after : List ℕ) (said : Said) where
+  pub only-largest : LargestSays template script before after said → (said ≡ largestAnswer) × (after ≡ lastShape)
+  only-largest x =
+      largest-one-answer template script before after lastShape said largestAnswer x (worked-largest before six)
+
+  pub only-met : SmallestSays template script metBookings before after said
+      → (said ≡ smallestAnswer) × (after ≡ lastShape)
+  only-met x = smallest-one-answer template script metBookings before after lastShape said smallestAnswer x
+      (worked-smallest before six)
+
+  pub only-not-met : SmallestSays template script unmetBookings before after said
+      → (said ≡ notMetAnswer) × (after ≡ noShapes)
+  only-not-met x = smallest-one-answer template script unmetBookings before after noShapes said notMetAnswer x
+      (worked-not-met before six)
+
+-- ---- wrong answers
+-- What was in the grid before is not left there, whatever is said, unless it was the answer; so six bytes of 7 are not.
+pub grid-untouched : (before : List ℕ) (said : Said) → length before ≡ 6 → (before ≡ lastShape → ⊥)
+    → LargestSays template script before before said → ⊥
+grid-untouched before said six other x = other (only-largest before six before said x .1)
+
+abbrev pub sevens : List ℕ
+sevens = 7 ∷ 7 ∷ 7 ∷ 7 ∷ 7 ∷ 7 ∷ []
+
+pub sevens-untouched : (said : Said) → LargestSays template script sevens sevens said → ⊥
+sevens-untouched said = grid-untouched sevens said refl (λ e.
+    let z : _≡_ {A = ℕ} 7 0 = ap (λ (g : List ℕ). getD g 0 0) e in omega arith)
+
+-- Three rounds, whatever else is said and written.
+pub three-rounds : (before after : List ℕ) (struck bare : ℕ) → length before ≡ 6
+    → LargestSays template script before after (values (3 ∷ struck ∷ bare ∷ [])) → ⊥
+three-rounds before after struck bare six x =
+    let e = only-largest before six after _ x .0 in
+    let z : _≡_ {A = ℕ} 3 4 = cc in omega arith
+
+-- 50 with the closure of the booking left in the grid.
+pub closure-left : (before : List ℕ) → length before ≡ 6
+    → SmallestSays template script unmetBookings before (1 ∷ 1 ∷ 1 ∷ 0 ∷ 0 ∷ 1 ∷ []) notMetAnswer → ⊥
+closure-left before six x =
+    let e = only-not-met before six _ notMetAnswer x .1 in
+    let z : _≡_ {A = ℕ} 1 0 = ap (λ (g : List ℕ). getD g 0 0) e in omega arith
+
+-- 50 that names the booked pair, (0, 0), which is met.
+pub booking-named : (before after : List ℕ) → length before ≡ 6
+    → SmallestSays template script unmetBookings before after (refusal 50 (0 ∷ 0 ∷ [])) → ⊥
+booking-named before after six x =
+    let e = only-not-met before six after _ x .0 in
+    let z : _≡_ {A = ℕ} 0 1 = cc in omega arith
+
+-- 50 for bookings that can be met.
+pub met-turned-down : (before after place : List ℕ) → length before ≡ 6
+    → SmallestSays template script metBookings before after (refusal 50 place) → ⊥
+met-turned-down before after place six x =
+    let e = only-met before six after _ x .0 in
+    let z : _≡_ {A = ℕ} 0 1 = cc in omega arith
+
+-- A number of pairs for bookings that cannot.
+pub unmet-accepted : (before after : List ℕ) (found : List ℕ) → length before ≡ 6
+    → SmallestSays template script unmetBookings before after (values found) → ⊥
+unmet-accepted before after found six x =
+    let e = only-not-met before six after _ x .0 in
+    let z : _≡_ {A = ℕ} 0 1 = cc in omega arith
+
+-- A grid of five bytes is refused with 40, and not a byte of it changes.
+pub five-refused : (before after : List ℕ) (said : Said) → length before ≡ 5
+    → LargestSays template script before after said → (said ≡ refusal 40 (0 ∷ [])) × (after ≡ before)
+five-refused before after said five x = rw (worked-read, five) at x
+
+pub refusal-changes : (before after : List ℕ) (said : Said) → length before ≡ 5 → (after ≡ before → ⊥)
+    → LargestSays template script before after said → ⊥
+refusal-changes before after said five changed x = changed (five-refused before after said five x .1)
+
+-- An empty list of bookings and a grid of a wrong size, here of five bytes: 30 is said, so 40 is not allowed.
+pub list-first : (before : List ℕ) → SmallestSays template script [] before before (refusal 30 (0 ∷ []))
+unfolding readBookings
+list-first before = rw worked-read (refl, refl)
+
+pub size-first : (before after : List ℕ) → SmallestSays template script [] before after (refusal 40 (0 ∷ [])) → ⊥
+size-first before after x =
+    let e = smallest-one-answer template script [] before after before _ _ x (list-first before) .0 in
+    let z : _≡_ {A = ℕ} 40 30 = cc in omega arith
+
+-- A reader that turns everything down turns this template down, which is read.
+pub all-refused : (number : ℕ) (place : List ℕ) → refusal number place ≡ templateSays template → ⊥
+unfolding readTemplate readShape readShapes readPart readRun readLink templateSays
+all-refused number place e =
+    let z : _≡_ {A = ℕ} 0 1 = cc in omega arith

@@ -1,0 +1,375 @@
+-- The worked sheet of docs/FORMAT.md: the right answers are allowed by the contracts, whatever the grid held before.
+--   worked, worked-read   the sheet that is read, by computation
+--   below-two, below-three, below-six, each-pair   what holds of each number below a small one, and of each pair
+--   names, fitting        the shapes that each shape names, and where the counts fit; board: its board
+--   stands                the board stands for the sheet
+--   four-rounds           three rounds strike something, the fourth nothing
+--   met-closure, unmet-closure          the closures of the two lists of bookings
+--   worked-largest, worked-smallest, worked-not-met   the right answers are allowed
+-- Assumes nothing.
+use Prim.Native.Nat.{ℕ, zero, suc, _+_, _*_, _/_, _%_, _≤_, _<_}
+use mathlib.Core.Path.{_≡_, refl, sym, ap, ap₂, _∙_, subst, subst₂}
+use mathlib.Core.Logic.{_⊎_, inl, inr, ⊎-elim}
+use mathlib.Core.Bool.{Bool, true, false, not, _||_}
+use mathlib.Core.List.{List, [], _∷_}
+use native.Mathlib.Omega.{arith}
+use native.Mathlib.Nat.{le-of-suc-le-suc}
+use lib.Dec.{eqb}
+use lib.ListN.{length, getD, replicate}
+use borrow.Author.Tests.{eqb-true}
+use Rattle.words.specs.Limits.{maxKinds}
+use Rattle.words.specs.Reading.{Reading, accepted}
+use Rattle.words.proofs.Bools.{never-both, or-cases, false-true, false-of-not}
+use Rattle.words.proofs.Places.{place-in, card-of, shape-of}
+use Rattle.bags.specs.Part.{Part, Parts, at-most, named}
+use Rattle.bags.specs.Interval.{count, fits}
+use Rattle.template.specs.Reading.{readLink, readRun, readPart}
+use Rattle.template.specs.Template.{Tabled, readShape, readShapes, readTemplate}
+use Rattle.script.specs.Link.{fromAt, kindAt, toAt, far, above, greater, neighbours}
+use Rattle.script.specs.Script.{readLinks, readScript}
+use Rattle.sheet.specs.Sheet.{Sheet, partOf, place, readSheet}
+use Rattle.sheet.proofs.Accepted.{SheetAccepted, sheet-made}
+use Rattle.board.specs.Grid.{on, bit, tally}
+use Rattle.board.specs.Machine.{all}
+use Rattle.board.specs.Board.{Board}
+use Rattle.board.proofs.Tally.{all-at}
+use Rattle.board.proofs.Rounds.{after, Last, Noisy, struck}
+use Rattle.typing.specs.Needs.{linkTest, metTest, boardOf}
+use Rattle.bookings.specs.Bookings.{cardAt, shapeAt, readPairs, readBookings, Booked}
+use Rattle.typing.specs.Typing.{Pairs, Has, Met, Typing}
+use Rattle.typing.specs.Largest.{Largest, bare, bareCards}
+use Rattle.typing.specs.Smallest.{Closure, booked, follow, IsClosure}
+use Rattle.typing.specs.Demand3.{pairs, notMet}
+use Rattle.typing.specs.Calls.{largestReading, smallestReading, LargestFound, LargestAnswered, LargestSays}
+use Rattle.typing.specs.Calls.{SmallestFound, SmallestAnswered, SmallestSays}
+use Rattle.typing.proofs.Represents.{Represents, Alike, pair-in}
+use Rattle.typing.proofs.Boards.{board-lawful}
+use Rattle.typing.proofs.Largest.{largest-of}
+use Rattle.typing.proofs.Smallest.{BookedIn, closure-in}
+use Rattle.typing.proofs.Instance.{FitsGrid, CountsOf, counts-all, fits-grid, ready, represents}
+use Rattle.demands.specs.Worked.{template, script, metBookings, unmetBookings, lastShape, noShapes}
+use Rattle.demands.specs.Worked.{largestAnswer, smallestAnswer, notMetAnswer}
+
+-- ---- the sheet that is read
+abbrev pub worked : Sheet
+worked = record {
+  shapes = 2;
+  parts = Part.all (Parts.more (Part.link 0 1 1 (at-most 1)) (Parts.more (Part.link 1 0 0 (at-most 1)) Parts.none))
+      ∷ Part.nothing ∷ [];
+  cards = 3;
+  links = 3;
+  script = script;
+}
+
+pub worked-read : readSheet template script ≡ accepted worked
+unfolding readSheet readTemplate readShape readShapes readPart readRun readLink readScript readLinks fromAt kindAt toAt
+    above greater
+worked-read = refl
+
+read : SheetAccepted template 2 worked
+unfolding readTemplate readShape readShapes readPart readRun readLink readScript readLinks fromAt kindAt toAt
+    above greater
+read = sheet-made template script
+    (record { kinds = 2; shapes = 2; parts = worked .parts }) (record { cards = 3; links = 3 }) refl refl
+
+-- ---- numbers below a small one
+pub below-two : (P : ℕ → Type 0) → P 0 → P 1 → (k : ℕ) → k < 2 → P k
+below-two P a b zero l = a
+below-two P a b (suc zero) l = b
+below-two P a b (suc (suc k)) l = absurd (omega arith)
+
+pub below-three : (P : ℕ → Type 0) → P 0 → P 1 → P 2 → (k : ℕ) → k < 3 → P k
+below-three P a b c zero l = a
+below-three P a b c (suc k) l = below-two (λ j. P (suc j)) b c k (le-of-suc-le-suc l)
+
+pub below-six : (P : ℕ → Type 0) → P 0 → P 1 → P 2 → P 3 → P 4 → P 5 → (k : ℕ) → k < 6 → P k
+below-six P a b c d e f zero l = a
+below-six P a b c d e f (suc zero) l = b
+below-six P a b c d e f (suc (suc zero)) l = c
+below-six P a b c d e f (suc (suc (suc k))) l =
+    below-three (λ j. P (suc (suc (suc j)))) d e f k (omega arith)
+
+-- What holds of each pair of the sheet, in the order of the grid.
+pub each-pair : (P : ℕ → ℕ → Type 0) → P 0 0 → P 0 1 → P 1 0 → P 1 1 → P 2 0 → P 2 1
+    → (n t : ℕ) → n < 3 → t < 2 → P n t
+each-pair P a b c d e f n t ln lt = below-three (λ m. P m t)
+    (below-two (P 0) a b t lt) (below-two (P 1) c d t lt) (below-two (P 2) e f t lt) n ln
+
+-- ---- its board
+-- Shape 0 names shape 1 for kind 0 and shape 0 for kind 1; shape 1 names none. An entry is the shape named plus one.
+abbrev names : List ℕ
+names = 2 ∷ 1 ∷ replicate 126 0
+
+-- The entry at a place is what the place's shape names for its label.
+abbrev entryTest : ℕ → Bool
+entryTest p = eqb (getD names p 0) (named (getD (worked .parts) (p / maxKinds) Part.nothing) (p % maxKinds))
+
+entries-computed : all entryTest 128 ≡ true
+unfolding all tally bit
+entries-computed = refl
+
+names-tabled : Tabled (worked .parts) names
+names-tabled t k lt lk =
+    let some : 0 < maxKinds = omega arith in
+    let p = t * maxKinds + k in
+    eqb-true (getD names p 0) (named (getD (worked .parts) (p / maxKinds) Part.nothing) (p % maxKinds))
+    (all-at entryTest 128 entries-computed p (place-in 2 maxKinds t k lt lk))
+    ∙ ap₂ (λ (x y : ℕ). named (getD (worked .parts) x Part.nothing) y) (card-of maxKinds some t k lk)
+    (shape-of maxKinds some t k lk)
+
+-- How many links of each kind a card has.
+abbrev countsAt : ℕ → List ℕ
+countsAt zero = 1 ∷ 1 ∷ []
+countsAt (suc zero) = 1 ∷ 0 ∷ []
+countsAt (suc (suc n)) = 0 ∷ 0 ∷ []
+
+-- Whether card n has counts that fit shape t: cards 0 and 1 those of shape 0, card 2 those of shape 1.
+abbrev fitting : List ℕ
+fitting = 1 ∷ 0 ∷ 1 ∷ 0 ∷ 0 ∷ 1 ∷ []
+
+counts-right : (n : ℕ) → n < 3 → CountsOf worked n (countsAt n)
+unfolding neighbours fromAt kindAt toAt
+counts-right = below-three (λ n. CountsOf worked n (countsAt n))
+    (counts-all read 0 (countsAt 0) (omega arith) (below-two _ refl refl))
+    (counts-all read 1 (countsAt 1) (omega arith) (below-two _ refl refl))
+    (counts-all read 2 (countsAt 2) (omega arith) (below-two _ refl refl))
+
+-- The grid of fits has what the test of a card's counts says.
+abbrev FitAt : ℕ → ℕ → Type 0
+FitAt n t = on fitting (place worked n t) ≡ fits 2 (partOf worked t) (count (countsAt n))
+
+fits-computed : (n t : ℕ) → n < 3 → t < 2 → FitAt n t
+unfolding on
+fits-computed = each-pair FitAt refl refl refl refl refl refl
+
+-- Two counts for each card.
+two-counts : (n : ℕ) → n < 3 → 2 ≡ length (countsAt n)
+two-counts = below-three (λ n. 2 ≡ length (countsAt n)) refl refl refl
+
+fits-right : FitsGrid worked fitting
+fits-right = fits-grid read fitting (λ n t ln lt. (
+  countsAt n,
+  counts-right n ln,
+  fits-computed n t ln lt
+      ∙ ap (λ (x : ℕ). fits x (partOf worked t) (count (countsAt n))) (two-counts n ln),
+))
+
+abbrev pub board : Board
+board = boardOf script names 2 fitting
+
+names-room : 2 * maxKinds ≤ length names
+names-room = omega arith
+
+pub stands : Represents worked board
+stands = represents read names names-tabled names-room fitting fits-right
+
+-- ---- the largest typing
+-- Rounds 1 to 3 strike something: (0, 1), then (1, 0), then (0, 0); round 4 strikes nothing.
+four-rounds : Last board 4
+unfolding after metTest linkTest on all tally bit fromAt kindAt toAt
+four-rounds = record {
+  before = 3;
+  is = refl;
+  quiet = below-six (λ p. after board 3 p ≡ true → board .met (after board 3) p ≡ true)
+      false-true false-true false-true false-true false-true (λ e. refl);
+  noisy = below-three (λ j. Noisy board j)
+      (1, omega arith, refl, refl) (2, omega arith, refl, refl) (0, omega arith, refl, refl);
+}
+
+five-struck : struck board 3 ≡ 5
+unfolding after metTest linkTest on all tally bit fromAt kindAt toAt
+five-struck = refl
+
+left-after-three : Alike worked (after board 3) (on lastShape)
+unfolding after metTest linkTest on all tally bit fromAt kindAt toAt
+left-after-three = below-six (λ p. after board 3 p ≡ on lastShape p) refl refl refl refl refl refl
+
+largest-here : Largest worked 4 5 (on lastShape)
+unfolding four-rounds
+largest-here = subst (λ (m : ℕ). Largest worked 4 m (on lastShape)) five-struck
+    (largest-of stands four-rounds (on lastShape) left-after-three)
+
+last-shape-typing : Typing worked lastShape
+last-shape-typing = record {
+  full = refl;
+  bytes = below-six (λ p. (getD lastShape p 0 ≡ 0) ⊎ (getD lastShape p 0 ≡ 1))
+      (inl refl) (inl refl) (inl refl) (inl refl) (inl refl) (inr refl);
+}
+
+two-bare : 2 ≡ bareCards worked (on lastShape)
+unfolding bareCards bare tally bit on
+two-bare = refl
+
+pub largest-found : LargestFound worked lastShape largestAnswer
+largest-found = record {
+  rounds = 4;
+  struck = 5;
+  bare = 2;
+  says = refl;
+  typing = last-shape-typing;
+  largest = largest-here;
+  counted = two-bare;
+}
+
+pub largest-asked : (before : List ℕ) → length before ≡ 6 → largestReading template script before ≡ accepted worked
+largest-asked before l = rw (worked-read, l) refl
+
+-- The right answer of "Largest" is allowed.
+pub worked-largest : (before : List ℕ) → length before ≡ 6
+    → LargestSays template script before lastShape largestAnswer
+worked-largest before l =
+    subst (λ (r : Reading Sheet). LargestAnswered r before lastShape largestAnswer) (sym (largest-asked before l))
+    largest-found
+
+-- ---- closures
+-- A list of one booking books just that pair.
+one-booked : (c u n t : ℕ) → Booked (1 ∷ c ∷ u ∷ []) n t → (n ≡ c) × (t ≡ u)
+unfolding cardAt shapeAt
+one-booked c u n t b = at (b .booking) (b .listed) (b .card) (b .shape)
+  where
+    at : (i : ℕ) → i < 1 → cardAt (1 ∷ c ∷ u ∷ []) i ≡ n → shapeAt (1 ∷ c ∷ u ∷ []) i ≡ t → (n ≡ c) × (t ≡ u)
+    at zero l e f = (sym e, sym f)
+    at (suc i) l e f = absurd (omega arith)
+
+is-booked : (c u : ℕ) → Booked (1 ∷ c ∷ u ∷ []) c u
+unfolding cardAt shapeAt
+is-booked c u = record { booking = 0; listed = omega arith; card = refl; shape = refl }
+
+one-inside : (c u : ℕ) → c < 3 → u < 2 → BookedIn worked (Booked (1 ∷ c ∷ u ∷ []))
+one-inside c u lc lu n t b = let (e, f) = one-booked c u n t b in (omega (arith, e), omega (arith, f))
+
+-- Counts that fit everywhere: then a pair is met under a set just where the set has all that the pair asks for.
+abbrev anywhere : List ℕ
+anywhere = 1 ∷ 1 ∷ 1 ∷ 1 ∷ 1 ∷ 1 ∷ []
+
+-- With the pair at p the set has all that it asks for.
+abbrev goesOn : Pairs → ℕ → Bool
+goesOn X p = not (X p) || metTest script names 2 anywhere X p
+
+-- A set that has the booking and goes on from each of its pairs has the closure.
+module _ (c v : ℕ) (lc : c < 3) (lv : v < 2) (X : Pairs) (has : Has worked X c v) (on-and-on : all (goesOn X) 6 ≡ true)
+  where
+    has-closure : {n t : ℕ} → Closure worked (Booked (1 ∷ c ∷ v ∷ [])) n t → Has worked X n t
+    has-closure (booked {n} {t} b) =
+        let (e, f) = one-booked c v n t b in
+        subst₂ (λ (x y : ℕ). Has worked X x y) (sym e) (sym f) has
+    has-closure (follow {n} {t} {u} k i l s d) =
+        let (ln, lt) = closure-in stands (one-inside c v lc lv) k in
+        let p = place worked n t in
+        let q = place worked (far script i) u in
+        let asked = stands .needs-exact n t q ln lt .1
+        (record { link = i; shape = u; below = l; starts = s; declares = d; leads = refl }) in
+        let here = has-closure k in
+        let met = ⊎-elim (λ e. never-both here (false-of-not e)) (λ m. m) (or-cases (not (X p))
+        (metTest script names 2 anywhere X p) (all-at (goesOn X) 6 on-and-on p (pair-in stands n t ln lt))) in
+        board-lawful (ready read names names-tabled names-room) anywhere .met-dep X p q met asked
+
+-- The closure of (2, 1) is that pair alone: card 2 has no links.
+met-closure : IsClosure worked (Booked metBookings) (on lastShape)
+unfolding metTest linkTest on all tally bit fromAt kindAt toAt
+met-closure = record {
+  has = λ n t. has-closure 2 1 (omega arith) (omega arith) (on lastShape) refl refl;
+  only = each-pair (λ n t. on lastShape (place worked n t) ≡ true → Closure worked (Booked metBookings) n t)
+      false-true false-true false-true false-true false-true (λ e. booked (is-booked 2 1));
+}
+
+-- The closure of (0, 0): with it (2, 1) and (1, 0), and with (1, 0) the pair (0, 1).
+abbrev reached : List ℕ
+reached = 1 ∷ 1 ∷ 1 ∷ 0 ∷ 0 ∷ 1 ∷ []
+
+abbrev Reached : ℕ → ℕ → Type 0
+Reached n t = Closure worked (Booked unmetBookings) n t
+
+from-booking : Reached 0 0
+from-booking = booked (is-booked 0 0)
+
+by-link-0 : Reached 2 1
+unfolding fromAt kindAt toAt
+by-link-0 = follow from-booking 0 (omega arith) refl (inl (refl, refl))
+
+by-link-1 : Reached 1 0
+unfolding fromAt kindAt toAt
+by-link-1 = follow from-booking 1 (omega arith) refl (inr (inl (refl, refl)))
+
+by-link-2 : Reached 0 1
+unfolding fromAt kindAt toAt
+by-link-2 = follow by-link-1 2 (omega arith) refl (inl (refl, refl))
+
+unmet-closure : IsClosure worked (Booked unmetBookings) (on reached)
+unfolding metTest linkTest on all tally bit fromAt kindAt toAt
+unmet-closure = record {
+  has = λ n t. has-closure 0 0 (omega arith) (omega arith) (on reached) refl refl;
+  only = each-pair (λ n t. on reached (place worked n t) ≡ true → Reached n t)
+      (λ e. from-booking) (λ e. by-link-2) (λ e. by-link-1) false-true false-true (λ e. by-link-0);
+}
+
+-- ---- the smallest typing
+one-pair : 1 ≡ tally (on lastShape) 6
+unfolding tally bit on
+one-pair = refl
+
+-- Every pair of the closure of (2, 1) is met: the largest typing has the same pairs, and is sound.
+pub smallest-found : SmallestFound worked (Booked metBookings) lastShape smallestAnswer
+smallest-found = record {
+  outcome = pairs 1;
+  says = refl;
+  leaves = record {
+    typing = last-shape-typing;
+    closure = met-closure;
+    met = λ n t c.
+        let (ln, lt) = closure-in stands (one-inside 2 1 (omega arith) (omega arith)) c in
+        largest-here .last n t ln lt (met-closure .has n t c);
+    counted = one-pair;
+  };
+}
+
+-- (0, 1) asks that card 0 has no links, but it has; the pair below it, (0, 0), is met.
+unmet-computed : board .met (on reached) 1 ≡ false
+unfolding metTest linkTest on all tally bit fromAt kindAt toAt
+unmet-computed = refl
+
+met-computed : board .met (on reached) 0 ≡ true
+unfolding metTest linkTest on all tally bit fromAt kindAt toAt
+met-computed = refl
+
+pub not-met-found : SmallestFound worked (Booked unmetBookings) noShapes notMetAnswer
+not-met-found = record {
+  outcome = notMet 0 1;
+  says = refl;
+  leaves = record {
+    zeros = refl;
+    set = on reached;
+    closure = unmet-closure;
+    inside = by-link-2;
+    unmet = λ m. never-both (stands .met-exact (on reached) 0 1 (omega arith) (omega arith) .1 m) unmet-computed;
+    lowest = λ m u c l.
+        let first : Met worked (on reached) 0 0 =
+        stands .met-exact (on reached) 0 0 (omega arith) (omega arith) .0 met-computed in
+        let card : 0 ≡ m = omega arith in
+        let shape : 0 ≡ u = omega arith in
+        subst₂ (λ (x y : ℕ). Met worked (on reached) x y) card shape first;
+  };
+}
+
+pub met-asked : (before : List ℕ) → length before ≡ 6
+    → smallestReading template script metBookings before ≡ accepted worked
+unfolding readBookings readPairs cardAt shapeAt
+met-asked before l = rw (worked-read, l) refl
+
+pub unmet-asked : (before : List ℕ) → length before ≡ 6
+    → smallestReading template script unmetBookings before ≡ accepted worked
+unfolding readBookings readPairs cardAt shapeAt
+unmet-asked before l = rw (worked-read, l) refl
+
+-- The right answers of "Smallest" are allowed.
+pub worked-smallest : (before : List ℕ) → length before ≡ 6
+    → SmallestSays template script metBookings before lastShape smallestAnswer
+worked-smallest before l =
+    subst (λ (r : Reading Sheet). SmallestAnswered r (Booked metBookings) before lastShape smallestAnswer)
+    (sym (met-asked before l)) smallest-found
+
+pub worked-not-met : (before : List ℕ) → length before ≡ 6
+    → SmallestSays template script unmetBookings before noShapes notMetAnswer
+worked-not-met before l =
+    subst (λ (r : Reading Sheet). SmallestAnswered r (Booked unmetBookings) before noShapes notMetAnswer)
+    (sym (unmet-asked before l)) not-met-found

@@ -1,0 +1,245 @@
+-- The three demands on one page: what is promised of every call, over plain lists of words and bytes. proofs/Demands
+-- proves each. The code of a call is proved to meet the `…Says` relation of its operation (crates template, script,
+-- counts and calls): on every input, without any premise, with its end reached and nothing undefined on the way. What
+-- follows is said of every answer that such a relation allows.
+--
+-- From the crates below, and defined there in a few lines each:
+--   Said: values, or a refusal with its number and place. Reading: accepted, or turnedDown with number and place.
+--   readTemplate, readScript, readBookings, readSheet, readInput, fitQuestion: the lists of tests of docs/FORMAT.md in
+--   their order, a line each; the first that finds a fault turns down.
+--   templateSays, scriptSays, FitSays, LargestSays, SmallestSays, BothSays: what each operation may say and write.
+--   Sheet: what is read of a template and a script. size: its number of pairs. on grid p: the byte at place p is 1.
+--
+-- Here:
+--   Formed, BookingsFormed              a well-formed template and script; a well-formed list of bookings
+--   TemplateListed .. PrinterListed     the numbers that an operation's refusals have
+--   TurnedDown                          the bookings cannot be met: 50
+--   FirstDemand                         faults get their refusals, and nothing else is refused
+--   Neighbourhood, RuleTwo, Belong, SecondDemand   the bag language and sound typings are the paper's
+--   TwoTypings, ThirdDemand             the smallest and the largest typing
+-- Assumes nothing.
+use Prim.Native.Nat.{ℕ, _+_, _*_, _≤_, _<_}
+use mathlib.Core.Path.{_≡_}
+use mathlib.Core.Logic.{_⊎_, _↔_}
+use mathlib.Core.Bool.{false}
+use mathlib.Core.List.{List, [], _∷_}
+use lib.ListN.{length, getD, replicate}
+use Rattle.words.specs.Limits.{maxCount, maxBookings}
+use Rattle.words.specs.Said.{Said, values, refusal}
+use Rattle.words.specs.Reading.{accepted, turnedDown}
+use Rattle.bags.specs.Part.{Part}
+use Rattle.bags.specs.Bag.{Bag, Bags, total}
+use Rattle.bags.proofs.Adequate.{Flattened}
+use Rattle.template.specs.Template.{Template, readTemplate, templateSays}
+use Rattle.template.specs.Writer as templates
+use Rattle.script.specs.Script.{readWith, scriptSays}
+use Rattle.script.specs.Writer as scripts
+use Rattle.sheet.specs.Sheet.{Sheet, partOf, neighboursOf, place, size, readSheet}
+use Rattle.bookings.specs.Bookings.{cardAt, shapeAt, readBookings, Booked}
+use Rattle.counts.specs.Fit.{fitQuestion, FitSays}
+use Rattle.board.specs.Grid.{on, tally}
+use Rattle.typing.specs.Typing.{Pairs, Has, Below, Holds, Typing, SoundTyping}
+use Rattle.typing.specs.Largest.{Largest, bareCards}
+use Rattle.typing.specs.Smallest.{IsClosure}
+use Rattle.typing.specs.Answer.{BothSaid}
+use Rattle.typing.specs.Calls.{Grids, largestReading, smallestReading, bothReading}
+use Rattle.typing.specs.Calls.{LargestSays, SmallestSays, BothSays}
+use Rattle.input.specs.Input.{readInput}
+
+-- ================ what is well-formed
+-- The words are those of a template and a script within all limits of docs/FORMAT.md, and the sheet is theirs. The
+-- limits and layout rules are the fields of the two `WellFormed`; what the words of a template and a script are is
+-- `writeTemplate` and `writeScript`.
+pub record Formed (template script : List ℕ) (s : Sheet) : Type 0 where
+  pub kinds : ℕ
+  pub links : List scripts.Link
+  pub template-formed : templates.WellFormed kinds (s .shapes) (s .parts)
+  pub template-written : template ≡ templates.writeTemplate kinds (s .shapes) (s .parts)
+  pub script-formed : scripts.WellFormed kinds (s .cards) links
+  pub script-written : script ≡ scripts.writeScript (s .cards) links
+  -- the sheet keeps the script's words and the number of its links
+  pub count : s .links ≡ length links
+  pub words : s .script ≡ script
+
+-- The words are a list of bookings within all limits: at most 1,024, each of a card and a shape that there are.
+pub record BookingsFormed (cards shapes : ℕ) (bookings : List ℕ) : Type 0 where
+  pub few : getD bookings 0 0 ≤ maxBookings
+  pub size : length bookings ≡ 1 + 2 * getD bookings 0 0
+  pub card-in : (i : ℕ) → i < getD bookings 0 0 → cardAt bookings i < cards
+  pub shape-in : (i : ℕ) → i < getD bookings 0 0 → shapeAt bookings i < shapes
+
+-- ================ the numbers of the refusals
+-- A number from low to high.
+abbrev pub FromTo : ℕ → ℕ → ℕ → Type 0
+FromTo low high n = (low ≤ n) × (n ≤ high)
+
+-- "Read a template": 1 to 12.
+abbrev pub TemplateListed : ℕ → Type 0
+TemplateListed n = FromTo 1 12 n
+
+-- "Read a script": the template's, and 20 to 25.
+abbrev pub ScriptListed : ℕ → Type 0
+ScriptListed n = TemplateListed n ⊎ FromTo 20 25 n
+
+-- "Fit counts": the template's, and 41 to 43.
+abbrev pub FitListed : ℕ → Type 0
+FitListed n = TemplateListed n ⊎ FromTo 41 43 n
+
+-- "Largest": those of the script, and 40.
+abbrev pub LargestListed : ℕ → Type 0
+LargestListed n = ScriptListed n ⊎ (n ≡ 40)
+
+-- "Smallest" and "Both": these, and 30 to 33; 50 stands apart.
+abbrev pub SmallestListed : ℕ → Type 0
+SmallestListed n = LargestListed n ⊎ FromTo 30 33 n
+
+-- The printer's input: 60.
+abbrev pub PrinterListed : ℕ → Type 0
+PrinterListed n = n ≡ 60
+
+-- The bookings are turned down: the answer is 50, with a card and a shape.
+abbrev pub TurnedDown : Said → Type 0
+TurnedDown said = (card : ℕ) × (shape : ℕ) × (said ≡ refusal 50 (card ∷ shape ∷ []))
+
+-- ================ the first demand
+-- What breaks a limit or a layout rule gets the refusal of the first fault that the format lists, and no lent buffer
+-- changes. What breaks none is not refused, but for 50.
+pub record FirstDemand : Type 0 where
+  -- ---- nothing is refused exactly where all is well-formed
+  -- a template is read exactly if its words are those of a well-formed one,
+  pub template-exact : (template : List ℕ) (t : Template) → (readTemplate template ≡ accepted t)
+      ↔ (templates.WellFormed (t .kinds) (t .shapes) (t .parts)
+      × (template ≡ templates.writeTemplate (t .kinds) (t .shapes) (t .parts)))
+  -- with a script exactly if the script is well-formed too,
+  pub sheet-exact : (template script : List ℕ) (s : Sheet)
+      → (readSheet template script ≡ accepted s) ↔ Formed template script s
+  -- with bookings exactly if these are too,
+  pub bookings-exact : (cards shapes : ℕ) (bookings : List ℕ)
+      → ((n : ℕ) × (readBookings cards shapes bookings ≡ accepted n)) ↔ BookingsFormed cards shapes bookings
+  -- and with a grid, or two, exactly if each has a byte for each pair
+  pub largest-takes : (template script grid : List ℕ) (s : Sheet)
+      → (largestReading template script grid ≡ accepted s) ↔ (Formed template script s × (length grid ≡ size s))
+  pub smallest-takes : (template script bookings grid : List ℕ) (s : Sheet)
+      → (smallestReading template script bookings grid ≡ accepted s)
+      ↔ (Formed template script s × BookingsFormed (s .cards) (s .shapes) bookings × (length grid ≡ size s))
+  pub both-takes : (template script bookings : List ℕ) (grids : Grids) (s : Sheet)
+      → (bothReading template script bookings grids ≡ accepted s)
+      ↔ (Formed template script s × BookingsFormed (s .cards) (s .shapes) bookings
+      × (length (grids .small) ≡ size s) × (length (grids .large) ≡ size s))
+  -- ---- the first fault is said, and no grid changes
+  pub template-first : (template : List ℕ) (number at : ℕ) → readTemplate template ≡ turnedDown number at
+      → templateSays template ≡ refusal number (at ∷ [])
+  pub script-first : (template script : List ℕ) (number at : ℕ) → readWith template script ≡ turnedDown number at
+      → scriptSays template script ≡ refusal number (at ∷ [])
+  pub largest-first : (template script before after : List ℕ) (said : Said) (number at : ℕ)
+      → largestReading template script before ≡ turnedDown number at → LargestSays template script before after said
+      → (said ≡ refusal number (at ∷ [])) × (after ≡ before)
+  pub smallest-first : (template script bookings before after : List ℕ) (said : Said) (number at : ℕ)
+      → smallestReading template script bookings before ≡ turnedDown number at
+      → SmallestSays template script bookings before after said
+      → (said ≡ refusal number (at ∷ [])) × (after ≡ before)
+  pub both-first : (template script bookings : List ℕ) (before after : Grids) (said : BothSaid) (number at : ℕ)
+      → bothReading template script bookings before ≡ turnedDown number at
+      → BothSays template script bookings before after said
+      → (said .largest ≡ refusal number (at ∷ [])) × (said .smallest ≡ refusal number (at ∷ [])) × (after ≡ before)
+  pub fit-first : (template : List ℕ) (shape : ℕ) (counts : List ℕ) (said : Said) (number at : ℕ)
+      → fitQuestion template shape counts ≡ turnedDown number at → FitSays template shape counts said
+      → said ≡ refusal number (at ∷ [])
+  -- ---- where all is well-formed, nothing but 50 is refused
+  pub largest-accepts : (template script before after : List ℕ) (said : Said) (s : Sheet)
+      → Formed template script s → length before ≡ size s → LargestSays template script before after said
+      → (rounds : ℕ) × (struck : ℕ) × (bare : ℕ) × (said ≡ values (rounds ∷ struck ∷ bare ∷ []))
+  pub smallest-accepts : (template script bookings before after : List ℕ) (said : Said) (s : Sheet)
+      → Formed template script s → BookingsFormed (s .cards) (s .shapes) bookings → length before ≡ size s
+      → SmallestSays template script bookings before after said
+      → ((pairs : ℕ) × (said ≡ values (pairs ∷ []))) ⊎ TurnedDown said
+  -- ---- a refusal is a listed one, and but for 50 no grid changes
+  pub template-listed : (template : List ℕ) (number : ℕ) (at : List ℕ) → templateSays template ≡ refusal number at
+      → TemplateListed number
+  pub script-listed : (template script : List ℕ) (number : ℕ) (at : List ℕ)
+      → scriptSays template script ≡ refusal number at
+      → ScriptListed number
+  pub fit-listed : (template : List ℕ) (shape : ℕ) (counts : List ℕ) (number : ℕ) (at : List ℕ)
+      → FitSays template shape counts (refusal number at) → FitListed number
+  pub largest-listed : (template script before after : List ℕ) (number : ℕ) (at : List ℕ)
+      → LargestSays template script before after (refusal number at) → LargestListed number × (after ≡ before)
+  -- 50 leaves a grid of zeros
+  pub smallest-listed : (template script bookings before after : List ℕ) (number : ℕ) (at : List ℕ)
+      → SmallestSays template script bookings before after (refusal number at)
+      → (SmallestListed number × (after ≡ before)) ⊎ ((number ≡ 50) × (after ≡ replicate (length before) 0))
+  pub both-listed : (template script bookings : List ℕ) (before after : Grids) (said : BothSaid)
+      → BothSays template script bookings before after said → (number : ℕ) (at : List ℕ)
+      → ((said .largest ≡ refusal number at) → SmallestListed number × (after ≡ before))
+      × ((said .smallest ≡ refusal number at) → (SmallestListed number × (after ≡ before))
+      ⊎ ((number ≡ 50) × (after .small ≡ replicate (length (before .small)) 0)))
+  pub printer-listed : (bytes : List ℕ) (number at : ℕ) → readInput bytes ≡ turnedDown number at → PrinterListed number
+
+-- ================ the second demand
+-- The paper's expression for what a card's links may count as under a typing (3.2): for each link one of the shapes
+-- that the far card has, each as (label, shape); `Flattened` are the bags of that expression.
+abbrev pub Neighbourhood : Sheet → Pairs → ℕ → ℕ → Bag → Type 0
+Neighbourhood s X n t b = Flattened (s .shapes) (Has s X) (neighboursOf s n t) b
+
+-- Rule 2: where the typing gives a card a shape, the expression and the shape's part have a bag in common.
+abbrev pub RuleTwo : Sheet → Pairs → Type 0
+RuleTwo s X = (n t : ℕ) → n < s .cards → t < s .shapes → Has s X n t
+    → (b : Bag) × Neighbourhood s X n t b × Bags (partOf s t) b
+
+-- Counts of links belong to the bag language of a shape: some bag of the shape's part has, over all shapes, just so many
+-- of each label. `Bags` is the bag language of section 2.1.
+abbrev pub Belong : Template → ℕ → List ℕ → Type 0
+Belong t shape counts =
+    (b : Bag) × Bags (getD (t .parts) shape Part.nothing) b × ((k : ℕ) → total (t .shapes) b k ≡ getD counts k 0)
+
+pub record SecondDemand : Type 0 where
+  -- Asked of a shape of a template that is read, and a count of at most 8,192 for each kind, "Fit counts" says 1 exactly
+  -- where the counts belong to the shape's bag language, and else 0.
+  pub counts-fit : (template : List ℕ) (t : Template) → readTemplate template ≡ accepted t
+      → (shape : ℕ) → shape < t .shapes
+      → (counts : List ℕ) → length counts ≡ t .kinds → ((k : ℕ) → getD counts k 0 ≤ maxCount)
+      → (said : Said) → FitSays template shape counts said
+      → ((said ≡ values (1 ∷ [])) ↔ Belong t shape counts)
+      × ((said ≡ values (0 ∷ [])) ↔ (Belong t shape counts → ⊥))
+  -- A grid is a sound typing exactly where it is a typing that meets rule 2.
+  pub sound-typing : (s : Sheet) (grid : List ℕ) → SoundTyping s grid ↔ (Typing s grid × RuleTwo s (on grid))
+
+-- ================ the third demand
+-- The two grids and what was said of them, on a sheet with bookings.
+pub record TwoTypings (s : Sheet) (bookings large small : List ℕ) (of-large of-small : Said) : Type 0 where
+  -- the bookings are turned down exactly if no sound typing has them all
+  pub turned-down : TurnedDown of-small
+      ↔ ((h : List ℕ) → SoundTyping s h → Holds s (Booked bookings) (on h) → ⊥)
+  -- where they are not, both grids are sound typings that have the bookings,
+  pub small-sound : (TurnedDown of-small → ⊥) → SoundTyping s small × Holds s (Booked bookings) (on small)
+  pub large-sound : (TurnedDown of-small → ⊥) → SoundTyping s large × Holds s (Booked bookings) (on large)
+  -- and each sound typing that has them lies between the two
+  pub between : (TurnedDown of-small → ⊥) → (h : List ℕ) → SoundTyping s h → Holds s (Booked bookings) (on h)
+      → Below s (on small) (on h) × Below s (on h) (on large)
+  -- whatever is bookings, a card has no shape in the largest exactly if no sound typing gives it one
+  pub shapeless : (n : ℕ) → n < s .cards
+      → ((t : ℕ) → t < s .shapes → on large (place s n t) ≡ false)
+      ↔ ((h : List ℕ) → SoundTyping s h → (t : ℕ) → t < s .shapes → on h (place s n t) ≡ false)
+  -- rounds, strikes and cards with no shape are those of the definition by rounds, which has one result
+  pub numbers : (r m : ℕ) (X : Pairs) → Largest s r m X → of-large ≡ values (r ∷ m ∷ bareCards s X ∷ [])
+  pub some-numbers : (r : ℕ) × (m : ℕ) × (X : Pairs) × Largest s r m X
+  -- pairs are those of the closure of the bookings
+  pub pairs : (TurnedDown of-small → ⊥) → (X : Pairs) → IsClosure s (Booked bookings) X
+      → of-small ≡ values (tally X (size s) ∷ [])
+  -- there is at most one round more than there are strikes
+  pub bound : (rounds struck bare : ℕ) → of-large ≡ values (rounds ∷ struck ∷ bare ∷ []) → rounds ≤ struck + 1
+
+-- For every well-formed template, script and script of bookings, and two grids of the right size whatever their bytes:
+-- what is left by the two calls, and what by the one call for both.
+pub record ThirdDemand : Type 0 where
+  pub apart : (template script bookings : List ℕ) (s : Sheet) → Formed template script s
+      → BookingsFormed (s .cards) (s .shapes) bookings
+      → (large-before small-before : List ℕ) → length large-before ≡ size s → length small-before ≡ size s
+      → (large small : List ℕ) (of-large of-small : Said)
+      → LargestSays template script large-before large of-large
+      → SmallestSays template script bookings small-before small of-small
+      → TwoTypings s bookings large small of-large of-small
+  pub both : (template script bookings : List ℕ) (s : Sheet) → Formed template script s
+      → BookingsFormed (s .cards) (s .shapes) bookings
+      → (before after : Grids) → length (before .large) ≡ size s → length (before .small) ≡ size s
+      → (said : BothSaid) → BothSays template script bookings before after said
+      → TwoTypings s bookings (after .large) (after .small) (said .largest) (said .smallest)
