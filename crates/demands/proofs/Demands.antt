@@ -19,8 +19,7 @@ use Rattle.template.proofs.Numbers.{template-numbers}
 use Rattle.template.proofs.RoundTrip.{templates-are}
 use Rattle.script.specs.Script.{readWith, scriptValues, scriptSays}
 use Rattle.bags.specs.Part.{Part}
-use Rattle.bags.specs.Bag.{Bag, Bags, Fits}
-use Rattle.bags.specs.Interval.{count}
+use Rattle.bags.specs.Bag.{Bag, Bags, Fits, count}
 use Rattle.bags.proofs.Adequate.{met-is}
 use Rattle.board.specs.Grid.{on, tally}
 use Rattle.sheet.specs.Sheet.{Sheet, partOf, neighboursOf, size}
@@ -33,13 +32,13 @@ use Rattle.typing.specs.Typing.{Pairs, Has, Met, Typing, SoundTyping}
 use Rattle.typing.specs.Smallest.{IsClosure}
 use Rattle.typing.specs.Demand3.{Outcome, pairs, notMet, Refused, Demand3}
 use Rattle.typing.specs.Answer.{BothSaid}
-use Rattle.typing.specs.Calls.{largestReading, smallestReading, bothReading}
-use Rattle.typing.specs.Calls.{outcomeSaid, BothAnswered, BothFound, LargestFound, SmallestFound}
+use Rattle.typing.specs.Calls.{largestReading, smallestReading, bothReading, outcomeSaid, BothAnswered, BothFound}
+use Rattle.typing.specs.Calls.{LargestFound, SmallestFound}
 use Rattle.typing.proofs.Numbers.{largest-numbers, smallest-numbers, both-numbers}
 use Rattle.typing.proofs.Apart.{apart}
-use Rattle.demands.specs.Demands.{TemplateListed, ScriptListed, FitListed}
-use Rattle.demands.specs.Demands.{LargestListed, SmallestListed, PrinterListed, FirstDemand}
-use Rattle.demands.specs.Demands.{Neighbourhood, RuleTwo, SecondDemand, TurnedDown, TwoTypings, ThirdDemand}
+use Rattle.demands.specs.Demands.{TemplateListed, ScriptListed, FitListed, LargestListed, SmallestListed}
+use Rattle.demands.specs.Demands.{PrinterListed, FirstDemand, Neighbourhood, RuleTwo, SecondDemand, TurnedDown}
+use Rattle.demands.specs.Demands.{TwoTypings, ThirdDemand}
 use Rattle.demands.proofs.Formed.{sheets-are, bookings-are, largest-taken, smallest-taken, both-taken}
 use Rattle.demands.proofs.Listed.{no-values, said-listed, fit-refused, largest-refused, smallest-refused}
 use Rattle.demands.proofs.Listed.{both-refused, script-numbered}

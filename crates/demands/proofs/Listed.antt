@@ -20,8 +20,7 @@ use Rattle.sheet.specs.Sheet.{Sheet, size}
 use Rattle.counts.specs.Fit.{Question, Answers}
 use Rattle.typing.specs.Demand3.{Outcome, pairs, notMet}
 use Rattle.typing.specs.Answer.{BothSaid}
-use Rattle.typing.specs.Calls.{Grids, Leaves}
-use Rattle.typing.specs.Calls.{outcomeSaid, LargestAnswered, SmallestAnswered, BothAnswered}
+use Rattle.typing.specs.Calls.{Grids, Leaves, outcomeSaid, LargestAnswered, SmallestAnswered, BothAnswered}
 use Rattle.demands.specs.Demands.{ScriptListed}
 
 pub no-values : {B : Type 0} {xs at : List ℕ} {number : ℕ} → refusal number at ≡ values xs → B

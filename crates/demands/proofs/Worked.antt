@@ -22,7 +22,8 @@ use Rattle.words.specs.Reading.{Reading, accepted}
 use Rattle.words.proofs.Bools.{never-both, or-cases, false-true, false-of-not}
 use Rattle.words.proofs.Places.{place-in, card-of, shape-of}
 use Rattle.bags.specs.Part.{Part, Parts, at-most, named}
-use Rattle.bags.specs.Interval.{count, fits}
+use Rattle.bags.specs.Bag.{count}
+use Rattle.bags.specs.Interval.{fits}
 use Rattle.template.specs.Reading.{readLink, readRun, readPart}
 use Rattle.template.specs.Template.{Tabled, readShape, readShapes, readTemplate}
 use Rattle.script.specs.Link.{fromAt, kindAt, toAt, far, above, greater, neighbours}

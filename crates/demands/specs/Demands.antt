@@ -42,8 +42,8 @@ use Rattle.typing.specs.Typing.{Pairs, Has, Below, Holds, Typing, SoundTyping}
 use Rattle.typing.specs.Largest.{Largest, bareCards}
 use Rattle.typing.specs.Smallest.{IsClosure}
 use Rattle.typing.specs.Answer.{BothSaid}
-use Rattle.typing.specs.Calls.{Grids, largestReading, smallestReading, bothReading}
-use Rattle.typing.specs.Calls.{LargestSays, SmallestSays, BothSays}
+use Rattle.typing.specs.Calls.{Grids, largestReading, smallestReading, bothReading, LargestSays, SmallestSays}
+use Rattle.typing.specs.Calls.{BothSays}
 use Rattle.input.specs.Input.{readInput}
 
 -- ================ what is well-formed

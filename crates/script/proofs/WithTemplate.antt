@@ -14,8 +14,7 @@ use Rattle.words.proofs.Readings.{then-accepted, said-turned}
 use Rattle.template.specs.Template.{Template, readTemplate, templateSays}
 use Rattle.template.proofs.Answers.{template-read, template-turned}
 use Rattle.script.specs.Link.{fromIndex, cardWords, below}
-use Rattle.script.specs.Script.{countsOf, readScript, scriptValues, readWith, scriptSays, cardLinks}
-use Rattle.script.specs.Script.{linksStart}
+use Rattle.script.specs.Script.{countsOf, readScript, scriptValues, readWith, scriptSays, cardLinks, linksStart}
 use Rattle.script.proofs.Reading.{Accepted, script-accepted}
 use Rattle.script.proofs.Answers.{script-read}
 
