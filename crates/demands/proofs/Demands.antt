@@ -29,6 +29,7 @@ use Rattle.counts.specs.Fit.{firstOver, fitQuestion, FitSays}
 use Rattle.counts.proofs.Numbers.{fit-numbers}
 use Rattle.input.specs.Input.{readInput}
 use Rattle.input.proofs.Inputs.{input-numbers}
+use Rattle.input.proofs.RoundTrip.{inputs-are}
 use Rattle.typing.specs.Typing.{Pairs, Has, Met, Typing, SoundTyping}
 use Rattle.typing.specs.Smallest.{IsClosure}
 use Rattle.typing.specs.Demand3.{Outcome, pairs, notMet, Refused, Demand3}
@@ -59,6 +60,7 @@ first-demand = record {
   largest-takes = largest-taken;
   smallest-takes = smallest-taken;
   both-takes = both-taken;
+  input-exact = inputs-are;
   largest-first = λ words list before after said number at e x. rw e at x;
   smallest-first = λ words list booked before after said number at e x. rw e at x;
   both-first = λ words list booked before after said number at e x.

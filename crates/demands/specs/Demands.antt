@@ -44,7 +44,8 @@ use Rattle.typing.specs.Smallest.{IsClosure}
 use Rattle.typing.specs.Answer.{BothSaid}
 use Rattle.typing.specs.Calls.{Grids, largestReading, smallestReading, bothReading}
 use Rattle.typing.specs.Calls.{LargestSays, SmallestSays, BothSays}
-use Rattle.input.specs.Input.{readInput}
+use Rattle.input.specs.Input.{Input, readInput}
+use Rattle.input.specs.Writer.{writeInput, InputFormed, Bytes}
 
 -- ================ what is well-formed
 -- The words are those of a template and a script within all limits of docs/FORMAT.md, and the sheet is theirs. The
@@ -126,6 +127,10 @@ pub record FirstDemand : Type 0 where
       → (bothReading template script bookings grids ≡ accepted s)
       ↔ (Formed template script s × BookingsFormed (s .cards) (s .shapes) bookings
       × (length (grids .small) ≡ size s) × (length (grids .large) ≡ size s))
+  -- the printer's bytes are taken exactly if they are those of three lists of words, with their counts, that are within
+  -- the limits
+  pub input-exact : (bytes : List ℕ) → Bytes bytes → (i : Input)
+      → (readInput bytes ≡ accepted i) ↔ (InputFormed i × (bytes ≡ writeInput i))
   -- ---- the first fault is said, and no grid changes
   pub template-first : (template : List ℕ) (number at : ℕ) → readTemplate template ≡ turnedDown number at
       → templateSays template ≡ refusal number (at ∷ [])
@@ -185,15 +190,15 @@ abbrev pub RuleTwo : Sheet → Pairs → Type 0
 RuleTwo s X = (n t : ℕ) → n < s .cards → t < s .shapes → Has s X n t
     → (b : Bag) × Neighbourhood s X n t b × Bags (partOf s t) b
 
--- Counts of links belong to the bag language of a shape: some bag of the shape's part has, over all shapes, just so many
--- of each label. `Bags` is the bag language of section 2.1.
+-- Counts of links belong to the bag language of a shape: some bag of the shape's part has, over all shapes, just so
+-- many of each label. `Bags` is the bag language of section 2.1.
 abbrev pub Belong : Template → ℕ → List ℕ → Type 0
 Belong t shape counts =
     (b : Bag) × Bags (getD (t .parts) shape Part.nothing) b × ((k : ℕ) → total (t .shapes) b k ≡ getD counts k 0)
 
 pub record SecondDemand : Type 0 where
-  -- Asked of a shape of a template that is read, and a count of at most 8,192 for each kind, "Fit counts" says 1 exactly
-  -- where the counts belong to the shape's bag language, and else 0.
+  -- Asked of a shape of a template that is read, and a count of at most 8,192 for each kind, "Fit counts" says 1
+  -- exactly where the counts belong to the shape's bag language, and else 0.
   pub counts-fit : (template : List ℕ) (t : Template) → readTemplate template ≡ accepted t
       → (shape : ℕ) → shape < t .shapes
       → (counts : List ℕ) → length counts ≡ t .kinds → ((k : ℕ) → getD counts k 0 ≤ maxCount)
