@@ -144,7 +144,10 @@ sound-exactly s grid = (
     rule n t = met-is (s .shapes) (Has s (on grid)) (neighboursOf s n t) (partOf s t)
 
 pub second-demand : SecondDemand
-second-demand = record { counts-fit = counts-fit-exactly; sound-typing = sound-exactly }
+second-demand = record {
+  counts-fit = λ template t formed. counts-fit-exactly template t (templates-are template t .1 formed);
+  sound-typing = sound-exactly;
+}
 
 -- ---- the third demand
 turned-refused : (said : Said) (o : Outcome) → said ≡ outcomeSaid o → TurnedDown said → Refused o

@@ -3,15 +3,28 @@
 -- counts and calls): on every input, without any premise, with its end reached and nothing undefined on the way. What
 -- follows is said of every answer that such a relation allows.
 --
--- From the crates below, and defined there in a few lines each:
---   Said: values, or a refusal with its number and place. Reading: accepted, or turnedDown with number and place.
---   readTemplate, readScript, readBookings, readSheet, readInput, fitQuestion: the lists of tests of docs/FORMAT.md in
---   their order, a line each; the first that finds a fault turns down.
---   templateSays, scriptSays, FitSays, LargestSays, SmallestSays, BothSays: what each operation may say and write.
---   Sheet: what is read of a template and a script. size: its number of pairs. on grid p: the byte at place p is 1.
+-- From the crates below, each defined there in a few lines:
+--   Said                  what is said: values, or a refusal with its number and its place
+--   Reading               accepted with what was read, or turnedDown with a refusal's number and place
+--   readTemplate, readWith, readSheet, readBookings, fitQuestion, readInput, largestReading, smallestReading,
+--   bothReading           the tests of docs/FORMAT.md in their order, a line each: the first that finds a fault turns
+--                         down. readWith is of a script with its template, readSheet of both, the last three of a call
+--   templateSays, scriptSays, FitSays, LargestSays, SmallestSays, BothSays   what each operation may say and write
+--   Template, Sheet       what is read of a template; of a template and a script. partOf: the part of a shape.
+--                         neighboursOf: the labels and far cards of a card's links. size: how many pairs there are
+--   Pairs, Has, on        a set of pairs of a card and a shape, by their places in a grid; it has a pair; the set of a
+--                         grid: where its byte is 1. place: the place of a pair
+--   Typing, SoundTyping   a grid of zeros and ones of the right length; a sound one
+--   Booked, Holds, Below  some booking is of the card and the shape; a set has every booking; a set is in another
+--   Largest, bareCards    docs/FORMAT.md, "Largest": r rounds that strike m pairs lead from every pair to the set X,
+--                         which is sound, and no earlier round did; how many cards have no shape
+--   IsClosure, tally      "Smallest": a set is the closure of the bookings; how many pairs a set has
+--   Bag, Bags, total      2.1: a bag of (label, shape), the bags of a part, how many of a label a bag has
+--   WellFormed, writeTemplate, writeScript, InputFormed, writeInput   the limits and layout rules, and the words or
+--                         bytes of what keeps them
 --
 -- Here:
---   Formed, BookingsFormed              a well-formed template and script; a well-formed list of bookings
+--   FormedTemplate, Formed, BookingsFormed   a well-formed template; with a script; a well-formed list of bookings
 --   TemplateListed .. PrinterListed     the numbers that an operation's refusals have
 --   TurnedDown                          the bookings cannot be met: 50
 --   FirstDemand                         faults get their refusals, and nothing else is refused
@@ -48,6 +61,12 @@ use Rattle.input.specs.Input.{Input, readInput}
 use Rattle.input.specs.Writer.{writeInput, InputFormed, Bytes}
 
 -- ================ what is well-formed
+-- The words are those of this template, and it is within all limits.
+abbrev pub FormedTemplate : List ℕ → Template → Type 0
+FormedTemplate template t =
+    templates.WellFormed (t .kinds) (t .shapes) (t .parts)
+    × (template ≡ templates.writeTemplate (t .kinds) (t .shapes) (t .parts))
+
 -- The words are those of a template and a script within all limits of docs/FORMAT.md, and the sheet is theirs. The
 -- limits and layout rules are the fields of the two `WellFormed`; what the words of a template and a script are is
 -- `writeTemplate` and `writeScript`.
@@ -109,8 +128,7 @@ pub record FirstDemand : Type 0 where
   -- ---- nothing is refused exactly where all is well-formed
   -- a template is read exactly if its words are those of a well-formed one,
   pub template-exact : (template : List ℕ) (t : Template) → (readTemplate template ≡ accepted t)
-      ↔ (templates.WellFormed (t .kinds) (t .shapes) (t .parts)
-      × (template ≡ templates.writeTemplate (t .kinds) (t .shapes) (t .parts)))
+      ↔ FormedTemplate template t
   -- with a script exactly if the script is well-formed too,
   pub sheet-exact : (template script : List ℕ) (s : Sheet)
       → (readSheet template script ≡ accepted s) ↔ Formed template script s
@@ -197,9 +215,9 @@ Belong t shape counts =
     (b : Bag) × Bags (getD (t .parts) shape Part.nothing) b × ((k : ℕ) → total (t .shapes) b k ≡ getD counts k 0)
 
 pub record SecondDemand : Type 0 where
-  -- Asked of a shape of a template that is read, and a count of at most 8,192 for each kind, "Fit counts" says 1
+  -- Asked of a shape of a well-formed template, and a count of at most 8,192 for each kind, "Fit counts" says 1
   -- exactly where the counts belong to the shape's bag language, and else 0.
-  pub counts-fit : (template : List ℕ) (t : Template) → readTemplate template ≡ accepted t
+  pub counts-fit : (template : List ℕ) (t : Template) → FormedTemplate template t
       → (shape : ℕ) → shape < t .shapes
       → (counts : List ℕ) → length counts ≡ t .kinds → ((k : ℕ) → getD counts k 0 ≤ maxCount)
       → (said : Said) → FitSays template shape counts said
