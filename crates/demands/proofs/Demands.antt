@@ -13,6 +13,7 @@ use borrow.Author.Tests.{lt-leb, le-ltb, eq-eqb}
 use Rattle.words.specs.Limits.{maxCount}
 use Rattle.words.specs.Said.{Said, values}
 use Rattle.words.specs.Reading.{accepted, turnedDown, saidOf}
+use Rattle.words.proofs.Bools.{never-both, is-false}
 use Rattle.words.proofs.Readings.{numbered-turned}
 use Rattle.template.specs.Template.{Template, readTemplate, templateValues, templateSays}
 use Rattle.template.proofs.Numbers.{template-numbers}
@@ -23,6 +24,7 @@ use Rattle.bags.specs.Bag.{Bag, Bags, Fits}
 use Rattle.bags.specs.Interval.{count}
 use Rattle.bags.proofs.Adequate.{met-is}
 use Rattle.board.specs.Grid.{on, tally}
+use Rattle.board.specs.Board.{Board}
 use Rattle.sheet.specs.Sheet.{Sheet, partOf, neighboursOf, size}
 use Rattle.bookings.specs.Bookings.{Booked}
 use Rattle.counts.specs.Fit.{firstOver, fitQuestion, FitSays}
@@ -37,11 +39,16 @@ use Rattle.typing.specs.Answer.{BothSaid}
 use Rattle.typing.specs.Calls.{largestReading, smallestReading, bothReading}
 use Rattle.typing.specs.Calls.{outcomeSaid, BothAnswered, BothFound, LargestFound, SmallestFound}
 use Rattle.typing.proofs.Numbers.{largest-numbers, smallest-numbers, both-numbers}
+use Rattle.typing.proofs.Represents.{Represents}
+use Rattle.typing.proofs.Largest.{largest-over, largest-bound, largest-unique, some-largest, bare-alike}
+use Rattle.typing.proofs.Existence.{represented}
 use Rattle.typing.proofs.Apart.{apart}
 use Rattle.demands.specs.Demands.{TemplateListed, ScriptListed, FitListed}
 use Rattle.demands.specs.Demands.{LargestListed, SmallestListed, PrinterListed, FirstDemand}
-use Rattle.demands.specs.Demands.{Neighbourhood, RuleTwo, SecondDemand, TurnedDown, TwoTypings, ThirdDemand}
-use Rattle.demands.proofs.Formed.{sheets-are, bookings-are, largest-taken, smallest-taken, both-taken}
+use Rattle.demands.specs.Demands.{Formed, Neighbourhood, RuleTwo, SecondDemand, TurnedDown}
+use Rattle.demands.specs.Demands.{LargestTyping, TwoTypings, ThirdDemand}
+use Rattle.demands.proofs.Formed.{formed-sheet, sheets-are, bookings-are, largest-taken}
+use Rattle.demands.proofs.Formed.{smallest-taken, both-taken}
 use Rattle.demands.proofs.Listed.{no-values, said-listed, fit-refused, largest-refused, smallest-refused}
 use Rattle.demands.proofs.Listed.{both-refused, script-numbered}
 
@@ -168,12 +175,30 @@ pairs-are s Wanted large small r m b said (notMet n t) e d taken X c = absurd (t
 same-first : {r m b x y z : ℕ} → values (r ∷ m ∷ b ∷ []) ≡ values (x ∷ y ∷ z ∷ []) → (r ≡ x) × (m ≡ y)
 same-first e = (cc, cc)
 
+largest-typing : {s : Sheet} {B : Board} → Represents s B → (large : List ℕ) (said : Said) → LargestFound s large said
+    → LargestTyping s large said
+largest-typing {s} {B} rep large said x = record {
+  sound = record { typing = x .typing; sound = x .largest .last };
+  over = λ h w. largest-over rep (x .largest) (on h) (w .sound);
+  shapeless = λ n ln. (
+    λ none h w t lt. is-false (λ e.
+        never-both (largest-over rep (x .largest) (on h) (w .sound) n t ln lt e) (none t lt)),
+    λ none. none large (record { typing = x .typing; sound = x .largest .last }),
+  );
+  numbers = λ r m X h.
+      let (rounds, struck, alike) = largest-unique rep (x .largest) h in
+      let bares = x .counted ∙ bare-alike rep (on large) X alike in
+      x .says ∙ rw (rounds, struck, bares) refl;
+  some-numbers = some-largest rep;
+  bound = λ rounds struck bare f.
+      let (i, j) = same-first (sym (x .says) ∙ f) in
+      omega (arith, largest-bound rep (x .largest), i, j);
+}
+
 two-typings : (s : Sheet) (bookings large small : List ℕ) (said : BothSaid)
-    → BothFound s (Booked bookings) small large said
-    → TwoTypings s bookings large small (said .largest) (said .smallest)
+    → BothFound s (Booked bookings) small large said → TwoTypings s bookings large small (said .smallest)
 two-typings s bookings large small said x =
     let d = x .demand in
-    let l = x .largest .says in
     let o = x .smallest .outcome in
     let e = x .smallest .says in
     let taken : (TurnedDown (said .smallest) → ⊥) → Refused o → ⊥ =
@@ -186,24 +211,28 @@ two-typings s bookings large small said x =
       small-sound = λ never. d .small-sound (taken never);
       large-sound = λ never. d .large-sound (taken never);
       between = λ never. d .between (taken never);
-      shapeless = d .shapeless;
-      numbers = λ r m X h. let (i, j, k) = d .numbers r m X h in l ∙ rw (i, j, k) refl;
-      some-numbers = d .counts-some;
       pairs = pairs-are s (Booked bookings) large small (x .largest .rounds) (x .largest .struck) (x .largest .bare)
           (said .smallest) o e d;
-      bound = λ rounds struck bare f.
-          let (i, j) = same-first (sym l ∙ f) in
-          omega (arith, d .bound, i, j);
     }
+
+-- A board stands for each well-formed sheet.
+formed-board : (template script : List ℕ) (s : Sheet) → Formed template script s → (B : Board) × Represents s B
+formed-board template script s f = represented template script s (formed-sheet template script s f)
 
 pub third-demand : ThirdDemand
 third-demand = record {
-  apart = λ words list bookings s f b large-before small-before fl fs large small of-large of-small x y.
+  largest = λ template script s f before full large said x.
+      let found : LargestFound s large said = rw (largest-taken template script before s .1 (f, full)) at x in
+      largest-typing (formed-board template script s f .1) large said found;
+  smallest = λ template script bookings s f b large-before small-before fl fs large small of-large of-small x y.
       two-typings s bookings large small (record { largest = of-large; smallest = of-small })
-      (apart words list bookings large-before small-before s (largest-taken words list large-before s .1 (f, fl))
-      (smallest-taken words list bookings small-before s .1 (f, b, fs)) large small of-large of-small x y);
-  both = λ words list bookings s f b before after fl fs said x.
-      let taken = both-taken words list bookings before s .1 (f, b, fs, fl) in
-      let found : BothFound s (Booked bookings) (after .small) (after .large) said = rw taken at x in
-      two-typings s bookings (after .large) (after .small) said found;
+      (apart template script bookings large-before small-before s
+      (largest-taken template script large-before s .1 (f, fl))
+      (smallest-taken template script bookings small-before s .1 (f, b, fs)) large small of-large of-small x y);
+  both = λ template script bookings s f b before after fl fs said x.
+      let taken = both-taken template script bookings before s .1 (f, b, fs, fl) in
+      let found : BothFound s (Booked bookings) (after .small) (after .large) said = rw taken at x in (
+        largest-typing (formed-board template script s f .1) (after .large) (said .largest) (found .largest),
+        two-typings s bookings (after .large) (after .small) said found,
+      );
 }

@@ -27,7 +27,7 @@ use Rattle.typing.proofs.Booked.{grid-asked}
 use Rattle.demands.specs.Demands.{Formed, BookingsFormed}
 
 module _ (words list : List ℕ) (s : Sheet) where
-  pub sheet-formed : readSheet words list ≡ accepted s → Formed words list s
+  sheet-formed : readSheet words list ≡ accepted s → Formed words list s
   unfolding readSheet
   sheet-formed e =
       let (t, first, rest) = then-accepted (readTemplate words)

@@ -16,8 +16,8 @@
 --                         grid: where its byte is 1. place: the place of a pair
 --   Typing, SoundTyping   a grid of zeros and ones of the right length; a sound one
 --   Booked, Holds, Below  some booking is of the card and the shape; a set has every booking; a set is in another
---   Largest, bareCards    docs/FORMAT.md, "Largest": r rounds that strike m pairs lead from every pair to the set X,
---                         which is sound, and no earlier round did; how many cards have no shape
+--   Largest, bareCards    docs/FORMAT.md, "Largest": from every pair, r rounds of which the last strikes nothing and no
+--                         other, with m pairs struck in all, lead to the set X; how many cards have no shape
 --   IsClosure, tally      "Smallest": a set is the closure of the bookings; how many pairs a set has
 --   Bag, Bags, total      2.1: a bag of (label, shape), the bags of a part, how many of a label a bag has
 --   WellFormed, writeTemplate, writeScript, InputFormed, writeInput   the limits and layout rules, and the words or
@@ -29,7 +29,7 @@
 --   TurnedDown                          the bookings cannot be met: 50
 --   FirstDemand                         faults get their refusals, and nothing else is refused
 --   Neighbourhood, RuleTwo, Belong, SecondDemand   the bag language and sound typings are the paper's
---   TwoTypings, ThirdDemand             the smallest and the largest typing
+--   LargestTyping, TwoTypings, ThirdDemand   the largest typing, and with it the smallest
 -- Assumes nothing.
 use Prim.Native.Nat.{ℕ, _+_, _*_, _≤_, _<_}
 use mathlib.Core.Path.{_≡_}
@@ -227,42 +227,54 @@ pub record SecondDemand : Type 0 where
   pub sound-typing : (s : Sheet) (grid : List ℕ) → SoundTyping s grid ↔ (Typing s grid × RuleTwo s (on grid))
 
 -- ================ the third demand
--- The two grids and what was said of them, on a sheet with bookings.
-pub record TwoTypings (s : Sheet) (bookings large small : List ℕ) (of-large of-small : Said) : Type 0 where
-  -- the bookings are turned down exactly if no sound typing has them all
-  pub turned-down : TurnedDown of-small
-      ↔ ((h : List ℕ) → SoundTyping s h → Holds s (Booked bookings) (on h) → ⊥)
-  -- where they are not, both grids are sound typings that have the bookings,
-  pub small-sound : (TurnedDown of-small → ⊥) → SoundTyping s small × Holds s (Booked bookings) (on small)
-  pub large-sound : (TurnedDown of-small → ⊥) → SoundTyping s large × Holds s (Booked bookings) (on large)
-  -- and each sound typing that has them lies between the two
-  pub between : (TurnedDown of-small → ⊥) → (h : List ℕ) → SoundTyping s h → Holds s (Booked bookings) (on h)
-      → Below s (on small) (on h) × Below s (on h) (on large)
-  -- whatever is bookings, a card has no shape in the largest exactly if no sound typing gives it one
+-- The grid of "Largest" and what was said of it, with or without bookings.
+pub record LargestTyping (s : Sheet) (large : List ℕ) (said : Said) : Type 0 where
+  -- the grid is a sound typing, and every sound typing is in it
+  pub sound : SoundTyping s large
+  pub over : (h : List ℕ) → SoundTyping s h → Below s (on h) (on large)
+  -- a card has no shape in it exactly if no sound typing gives the card one
   pub shapeless : (n : ℕ) → n < s .cards
       → ((t : ℕ) → t < s .shapes → on large (place s n t) ≡ false)
       ↔ ((h : List ℕ) → SoundTyping s h → (t : ℕ) → t < s .shapes → on h (place s n t) ≡ false)
-  -- rounds, strikes and cards with no shape are those of the definition by rounds, which has one result
-  pub numbers : (r m : ℕ) (X : Pairs) → Largest s r m X → of-large ≡ values (r ∷ m ∷ bareCards s X ∷ [])
+  -- rounds, strikes and cards with no shape are those that the definition by rounds counts, and it counts some
+  pub numbers : (r m : ℕ) (X : Pairs) → Largest s r m X → said ≡ values (r ∷ m ∷ bareCards s X ∷ [])
   pub some-numbers : (r : ℕ) × (m : ℕ) × (X : Pairs) × Largest s r m X
-  -- pairs are those of the closure of the bookings
-  pub pairs : (TurnedDown of-small → ⊥) → (X : Pairs) → IsClosure s (Booked bookings) X
-      → of-small ≡ values (tally X (size s) ∷ [])
   -- there is at most one round more than there are strikes
-  pub bound : (rounds struck bare : ℕ) → of-large ≡ values (rounds ∷ struck ∷ bare ∷ []) → rounds ≤ struck + 1
+  pub bound : (rounds struck bare : ℕ) → said ≡ values (rounds ∷ struck ∷ bare ∷ []) → rounds ≤ struck + 1
 
--- For every well-formed template, script and script of bookings, and two grids of the right size whatever their bytes:
--- what is left by the two calls, and what by the one call for both.
+-- The grids of "Largest" and "Smallest", and what was said of the bookings.
+pub record TwoTypings (s : Sheet) (bookings large small : List ℕ) (said : Said) : Type 0 where
+  -- the bookings are turned down exactly if no sound typing has them all
+  pub turned-down : TurnedDown said ↔ ((h : List ℕ) → SoundTyping s h → Holds s (Booked bookings) (on h) → ⊥)
+  -- where they are not, both grids are sound typings that have the bookings,
+  pub small-sound : (TurnedDown said → ⊥) → SoundTyping s small × Holds s (Booked bookings) (on small)
+  pub large-sound : (TurnedDown said → ⊥) → SoundTyping s large × Holds s (Booked bookings) (on large)
+  -- and each sound typing that has them lies between the two
+  pub between : (TurnedDown said → ⊥) → (h : List ℕ) → SoundTyping s h → Holds s (Booked bookings) (on h)
+      → Below s (on small) (on h) × Below s (on h) (on large)
+  -- the pairs that are counted are those of the closure of the bookings
+  pub pairs : (TurnedDown said → ⊥) → (X : Pairs) → IsClosure s (Booked bookings) X
+      → said ≡ values (tally X (size s) ∷ [])
+
+-- For every well-formed template, script and list of bookings, and grids of the right size whatever their bytes were:
 pub record ThirdDemand : Type 0 where
-  pub apart : (template script bookings : List ℕ) (s : Sheet) → Formed template script s
+  -- of the call for the largest,
+  pub largest : (template script : List ℕ) (s : Sheet) → Formed template script s
+      → (before : List ℕ) → length before ≡ size s → (large : List ℕ) (said : Said)
+      → LargestSays template script before large said
+      → LargestTyping s large said
+  -- of this and the call for the smallest,
+  pub smallest : (template script bookings : List ℕ) (s : Sheet) → Formed template script s
       → BookingsFormed (s .cards) (s .shapes) bookings
       → (large-before small-before : List ℕ) → length large-before ≡ size s → length small-before ≡ size s
       → (large small : List ℕ) (of-large of-small : Said)
       → LargestSays template script large-before large of-large
       → SmallestSays template script bookings small-before small of-small
-      → TwoTypings s bookings large small of-large of-small
+      → TwoTypings s bookings large small of-small
+  -- and of the one call for both
   pub both : (template script bookings : List ℕ) (s : Sheet) → Formed template script s
       → BookingsFormed (s .cards) (s .shapes) bookings
       → (before after : Grids) → length (before .large) ≡ size s → length (before .small) ≡ size s
       → (said : BothSaid) → BothSays template script bookings before after said
-      → TwoTypings s bookings (after .large) (after .small) (said .largest) (said .smallest)
+      → LargestTyping s (after .large) (said .largest)
+      × TwoTypings s bookings (after .large) (after .small) (said .smallest)
