@@ -53,6 +53,7 @@ use Rattle.demands.proofs.Listed.{no-values, said-listed, fit-refused, 
 use Rattle.demands.proofs.Listed.{both-refused, script-numbered}
 
 -- ---- the first demand
+-- An outcome is a number of pairs, or the bookings are turned down.
 pairs-or-down : (said : Said) (o : Outcome) → said ≡ outcomeSaid o
     → ((m : ℕ) × (said ≡ values (m ∷ []))) ⊎ TurnedDown said
 pairs-or-down said (pairs m) e = inl (m, e)
@@ -68,58 +69,61 @@ first-demand = record {
   smallest-takes = smallest-taken;
   both-takes = both-taken;
   input-exact = inputs-are;
-  largest-first = λ words list before after said number at e x. rw e at x;
-  smallest-first = λ words list booked before after said number at e x. rw e at x;
-  both-first = λ words list booked before after said number at e x.
-      let y : BothAnswered (turnedDown number at) (Booked booked) before after said = rw e at x in (
+  largest-first = λ template script before after said number at e x. rw e at x;
+  smallest-first = λ template script bookings before after said number at e x. rw e at x;
+  both-first = λ template script bookings before after said number at e x.
+      let y : BothAnswered (turnedDown number at) (Booked bookings) before after said = rw e at x in (
         ap (λ (z : BothSaid). z .largest) (y .0),
         ap (λ (z : BothSaid). z .smallest) (y .0),
         y .1,
       );
-  fit-first = λ words shape counts said number at e x. rw e at x;
-  template-first = λ words number at e. ap (saidOf templateValues) e;
-  script-first = λ words list number at e. ap (saidOf scriptValues) e;
-  template-listed = λ words number at.
-      said-listed TemplateListed templateValues (readTemplate words) number at (template-numbers words);
-  script-listed = λ words list number at.
-      said-listed ScriptListed scriptValues (readWith words list) number at (script-numbered words list);
-  fit-listed = λ words shape counts number at.
-      fit-refused FitListed (fitQuestion words shape counts) (fit-numbers words shape counts) number at;
-  largest-listed = λ words list before after number at.
-      largest-refused LargestListed (largestReading words list before) (largest-numbers words list before)
+  fit-first = λ template shape counts said number at e x. rw e at x;
+  template-first = λ template number at e. ap (saidOf templateValues) e;
+  script-first = λ template script number at e. ap (saidOf scriptValues) e;
+  template-listed = λ template number at.
+      said-listed TemplateListed templateValues (readTemplate template) number at (template-numbers template);
+  script-listed = λ template script number at.
+      said-listed ScriptListed scriptValues (readWith template script) number at (script-numbered template script);
+  fit-listed = λ template shape counts number at.
+      fit-refused FitListed (fitQuestion template shape counts) (fit-numbers template shape counts) number at;
+  largest-listed = λ template script before after number at.
+      largest-refused LargestListed (largestReading template script before) (largest-numbers template script before)
       before after number at;
-  smallest-listed = λ words list booked before after number at.
-      smallest-refused SmallestListed (smallestReading words list booked before)
-      (smallest-numbers words list booked before) (Booked booked) before after
-      (λ s e. smallest-taken words list booked before s .0 e .2) number at;
-  both-listed = λ words list booked before after said x number at.
-      both-refused SmallestListed (bothReading words list booked before) (both-numbers words list booked before)
-      (Booked booked) before after (λ s e. both-taken words list booked before s .0 e .2) said x number at;
-  largest-accepts = λ words list before after said s f full x.
-      let found : LargestFound s after said = rw (largest-taken words list before s .1 (f, full)) at x in
+  smallest-listed = λ template script bookings before after number at.
+      smallest-refused SmallestListed (smallestReading template script bookings before)
+      (smallest-numbers template script bookings before) (Booked bookings) before after
+      (λ s e. smallest-taken template script bookings before s .0 e .2) number at;
+  both-listed = λ template script bookings before after said x number at.
+      both-refused SmallestListed (bothReading template script bookings before)
+      (both-numbers template script bookings before)
+      (Booked bookings) before after (λ s e. both-taken template script bookings before s .0 e .2) said x number at;
+  largest-accepts = λ template script before after said s f full x.
+      let found : LargestFound s after said = rw (largest-taken template script before s .1 (f, full)) at x in
       (found .rounds, found .struck, found .bare, found .says);
-  smallest-accepts = λ words list booked before after said s f b full x.
-      let found : SmallestFound s (Booked booked) after said =
-      rw (smallest-taken words list booked before s .1 (f, b, full)) at x in
+  smallest-accepts = λ template script bookings before after said s f b full x.
+      let found : SmallestFound s (Booked bookings) after said =
+      rw (smallest-taken template script bookings before s .1 (f, b, full)) at x in
       pairs-or-down said (found .outcome) (found .says);
   printer-listed = λ bytes number at e.
       numbered-turned PrinterListed (readInput bytes) number at (input-numbers bytes) e;
 }
 
 -- ---- the second demand
+-- Where no count is over 8,192, the first that is stands past the end.
 none-over : (counts : List ℕ) → ((k : ℕ) → getD counts k 0 ≤ maxCount) → length counts ≤ firstOver counts
 unfolding firstOver
 none-over [] low = omega arith
 none-over (w ∷ ws) low = rw (le-ltb maxCount w (low 0)) (omega (arith, none-over ws (λ k. low (suc k))))
 
-module _ (words : List ℕ) (t : Template) (read : readTemplate words ≡ accepted t)
+module _ (template : List ℕ) (t : Template) (read : readTemplate template ≡ accepted t)
     (shape : ℕ) (inside : shape < t .shapes)
     (counts : List ℕ) (whole : length counts ≡ t .kinds) (low : (k : ℕ) → getD counts k 0 ≤ maxCount) where
   -- the shape's part has a bag with these counts
   abbrev Fit : Type 0
   Fit = Fits (t .shapes) (getD (t .parts) shape Part.nothing) (count counts)
 
-  nothing-refused : fitQuestion words shape counts
+  -- no test of "Fit counts" finds a fault
+  nothing-refused : fitQuestion template shape counts
       ≡ accepted (record { shapes = t .shapes; part = getD (t .parts) shape Part.nothing; counts = counts })
   unfolding fitQuestion
   nothing-refused = rw (
@@ -129,7 +133,7 @@ module _ (words : List ℕ) (t : Template) (read : readTemplate words ≡ accept
     le-ltb (firstOver counts) (length counts) (none-over counts low),
   ) refl
 
-  counts-fit-exactly : (said : Said) → FitSays words shape counts said
+  counts-fit-exactly : (said : Said) → FitSays template shape counts said
       → ((said ≡ values (1 ∷ [])) ↔ Fit) × ((said ≡ values (0 ∷ [])) ↔ (Fit → ⊥))
   counts-fit-exactly said x = by-answer (rw nothing-refused at x)
     where
@@ -141,6 +145,7 @@ module _ (words : List ℕ) (t : Template) (read : readTemplate words ≡ accept
       by-answer (inl (f, e)) = ((λ _. f, λ _. e), (λ d. not-both e d, λ g. absurd (g f)))
       by-answer (inr (g, e)) = ((λ d. not-both d e, λ f. absurd (g f)), (λ _. g, λ _. e))
 
+-- Met is rule 2 of one pair.
 sound-exactly : (s : Sheet) (grid : List ℕ) → SoundTyping s grid ↔ (Typing s grid × RuleTwo s (on grid))
 sound-exactly s grid = (
   λ w. (w .typing, λ n t ln lt h. rule n t .0 (w .sound n t ln lt h)),
@@ -157,6 +162,7 @@ second-demand = record {
 }
 
 -- ---- the third demand
+-- The bookings are turned down exactly where the outcome is.
 turned-refused : (said : Said) (o : Outcome) → said ≡ outcomeSaid o → TurnedDown said → Refused o
 turned-refused said (pairs m) e (card, shape, f) = no-values (sym f ∙ e)
 turned-refused said (notMet n t) e d = tt
@@ -165,6 +171,7 @@ refused-turned : (said : Said) (o : Outcome) → said ≡ outcomeSaid o → Refu
 refused-turned said (pairs m) e never = absurd never
 refused-turned said (notMet n t) e d = (n, t, e)
 
+-- Of bookings that are not turned down the pairs of the closure are counted.
 pairs-are : (s : Sheet) (Wanted : ℕ → ℕ → Type 0) (large small : List ℕ) (r m b : ℕ) (said : Said) (o : Outcome)
     → said ≡ outcomeSaid o → Demand3 s Wanted large r m b small o → (TurnedDown said → ⊥)
     → (X : Pairs) → IsClosure s Wanted X → said ≡ values (tally X (size s) ∷ [])
@@ -172,9 +179,11 @@ pairs-are s Wanted large small r m b said (pairs k) e d taken X c =
     e ∙ ap (λ (x : ℕ). values (x ∷ [])) (d .pairs-counted k X refl c)
 pairs-are s Wanted large small r m b said (notMet n t) e d taken X c = absurd (taken (n, t, e))
 
+-- Numbers that are said are told by it.
 same-first : {r m b x y z : ℕ} → values (r ∷ m ∷ b ∷ []) ≡ values (x ∷ y ∷ z ∷ []) → (r ≡ x) × (m ≡ y)
 same-first e = (cc, cc)
 
+-- The answer of the call for the largest, on a sheet for which a board stands.
 largest-typing : {s : Sheet} {B : Board} → Represents s B → (large : List ℕ) (said : Said) → LargestFound s large said
     → LargestTyping s large said
 largest-typing {s} {B} rep large said x = record {
@@ -195,6 +204,7 @@ largest-typing {s} {B} rep large said x = record {
       omega (arith, largest-bound rep (x .largest), i, j);
 }
 
+-- The answers of both calls.
 two-typings : (s : Sheet) (bookings large small : List ℕ) (said : BothSaid)
     → BothFound s (Booked bookings) small large said → TwoTypings s bookings large small (said .smallest)
 two-typings s bookings large small said x =

@@ -17,7 +17,6 @@ use Rattle.template.specs.Template.{Template, readTemplate}
 use Rattle.template.proofs.RoundTrip.{templates-are}
 use Rattle.script.specs.Script.{ScriptCounts, countsOf, readScript}
 use Rattle.script.proofs.RoundTrip.{scripts-are}
-use Rattle.bags.specs.Interval.{count}
 use Rattle.sheet.specs.Sheet.{Sheet, size, sheetOf, readSheet}
 use Rattle.sheet.proofs.Accepted.{mapped-accepted, sheet-asked}
 use Rattle.bookings.specs.Bookings.{cardAt, shapeAt, readPairs, readBookings}

@@ -26,8 +26,8 @@ abbrev pub countsOf : ℕ → ℕ → ScriptCounts
 countsOf cards links = record { cards = cards; links = links }
 
 -- The n links from link i on, and then what follows where none is at fault. 23: the card that the link starts at is
--- not below the count of cards. 24: its kind is not below the count of kinds. 23: the card that it leads to is not below
--- the count of cards. 25: it is not above the link before it.
+-- not below the count of cards. 24: its kind is not below the count of kinds. 23: the card that it leads to is not
+-- below the count of cards. 25: it is not above the link before it.
 unfoldable pub readLinks : ℕ → ℕ → List ℕ → ℕ → ℕ → Reading ScriptCounts → Reading ScriptCounts
 readLinks kinds cards script zero i done = done
 readLinks kinds cards script (suc n) i done =
