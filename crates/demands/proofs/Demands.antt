@@ -13,6 +13,7 @@ use borrow.Author.Tests.{lt-leb, le-ltb, eq-eqb}
 use Rattle.words.specs.Limits.{maxCount}
 use Rattle.words.specs.Said.{Said, values}
 use Rattle.words.specs.Reading.{accepted, turnedDown, saidOf}
+use Rattle.words.proofs.Bools.{never-both, is-false}
 use Rattle.words.proofs.Readings.{numbered-turned}
 use Rattle.template.specs.Template.{Template, readTemplate, templateValues, templateSays}
 use Rattle.template.proofs.Numbers.{template-numbers}
@@ -22,12 +23,14 @@ use Rattle.bags.specs.Part.{Part}
 use Rattle.bags.specs.Bag.{Bag, Bags, Fits, count}
 use Rattle.bags.proofs.Adequate.{met-is}
 use Rattle.board.specs.Grid.{on, tally}
+use Rattle.board.specs.Board.{Board}
 use Rattle.sheet.specs.Sheet.{Sheet, partOf, neighboursOf, size}
 use Rattle.bookings.specs.Bookings.{Booked}
 use Rattle.counts.specs.Fit.{firstOver, fitQuestion, FitSays}
 use Rattle.counts.proofs.Numbers.{fit-numbers}
 use Rattle.input.specs.Input.{readInput}
 use Rattle.input.proofs.Inputs.{input-numbers}
+use Rattle.input.proofs.RoundTrip.{inputs-are}
 use Rattle.typing.specs.Typing.{Pairs, Has, Met, Typing, SoundTyping}
 use Rattle.typing.specs.Smallest.{IsClosure}
 use Rattle.typing.specs.Demand3.{Outcome, pairs, notMet, Refused, Demand3}
@@ -35,15 +38,20 @@ use Rattle.typing.specs.Answer.{BothSaid}
 use Rattle.typing.specs.Calls.{largestReading, smallestReading, bothReading, outcomeSaid, BothAnswered, BothFound}
 use Rattle.typing.specs.Calls.{LargestFound, SmallestFound}
 use Rattle.typing.proofs.Numbers.{largest-numbers, smallest-numbers, both-numbers}
+use Rattle.typing.proofs.Represents.{Represents}
+use Rattle.typing.proofs.Largest.{largest-over, largest-bound, largest-unique, some-largest, bare-alike}
+use Rattle.typing.proofs.Existence.{represented}
 use Rattle.typing.proofs.Apart.{apart}
 use Rattle.demands.specs.Demands.{TemplateListed, ScriptListed, FitListed, LargestListed, SmallestListed}
-use Rattle.demands.specs.Demands.{PrinterListed, FirstDemand, Neighbourhood, RuleTwo, SecondDemand, TurnedDown}
-use Rattle.demands.specs.Demands.{TwoTypings, ThirdDemand}
-use Rattle.demands.proofs.Formed.{sheets-are, bookings-are, largest-taken, smallest-taken, both-taken}
+use Rattle.demands.specs.Demands.{PrinterListed, FirstDemand, Formed, Neighbourhood, RuleTwo, SecondDemand}
+use Rattle.demands.specs.Demands.{TurnedDown, LargestTyping, TwoTypings, ThirdDemand}
+use Rattle.demands.proofs.Formed.{formed-sheet, sheets-are, bookings-are, largest-taken, smallest-taken}
+use Rattle.demands.proofs.Formed.{both-taken}
 use Rattle.demands.proofs.Listed.{no-values, said-listed, fit-refused, largest-refused, smallest-refused}
 use Rattle.demands.proofs.Listed.{both-refused, script-numbered}
 
 -- ---- the first demand
+-- An outcome is a number of pairs, or the bookings are turned down.
 pairs-or-down : (said : Said) (o : Outcome) → said ≡ outcomeSaid o
     → ((m : ℕ) × (said ≡ values (m ∷ []))) ⊎ TurnedDown said
 pairs-or-down said (pairs m) e = inl (m, e)
@@ -58,58 +66,62 @@ first-demand = record {
   largest-takes = largest-taken;
   smallest-takes = smallest-taken;
   both-takes = both-taken;
-  largest-first = λ words list before after said number at e x. rw e at x;
-  smallest-first = λ words list booked before after said number at e x. rw e at x;
-  both-first = λ words list booked before after said number at e x.
-      let y : BothAnswered (turnedDown number at) (Booked booked) before after said = rw e at x in (
+  input-exact = inputs-are;
+  largest-first = λ template script before after said number at e x. rw e at x;
+  smallest-first = λ template script bookings before after said number at e x. rw e at x;
+  both-first = λ template script bookings before after said number at e x.
+      let y : BothAnswered (turnedDown number at) (Booked bookings) before after said = rw e at x in (
         ap (λ (z : BothSaid). z .largest) (y .0),
         ap (λ (z : BothSaid). z .smallest) (y .0),
         y .1,
       );
-  fit-first = λ words shape counts said number at e x. rw e at x;
-  template-first = λ words number at e. ap (saidOf templateValues) e;
-  script-first = λ words list number at e. ap (saidOf scriptValues) e;
-  template-listed = λ words number at.
-      said-listed TemplateListed templateValues (readTemplate words) number at (template-numbers words);
-  script-listed = λ words list number at.
-      said-listed ScriptListed scriptValues (readWith words list) number at (script-numbered words list);
-  fit-listed = λ words shape counts number at.
-      fit-refused FitListed (fitQuestion words shape counts) (fit-numbers words shape counts) number at;
-  largest-listed = λ words list before after number at.
-      largest-refused LargestListed (largestReading words list before) (largest-numbers words list before)
+  fit-first = λ template shape counts said number at e x. rw e at x;
+  template-first = λ template number at e. ap (saidOf templateValues) e;
+  script-first = λ template script number at e. ap (saidOf scriptValues) e;
+  template-listed = λ template number at.
+      said-listed TemplateListed templateValues (readTemplate template) number at (template-numbers template);
+  script-listed = λ template script number at.
+      said-listed ScriptListed scriptValues (readWith template script) number at (script-numbered template script);
+  fit-listed = λ template shape counts number at.
+      fit-refused FitListed (fitQuestion template shape counts) (fit-numbers template shape counts) number at;
+  largest-listed = λ template script before after number at.
+      largest-refused LargestListed (largestReading template script before) (largest-numbers template script before)
       before after number at;
-  smallest-listed = λ words list booked before after number at.
-      smallest-refused SmallestListed (smallestReading words list booked before)
-      (smallest-numbers words list booked before) (Booked booked) before after
-      (λ s e. smallest-taken words list booked before s .0 e .2) number at;
-  both-listed = λ words list booked before after said x number at.
-      both-refused SmallestListed (bothReading words list booked before) (both-numbers words list booked before)
-      (Booked booked) before after (λ s e. both-taken words list booked before s .0 e .2) said x number at;
-  largest-accepts = λ words list before after said s f full x.
-      let found : LargestFound s after said = rw (largest-taken words list before s .1 (f, full)) at x in
+  smallest-listed = λ template script bookings before after number at.
+      smallest-refused SmallestListed (smallestReading template script bookings before)
+      (smallest-numbers template script bookings before) (Booked bookings) before after
+      (λ s e. smallest-taken template script bookings before s .0 e .2) number at;
+  both-listed = λ template script bookings before after said x number at.
+      both-refused SmallestListed (bothReading template script bookings before)
+      (both-numbers template script bookings before)
+      (Booked bookings) before after (λ s e. both-taken template script bookings before s .0 e .2) said x number at;
+  largest-accepts = λ template script before after said s f full x.
+      let found : LargestFound s after said = rw (largest-taken template script before s .1 (f, full)) at x in
       (found .rounds, found .struck, found .bare, found .says);
-  smallest-accepts = λ words list booked before after said s f b full x.
-      let found : SmallestFound s (Booked booked) after said =
-      rw (smallest-taken words list booked before s .1 (f, b, full)) at x in
+  smallest-accepts = λ template script bookings before after said s f b full x.
+      let found : SmallestFound s (Booked bookings) after said =
+      rw (smallest-taken template script bookings before s .1 (f, b, full)) at x in
       pairs-or-down said (found .outcome) (found .says);
   printer-listed = λ bytes number at e.
       numbered-turned PrinterListed (readInput bytes) number at (input-numbers bytes) e;
 }
 
 -- ---- the second demand
+-- Where no count is over 8,192, the first that is stands past the end.
 none-over : (counts : List ℕ) → ((k : ℕ) → getD counts k 0 ≤ maxCount) → length counts ≤ firstOver counts
 unfolding firstOver
 none-over [] low = omega arith
 none-over (w ∷ ws) low = rw (le-ltb maxCount w (low 0)) (omega (arith, none-over ws (λ k. low (suc k))))
 
-module _ (words : List ℕ) (t : Template) (read : readTemplate words ≡ accepted t)
+module _ (template : List ℕ) (t : Template) (read : readTemplate template ≡ accepted t)
     (shape : ℕ) (inside : shape < t .shapes)
     (counts : List ℕ) (whole : length counts ≡ t .kinds) (low : (k : ℕ) → getD counts k 0 ≤ maxCount) where
   -- the shape's part has a bag with these counts
   abbrev Fit : Type 0
   Fit = Fits (t .shapes) (getD (t .parts) shape Part.nothing) (count counts)
 
-  nothing-refused : fitQuestion words shape counts
+  -- no test of "Fit counts" finds a fault
+  nothing-refused : fitQuestion template shape counts
       ≡ accepted (record { shapes = t .shapes; part = getD (t .parts) shape Part.nothing; counts = counts })
   unfolding fitQuestion
   nothing-refused = rw (
@@ -119,7 +131,7 @@ module _ (words : List ℕ) (t : Template) (read : readTemplate words ≡ accept
     le-ltb (firstOver counts) (length counts) (none-over counts low),
   ) refl
 
-  counts-fit-exactly : (said : Said) → FitSays words shape counts said
+  counts-fit-exactly : (said : Said) → FitSays template shape counts said
       → ((said ≡ values (1 ∷ [])) ↔ Fit) × ((said ≡ values (0 ∷ [])) ↔ (Fit → ⊥))
   counts-fit-exactly said x = by-answer (rw nothing-refused at x)
     where
@@ -131,6 +143,7 @@ module _ (words : List ℕ) (t : Template) (read : readTemplate words ≡ accept
       by-answer (inl (f, e)) = ((λ _. f, λ _. e), (λ d. not-both e d, λ g. absurd (g f)))
       by-answer (inr (g, e)) = ((λ d. not-both d e, λ f. absurd (g f)), (λ _. g, λ _. e))
 
+-- Met is rule 2 of one pair.
 sound-exactly : (s : Sheet) (grid : List ℕ) → SoundTyping s grid ↔ (Typing s grid × RuleTwo s (on grid))
 sound-exactly s grid = (
   λ w. (w .typing, λ n t ln lt h. rule n t .0 (w .sound n t ln lt h)),
@@ -141,9 +154,13 @@ sound-exactly s grid = (
     rule n t = met-is (s .shapes) (Has s (on grid)) (neighboursOf s n t) (partOf s t)
 
 pub second-demand : SecondDemand
-second-demand = record { counts-fit = counts-fit-exactly; sound-typing = sound-exactly }
+second-demand = record {
+  counts-fit = λ template t formed. counts-fit-exactly template t (templates-are template t .1 formed);
+  sound-typing = sound-exactly;
+}
 
 -- ---- the third demand
+-- The bookings are turned down exactly where the outcome is.
 turned-refused : (said : Said) (o : Outcome) → said ≡ outcomeSaid o → TurnedDown said → Refused o
 turned-refused said (pairs m) e (card, shape, f) = no-values (sym f ∙ e)
 turned-refused said (notMet n t) e d = tt
@@ -152,6 +169,7 @@ refused-turned : (said : Said) (o : Outcome) → said ≡ outcomeSaid o → Refu
 refused-turned said (pairs m) e never = absurd never
 refused-turned said (notMet n t) e d = (n, t, e)
 
+-- Of bookings that are not turned down the pairs of the closure are counted.
 pairs-are : (s : Sheet) (Wanted : ℕ → ℕ → Type 0) (large small : List ℕ) (r m b : ℕ) (said : Said) (o : Outcome)
     → said ≡ outcomeSaid o → Demand3 s Wanted large r m b small o → (TurnedDown said → ⊥)
     → (X : Pairs) → IsClosure s Wanted X → said ≡ values (tally X (size s) ∷ [])
@@ -159,15 +177,36 @@ pairs-are s Wanted large small r m b said (pairs k) e d taken X c =
     e ∙ ap (λ (x : ℕ). values (x ∷ [])) (d .pairs-counted k X refl c)
 pairs-are s Wanted large small r m b said (notMet n t) e d taken X c = absurd (taken (n, t, e))
 
+-- Numbers that are said are told by it.
 same-first : {r m b x y z : ℕ} → values (r ∷ m ∷ b ∷ []) ≡ values (x ∷ y ∷ z ∷ []) → (r ≡ x) × (m ≡ y)
 same-first e = (cc, cc)
 
+-- The answer of the call for the largest, on a sheet for which a board stands.
+largest-typing : {s : Sheet} {B : Board} → Represents s B → (large : List ℕ) (said : Said) → LargestFound s large said
+    → LargestTyping s large said
+largest-typing {s} {B} rep large said x = record {
+  sound = record { typing = x .typing; sound = x .largest .last };
+  over = λ h w. largest-over rep (x .largest) (on h) (w .sound);
+  shapeless = λ n ln. (
+    λ none h w t lt. is-false (λ e.
+        never-both (largest-over rep (x .largest) (on h) (w .sound) n t ln lt e) (none t lt)),
+    λ none. none large (record { typing = x .typing; sound = x .largest .last }),
+  );
+  numbers = λ r m X h.
+      let (rounds, struck, alike) = largest-unique rep (x .largest) h in
+      let bares = x .counted ∙ bare-alike rep (on large) X alike in
+      x .says ∙ rw (rounds, struck, bares) refl;
+  some-numbers = some-largest rep;
+  bound = λ rounds struck bare f.
+      let (i, j) = same-first (sym (x .says) ∙ f) in
+      omega (arith, largest-bound rep (x .largest), i, j);
+}
+
+-- The answers of both calls.
 two-typings : (s : Sheet) (bookings large small : List ℕ) (said : BothSaid)
-    → BothFound s (Booked bookings) small large said
-    → TwoTypings s bookings large small (said .largest) (said .smallest)
+    → BothFound s (Booked bookings) small large said → TwoTypings s bookings large small (said .smallest)
 two-typings s bookings large small said x =
     let d = x .demand in
-    let l = x .largest .says in
     let o = x .smallest .outcome in
     let e = x .smallest .says in
     let taken : (TurnedDown (said .smallest) → ⊥) → Refused o → ⊥ =
@@ -180,24 +219,28 @@ two-typings s bookings large small said x =
       small-sound = λ never. d .small-sound (taken never);
       large-sound = λ never. d .large-sound (taken never);
       between = λ never. d .between (taken never);
-      shapeless = d .shapeless;
-      numbers = λ r m X h. let (i, j, k) = d .numbers r m X h in l ∙ rw (i, j, k) refl;
-      some-numbers = d .counts-some;
       pairs = pairs-are s (Booked bookings) large small (x .largest .rounds) (x .largest .struck) (x .largest .bare)
           (said .smallest) o e d;
-      bound = λ rounds struck bare f.
-          let (i, j) = same-first (sym l ∙ f) in
-          omega (arith, d .bound, i, j);
     }
+
+-- A board stands for each well-formed sheet.
+formed-board : (template script : List ℕ) (s : Sheet) → Formed template script s → (B : Board) × Represents s B
+formed-board template script s f = represented template script s (formed-sheet template script s f)
 
 pub third-demand : ThirdDemand
 third-demand = record {
-  apart = λ words list bookings s f b large-before small-before fl fs large small of-large of-small x y.
+  largest = λ template script s f before full large said x.
+      let found : LargestFound s large said = rw (largest-taken template script before s .1 (f, full)) at x in
+      largest-typing (formed-board template script s f .1) large said found;
+  smallest = λ template script bookings s f b large-before small-before fl fs large small of-large of-small x y.
       two-typings s bookings large small (record { largest = of-large; smallest = of-small })
-      (apart words list bookings large-before small-before s (largest-taken words list large-before s .1 (f, fl))
-      (smallest-taken words list bookings small-before s .1 (f, b, fs)) large small of-large of-small x y);
-  both = λ words list bookings s f b before after fl fs said x.
-      let taken = both-taken words list bookings before s .1 (f, b, fs, fl) in
-      let found : BothFound s (Booked bookings) (after .small) (after .large) said = rw taken at x in
-      two-typings s bookings (after .large) (after .small) said found;
+      (apart template script bookings large-before small-before s
+      (largest-taken template script large-before s .1 (f, fl))
+      (smallest-taken template script bookings small-before s .1 (f, b, fs)) large small of-large of-small x y);
+  both = λ template script bookings s f b before after fl fs said x.
+      let taken = both-taken template script bookings before s .1 (f, b, fs, fl) in
+      let found : BothFound s (Booked bookings) (after .small) (after .large) said = rw taken at x in (
+        largest-typing (formed-board template script s f .1) (after .large) (said .largest) (found .largest),
+        two-typings s bookings (after .large) (after .small) said found,
+      );
 }

@@ -17,7 +17,6 @@ use Rattle.template.specs.Template.{Template, readTemplate}
 use Rattle.template.proofs.RoundTrip.{templates-are}
 use Rattle.script.specs.Script.{ScriptCounts, countsOf, readScript}
 use Rattle.script.proofs.RoundTrip.{scripts-are}
-use Rattle.bags.specs.Bag.{count}
 use Rattle.sheet.specs.Sheet.{Sheet, size, sheetOf, readSheet}
 use Rattle.sheet.proofs.Accepted.{mapped-accepted, sheet-asked}
 use Rattle.bookings.specs.Bookings.{cardAt, shapeAt, readPairs, readBookings}
@@ -27,7 +26,7 @@ use Rattle.typing.proofs.Booked.{grid-asked}
 use Rattle.demands.specs.Demands.{Formed, BookingsFormed}
 
 module _ (words list : List ℕ) (s : Sheet) where
-  pub sheet-formed : readSheet words list ≡ accepted s → Formed words list s
+  sheet-formed : readSheet words list ≡ accepted s → Formed words list s
   unfolding readSheet
   sheet-formed e =
       let (t, first, rest) = then-accepted (readTemplate words)

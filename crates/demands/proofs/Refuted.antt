@@ -1,29 +1,38 @@
 -- Wrong answers are not allowed by the contracts: shown on the worked sheet of docs/FORMAT.md, so that each of these
 -- promises is seen to say something.
---   only-largest, only-met, only-not-met    the right answers are the only ones
---   grid-untouched            an accepting call that leaves the grid as it was
---   three-rounds              3 rounds instead of 4
---   closure-left              50 that leaves the closure in the grid instead of zeros
---   booking-named             50 that names the booked pair instead of the pair that is not met
---   met-turned-down           50 for bookings that can be met; unmet-accepted: pairs for bookings that cannot
---   refusal-changes           a refusal that changes a byte of the grid
---   size-first, list-first    30 comes before 40: 40 is not allowed, 30 is
---   all-refused               a reader that refuses this template
+--   only-largest, only-met, only-not-met   the right answers are the only ones
+--   grid-untouched, sevens-untouched       an accepting call that leaves the grid as it was
+--   three-rounds             3 rounds instead of 4
+--   closure-left             50 that leaves the closure in the grid instead of zeros
+--   booking-named            50 that names the booked pair instead of the pair that is not met
+--   met-turned-down          50 for bookings that can be met
+--   unmet-accepted           a number of pairs for bookings that cannot
+--   five-refused, refusal-changes          a refusal that changes a byte of the grid
+--   list-first, size-first   the list of bookings is looked at before the grid: 30 is allowed, 40 is not
+--   wrong-fit                "no" to counts that fit
+--   links-elsewhere          a part for a card that is not there, which is empty, at another place of the script
+--   all-refused              a reader that refuses this template
 -- Assumes nothing.
-use Prim.Native.Nat.{ℕ}
-use mathlib.Core.Path.{_≡_, refl, ap}
+use Prim.Native.Nat.{ℕ, _+_}
+use mathlib.Core.Path.{_≡_, refl, ap, _∙_}
 use mathlib.Core.List.{List, [], _∷_}
 use native.Mathlib.Omega.{arith}
+use denote.Ref.{RefT, now}
 use lib.ListN.{length, getD}
 use Rattle.words.specs.Said.{Said, values, refusal}
 use Rattle.template.specs.Reading.{readLink, readRun, readPart}
 use Rattle.template.specs.Template.{readShape, readShapes, readTemplate, templateSays}
 use Rattle.bookings.specs.Bookings.{readBookings}
+use Rattle.script.specs.Script.{linksStart}
+use Rattle.script.proofs.Answers.{LinksPart}
+use Rattle.counts.specs.Fit.{FitSays}
+use Rattle.counts.proofs.Fitting.{fit-one-answer}
 use Rattle.typing.specs.Calls.{LargestSays, SmallestSays}
 use Rattle.typing.proofs.Existence.{largest-one-answer, smallest-one-answer}
 use Rattle.demands.specs.Worked.{template, script, metBookings, unmetBookings, lastShape, noShapes}
 use Rattle.demands.specs.Worked.{largestAnswer, smallestAnswer, notMetAnswer}
-use Rattle.demands.proofs.Worked.{worked-read, worked-largest, worked-smallest, worked-not-met}
+use Rattle.demands.proofs.Worked.{worked-read, worked-links, worked-fit, worked-largest, worked-smallest}
+use Rattle.demands.proofs.Worked.{worked-not-met}
 
 -- ---- the right answers are the only ones
 module _ (before : List ℕ) (six : length before ≡ 6) (after : List ℕ) (said : Said) where
@@ -107,6 +116,21 @@ pub size-first : (before after : List ℕ) → SmallestSays template script [] b
 size-first before after x =
     let e = smallest-one-answer template script [] before after before _ _ x (list-first before) .0 in
     let z : _≡_ {A = ℕ} 40 30 = cc in omega arith
+
+-- "No" to the counts of card 0, one link of each kind, which fit shape 0.
+pub wrong-fit : FitSays template 0 (1 ∷ 1 ∷ []) (values (0 ∷ [])) → ⊥
+wrong-fit x =
+    let e = fit-one-answer template 0 (1 ∷ 1 ∷ []) (values (0 ∷ [])) (values (1 ∷ [])) x worked-fit in
+    let z : _≡_ {A = ℕ} 0 1 = cc in omega arith
+
+-- "Links of a card" for card 3, which is not there: the part is empty and starts where the script does, not two words
+-- (four bytes) further on, where the links start.
+pub links-elsewhere : (lent part : RefT (List ℕ)) → now lent ≡ script → LinksPart template lent 3 part
+    → part .ptr .1 ≡ 4 + lent .ptr .1 → ⊥
+links-elsewhere lent part e x there =
+    let start : linksStart template (now lent) 3 ≡ 0 =
+    ap (λ (l : List ℕ). linksStart template l 3) e ∙ worked-links .7 in
+    omega (arith, x .place, start, there)
 
 -- A reader that turns everything down turns this template down, which is read.
 pub all-refused : (number : ℕ) (place : List ℕ) → refusal number place ≡ templateSays template → ⊥

@@ -5,7 +5,8 @@
 --   stands                the board stands for the sheet
 --   four-rounds           three rounds strike something, the fourth nothing
 --   met-closure, unmet-closure          the closures of the two lists of bookings
---   worked-largest, worked-smallest, worked-not-met   the right answers are allowed
+--   worked-template, worked-script, worked-links, worked-fit   what the other operations say of it, by computation
+--   worked-largest, worked-smallest, worked-not-met, worked-both, worked-both-not-met   the right answers are allowed
 -- Assumes nothing.
 use Prim.Native.Nat.{ℕ, zero, suc, _+_, _*_, _/_, _%_, _≤_, _<_}
 use mathlib.Core.Path.{_≡_, refl, sym, ap, ap₂, _∙_, subst, subst₂}
@@ -18,6 +19,7 @@ use lib.Dec.{eqb}
 use lib.ListN.{length, getD, replicate}
 use borrow.Author.Tests.{eqb-true}
 use Rattle.words.specs.Limits.{maxKinds}
+use Rattle.words.specs.Said.{values}
 use Rattle.words.specs.Reading.{Reading, accepted}
 use Rattle.words.proofs.Bools.{never-both, or-cases, false-true, false-of-not}
 use Rattle.words.proofs.Places.{place-in, card-of, shape-of}
@@ -25,11 +27,13 @@ use Rattle.bags.specs.Part.{Part, Parts, at-most, named}
 use Rattle.bags.specs.Bag.{count}
 use Rattle.bags.specs.Interval.{fits}
 use Rattle.template.specs.Reading.{readLink, readRun, readPart}
-use Rattle.template.specs.Template.{Tabled, readShape, readShapes, readTemplate}
-use Rattle.script.specs.Link.{fromAt, kindAt, toAt, far, above, greater, neighbours}
-use Rattle.script.specs.Script.{readLinks, readScript}
+use Rattle.template.specs.Template.{Tabled, readShape, readShapes, readTemplate, templateSays}
+use Rattle.script.specs.Link.{fromAt, kindAt, toAt, far, above, greater, cardWords, below, neighbours}
+use Rattle.script.specs.Script.{readLinks, readScript, scriptSays, cardLinks, linksStart}
 use Rattle.sheet.specs.Sheet.{Sheet, partOf, place, readSheet}
 use Rattle.sheet.proofs.Accepted.{SheetAccepted, sheet-made}
+use Rattle.counts.specs.Fit.{firstOver, fitQuestion, FitSays}
+use Rattle.bags.proofs.Decide.{list-decided}
 use Rattle.board.specs.Grid.{on, bit, tally}
 use Rattle.board.specs.Machine.{all}
 use Rattle.board.specs.Board.{Board}
@@ -42,9 +46,10 @@ use Rattle.typing.specs.Largest.{Largest, bare, bareCards}
 use Rattle.typing.specs.Smallest.{Closure, booked, follow, IsClosure}
 use Rattle.typing.specs.Demand3.{pairs, notMet}
 use Rattle.typing.specs.Calls.{largestReading, smallestReading, LargestFound, LargestAnswered, LargestSays}
-use Rattle.typing.specs.Calls.{SmallestFound, SmallestAnswered, SmallestSays}
+use Rattle.typing.specs.Calls.{SmallestFound, SmallestAnswered, SmallestSays, Grids, bothReading, BothSays}
 use Rattle.typing.proofs.Represents.{Represents, Alike, pair-in}
 use Rattle.typing.proofs.Boards.{board-lawful}
+use Rattle.typing.proofs.Demand.{both-found}
 use Rattle.typing.proofs.Largest.{largest-of}
 use Rattle.typing.proofs.Smallest.{BookedIn, closure-in}
 use Rattle.typing.proofs.Instance.{FitsGrid, CountsOf, counts-all, fits-grid, ready, represents}
@@ -72,6 +77,40 @@ unfolding readTemplate readShape readShapes readPart readRun readLink readScript
     above greater
 read = sheet-made template script
     (record { kinds = 2; shapes = 2; parts = worked .parts }) (record { cards = 3; links = 3 }) refl refl
+
+-- ---- the operations that make no typing
+pub worked-template : templateSays template ≡ values (2 ∷ 2 ∷ [])
+unfolding templateSays readTemplate readShape readShapes readPart readRun readLink
+worked-template = refl
+
+pub worked-script : scriptSays template script ≡ values (3 ∷ 3 ∷ [])
+unfolding scriptSays readTemplate readShape readShapes readPart readRun readLink readScript readLinks fromAt kindAt toAt
+    above greater
+worked-script = refl
+
+-- The links of each card, and the word of the script at which they start; there is no card 3.
+pub worked-links : (cardLinks template script 0 ≡ 0 ∷ 0 ∷ 2 ∷ 0 ∷ 1 ∷ 1 ∷ [])
+    × (cardLinks template script 1 ≡ 1 ∷ 0 ∷ 0 ∷ [])
+    × (cardLinks template script 2 ≡ [])
+    × (cardLinks template script 3 ≡ [])
+    × (linksStart template script 0 ≡ 2)
+    × (linksStart template script 1 ≡ 8)
+    × (linksStart template script 2 ≡ 11)
+    × (linksStart template script 3 ≡ 0)
+unfolding cardLinks readTemplate readShape readShapes readPart readRun readLink readScript readLinks fromAt kindAt toAt
+    above greater cardWords below
+worked-links = (refl, refl, refl, refl, refl, refl, refl, refl)
+
+-- Card 0 has a link of each kind: these counts fit shape 0.
+pub worked-fit : FitSays template 0 (1 ∷ 1 ∷ []) (values (1 ∷ []))
+unfolding fitQuestion readTemplate readShape readShapes readPart readRun readLink firstOver
+worked-fit =
+    let part = partOf worked 0 in
+    (inl (
+      list-decided 2 part (1 ∷ 1 ∷ []) (read .shapes .single 0 (omega arith))
+          (read .shapes .shapes-below 0 (omega arith)) .1 refl,
+      refl,
+    ))
 
 -- ---- numbers below a small one
 pub below-two : (P : ℕ → Type 0) → P 0 → P 1 → (k : ℕ) → k < 2 → P k
@@ -374,3 +413,24 @@ pub worked-not-met : (before : List ℕ) → length before ≡ 6
 worked-not-met before l =
     subst (λ (r : Reading Sheet). SmallestAnswered r (Booked unmetBookings) before noShapes notMetAnswer)
     (sym (unmet-asked before l)) not-met-found
+
+-- ---- both
+both-asked : (bookings : List ℕ) (before : Grids) → length (before .large) ≡ 6
+    → smallestReading template script bookings (before .small) ≡ accepted worked
+    → bothReading template script bookings before ≡ accepted worked
+both-asked bookings before l e = rw (e, l) refl
+
+-- The right answers of "Both" are allowed: each grid and each answer is that of its own call.
+pub worked-both : (before : Grids) → length (before .small) ≡ 6 → length (before .large) ≡ 6
+    → BothSays template script metBookings before (record { small = lastShape; large = lastShape })
+    (record { largest = largestAnswer; smallest = smallestAnswer })
+worked-both before small large =
+    rw (both-asked metBookings before large (met-asked (before .small) small))
+    (both-found stands (one-inside 2 1 (omega arith) (omega arith)) largest-found smallest-found)
+
+pub worked-both-not-met : (before : Grids) → length (before .small) ≡ 6 → length (before .large) ≡ 6
+    → BothSays template script unmetBookings before (record { small = noShapes; large = lastShape })
+    (record { largest = largestAnswer; smallest = notMetAnswer })
+worked-both-not-met before small large =
+    rw (both-asked unmetBookings before large (unmet-asked (before .small) small))
+    (both-found stands (one-inside 0 0 (omega arith) (omega arith)) largest-found not-met-found)

@@ -3,20 +3,33 @@
 -- counts and calls): on every input, without any premise, with its end reached and nothing undefined on the way. What
 -- follows is said of every answer that such a relation allows.
 --
--- From the crates below, and defined there in a few lines each:
---   Said: values, or a refusal with its number and place. Reading: accepted, or turnedDown with number and place.
---   readTemplate, readScript, readBookings, readSheet, readInput, fitQuestion: the lists of tests of docs/FORMAT.md in
---   their order, a line each; the first that finds a fault turns down.
---   templateSays, scriptSays, FitSays, LargestSays, SmallestSays, BothSays: what each operation may say and write.
---   Sheet: what is read of a template and a script. size: its number of pairs. on grid p: the byte at place p is 1.
+-- From the crates below, each defined there in a few lines:
+--   Said                  what is said: values, or a refusal with its number and its place
+--   Reading               accepted with what was read, or turnedDown with a refusal's number and place
+--   readTemplate, readWith, readSheet, readBookings, fitQuestion, readInput, largestReading, smallestReading,
+--   bothReading           the tests of docs/FORMAT.md in their order, a line each: the first that finds a fault turns
+--                         down. readWith is of a script with its template, readSheet of both, the last three of a call
+--   templateSays, scriptSays, FitSays, LargestSays, SmallestSays, BothSays   what each operation may say and write
+--   Template, Sheet       what is read of a template; of a template and a script. partOf: the part of a shape.
+--                         neighboursOf: the labels and far cards of a card's links. size: how many pairs there are
+--   Pairs, Has, on        a set of pairs of a card and a shape, by their places in a grid; it has a pair; the set of a
+--                         grid: where its byte is 1. place: the place of a pair
+--   Typing, SoundTyping   a grid of zeros and ones of the right length; a sound one
+--   Booked, Holds, Below  some booking is of the card and the shape; a set has every booking; a set is in another
+--   Largest, bareCards    docs/FORMAT.md, "Largest": from every pair, r rounds of which the last strikes nothing and no
+--                         other, with m pairs struck in all, lead to the set X; how many cards have no shape
+--   IsClosure, tally      "Smallest": a set is the closure of the bookings; how many pairs a set has
+--   Bag, Bags, total      2.1: a bag of (label, shape), the bags of a part, how many of a label a bag has
+--   WellFormed, writeTemplate, writeScript, InputFormed, writeInput   the limits and layout rules, and the words or
+--                         bytes of what keeps them
 --
 -- Here:
---   Formed, BookingsFormed              a well-formed template and script; a well-formed list of bookings
+--   FormedTemplate, Formed, BookingsFormed   a well-formed template; with a script; a well-formed list of bookings
 --   TemplateListed .. PrinterListed     the numbers that an operation's refusals have
 --   TurnedDown                          the bookings cannot be met: 50
 --   FirstDemand                         faults get their refusals, and nothing else is refused
 --   Neighbourhood, RuleTwo, Belong, SecondDemand   the bag language and sound typings are the paper's
---   TwoTypings, ThirdDemand             the smallest and the largest typing
+--   LargestTyping, TwoTypings, ThirdDemand   the largest typing, and with it the smallest
 -- Assumes nothing.
 use Prim.Native.Nat.{ℕ, _+_, _*_, _≤_, _<_}
 use mathlib.Core.Path.{_≡_}
@@ -44,9 +57,16 @@ use Rattle.typing.specs.Smallest.{IsClosure}
 use Rattle.typing.specs.Answer.{BothSaid}
 use Rattle.typing.specs.Calls.{Grids, largestReading, smallestReading, bothReading, LargestSays, SmallestSays}
 use Rattle.typing.specs.Calls.{BothSays}
-use Rattle.input.specs.Input.{readInput}
+use Rattle.input.specs.Input.{Input, readInput}
+use Rattle.input.specs.Writer.{writeInput, InputFormed, Bytes}
 
 -- ================ what is well-formed
+-- The words are those of this template, and it is within all limits.
+abbrev pub FormedTemplate : List ℕ → Template → Type 0
+FormedTemplate template t =
+    templates.WellFormed (t .kinds) (t .shapes) (t .parts)
+    × (template ≡ templates.writeTemplate (t .kinds) (t .shapes) (t .parts))
+
 -- The words are those of a template and a script within all limits of docs/FORMAT.md, and the sheet is theirs. The
 -- limits and layout rules are the fields of the two `WellFormed`; what the words of a template and a script are is
 -- `writeTemplate` and `writeScript`.
@@ -108,8 +128,7 @@ pub record FirstDemand : Type 0 where
   -- ---- nothing is refused exactly where all is well-formed
   -- a template is read exactly if its words are those of a well-formed one,
   pub template-exact : (template : List ℕ) (t : Template) → (readTemplate template ≡ accepted t)
-      ↔ (templates.WellFormed (t .kinds) (t .shapes) (t .parts)
-      × (template ≡ templates.writeTemplate (t .kinds) (t .shapes) (t .parts)))
+      ↔ FormedTemplate template t
   -- with a script exactly if the script is well-formed too,
   pub sheet-exact : (template script : List ℕ) (s : Sheet)
       → (readSheet template script ≡ accepted s) ↔ Formed template script s
@@ -126,6 +145,10 @@ pub record FirstDemand : Type 0 where
       → (bothReading template script bookings grids ≡ accepted s)
       ↔ (Formed template script s × BookingsFormed (s .cards) (s .shapes) bookings
       × (length (grids .small) ≡ size s) × (length (grids .large) ≡ size s))
+  -- the printer's bytes are taken exactly if they are those of three lists of words, with their counts, that are within
+  -- the limits
+  pub input-exact : (bytes : List ℕ) → Bytes bytes → (i : Input)
+      → (readInput bytes ≡ accepted i) ↔ (InputFormed i × (bytes ≡ writeInput i))
   -- ---- the first fault is said, and no grid changes
   pub template-first : (template : List ℕ) (number at : ℕ) → readTemplate template ≡ turnedDown number at
       → templateSays template ≡ refusal number (at ∷ [])
@@ -185,16 +208,16 @@ abbrev pub RuleTwo : Sheet → Pairs → Type 0
 RuleTwo s X = (n t : ℕ) → n < s .cards → t < s .shapes → Has s X n t
     → (b : Bag) × Neighbourhood s X n t b × Bags (partOf s t) b
 
--- Counts of links belong to the bag language of a shape: some bag of the shape's part has, over all shapes, just so many
--- of each label. `Bags` is the bag language of section 2.1.
+-- Counts of links belong to the bag language of a shape: some bag of the shape's part has, over all shapes, just so
+-- many of each label. `Bags` is the bag language of section 2.1.
 abbrev pub Belong : Template → ℕ → List ℕ → Type 0
 Belong t shape counts =
     (b : Bag) × Bags (getD (t .parts) shape Part.nothing) b × ((k : ℕ) → total (t .shapes) b k ≡ getD counts k 0)
 
 pub record SecondDemand : Type 0 where
-  -- Asked of a shape of a template that is read, and a count of at most 8,192 for each kind, "Fit counts" says 1 exactly
-  -- where the counts belong to the shape's bag language, and else 0.
-  pub counts-fit : (template : List ℕ) (t : Template) → readTemplate template ≡ accepted t
+  -- Asked of a shape of a well-formed template, and a count of at most 8,192 for each kind, "Fit counts" says 1
+  -- exactly where the counts belong to the shape's bag language, and else 0.
+  pub counts-fit : (template : List ℕ) (t : Template) → FormedTemplate template t
       → (shape : ℕ) → shape < t .shapes
       → (counts : List ℕ) → length counts ≡ t .kinds → ((k : ℕ) → getD counts k 0 ≤ maxCount)
       → (said : Said) → FitSays template shape counts said
@@ -204,42 +227,54 @@ pub record SecondDemand : Type 0 where
   pub sound-typing : (s : Sheet) (grid : List ℕ) → SoundTyping s grid ↔ (Typing s grid × RuleTwo s (on grid))
 
 -- ================ the third demand
--- The two grids and what was said of them, on a sheet with bookings.
-pub record TwoTypings (s : Sheet) (bookings large small : List ℕ) (of-large of-small : Said) : Type 0 where
-  -- the bookings are turned down exactly if no sound typing has them all
-  pub turned-down : TurnedDown of-small
-      ↔ ((h : List ℕ) → SoundTyping s h → Holds s (Booked bookings) (on h) → ⊥)
-  -- where they are not, both grids are sound typings that have the bookings,
-  pub small-sound : (TurnedDown of-small → ⊥) → SoundTyping s small × Holds s (Booked bookings) (on small)
-  pub large-sound : (TurnedDown of-small → ⊥) → SoundTyping s large × Holds s (Booked bookings) (on large)
-  -- and each sound typing that has them lies between the two
-  pub between : (TurnedDown of-small → ⊥) → (h : List ℕ) → SoundTyping s h → Holds s (Booked bookings) (on h)
-      → Below s (on small) (on h) × Below s (on h) (on large)
-  -- whatever is bookings, a card has no shape in the largest exactly if no sound typing gives it one
+-- The grid of "Largest" and what was said of it, with or without bookings.
+pub record LargestTyping (s : Sheet) (large : List ℕ) (said : Said) : Type 0 where
+  -- the grid is a sound typing, and every sound typing is in it
+  pub sound : SoundTyping s large
+  pub over : (h : List ℕ) → SoundTyping s h → Below s (on h) (on large)
+  -- a card has no shape in it exactly if no sound typing gives the card one
   pub shapeless : (n : ℕ) → n < s .cards
       → ((t : ℕ) → t < s .shapes → on large (place s n t) ≡ false)
       ↔ ((h : List ℕ) → SoundTyping s h → (t : ℕ) → t < s .shapes → on h (place s n t) ≡ false)
-  -- rounds, strikes and cards with no shape are those of the definition by rounds, which has one result
-  pub numbers : (r m : ℕ) (X : Pairs) → Largest s r m X → of-large ≡ values (r ∷ m ∷ bareCards s X ∷ [])
+  -- rounds, strikes and cards with no shape are those that the definition by rounds counts, and it counts some
+  pub numbers : (r m : ℕ) (X : Pairs) → Largest s r m X → said ≡ values (r ∷ m ∷ bareCards s X ∷ [])
   pub some-numbers : (r : ℕ) × (m : ℕ) × (X : Pairs) × Largest s r m X
-  -- pairs are those of the closure of the bookings
-  pub pairs : (TurnedDown of-small → ⊥) → (X : Pairs) → IsClosure s (Booked bookings) X
-      → of-small ≡ values (tally X (size s) ∷ [])
   -- there is at most one round more than there are strikes
-  pub bound : (rounds struck bare : ℕ) → of-large ≡ values (rounds ∷ struck ∷ bare ∷ []) → rounds ≤ struck + 1
+  pub bound : (rounds struck bare : ℕ) → said ≡ values (rounds ∷ struck ∷ bare ∷ []) → rounds ≤ struck + 1
 
--- For every well-formed template, script and script of bookings, and two grids of the right size whatever their bytes:
--- what is left by the two calls, and what by the one call for both.
+-- The grids of "Largest" and "Smallest", and what was said of the bookings.
+pub record TwoTypings (s : Sheet) (bookings large small : List ℕ) (said : Said) : Type 0 where
+  -- the bookings are turned down exactly if no sound typing has them all
+  pub turned-down : TurnedDown said ↔ ((h : List ℕ) → SoundTyping s h → Holds s (Booked bookings) (on h) → ⊥)
+  -- where they are not, both grids are sound typings that have the bookings,
+  pub small-sound : (TurnedDown said → ⊥) → SoundTyping s small × Holds s (Booked bookings) (on small)
+  pub large-sound : (TurnedDown said → ⊥) → SoundTyping s large × Holds s (Booked bookings) (on large)
+  -- and each sound typing that has them lies between the two
+  pub between : (TurnedDown said → ⊥) → (h : List ℕ) → SoundTyping s h → Holds s (Booked bookings) (on h)
+      → Below s (on small) (on h) × Below s (on h) (on large)
+  -- the pairs that are counted are those of the closure of the bookings
+  pub pairs : (TurnedDown said → ⊥) → (X : Pairs) → IsClosure s (Booked bookings) X
+      → said ≡ values (tally X (size s) ∷ [])
+
+-- For every well-formed template, script and list of bookings, and grids of the right size whatever their bytes were:
 pub record ThirdDemand : Type 0 where
-  pub apart : (template script bookings : List ℕ) (s : Sheet) → Formed template script s
+  -- of the call for the largest,
+  pub largest : (template script : List ℕ) (s : Sheet) → Formed template script s
+      → (before : List ℕ) → length before ≡ size s → (large : List ℕ) (said : Said)
+      → LargestSays template script before large said
+      → LargestTyping s large said
+  -- of this and the call for the smallest,
+  pub smallest : (template script bookings : List ℕ) (s : Sheet) → Formed template script s
       → BookingsFormed (s .cards) (s .shapes) bookings
       → (large-before small-before : List ℕ) → length large-before ≡ size s → length small-before ≡ size s
       → (large small : List ℕ) (of-large of-small : Said)
       → LargestSays template script large-before large of-large
       → SmallestSays template script bookings small-before small of-small
-      → TwoTypings s bookings large small of-large of-small
+      → TwoTypings s bookings large small of-small
+  -- and of the one call for both
   pub both : (template script bookings : List ℕ) (s : Sheet) → Formed template script s
       → BookingsFormed (s .cards) (s .shapes) bookings
       → (before after : Grids) → length (before .large) ≡ size s → length (before .small) ≡ size s
       → (said : BothSaid) → BothSays template script bookings before after said
-      → TwoTypings s bookings (after .large) (after .small) (said .largest) (said .smallest)
+      → LargestTyping s (after .large) (said .largest)
+      × TwoTypings s bookings (after .large) (after .small) (said .smallest)
