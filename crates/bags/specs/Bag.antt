@@ -79,8 +79,8 @@ Under n no-limit = Unit {0}
 abbrev pub Copies : ℕ → ℕ → ℕ → Limit → Language
 Copies label shape low high b = (n : ℕ) × (low ≤ n) × Under n high × (b ≡ copies n label shape)
 
--- The bags that a part takes: a choice those of any of its parts, all a bag of each put together, star any number of its
--- part's bags, plus one or more; optional by definition those of the run of nothing and the part.
+-- The bags that a part takes: a choice those of any of its parts, all a bag of each put together, star any number of
+-- its part's bags, plus one or more; optional by definition those of the run of nothing and the part.
 abbrev mutual
   pub Bags : Part → Language
   Bags nothing = EmptyBag
@@ -108,7 +108,7 @@ sumBelow (suc n) f = sumBelow n f + f n
 abbrev pub total : ℕ → Bag → ℕ → ℕ
 total S b k = sumBelow S (b k)
 
--- Counts fit a part that takes a bag with these counts. A label that the part does not name counts 0 in each of its bags.
+-- Counts fit a part that takes a bag with these counts. A label that the part does not name counts 0 in each of them.
 abbrev pub Fits : ℕ → Part → (ℕ → ℕ) → Type 0
 Fits S p counts = (b : Bag) × Bags p b × ((k : ℕ) → total S b k ≡ counts k)
 

@@ -28,4 +28,5 @@ module _ (words buffer : List ℕ) where
   pub room-filled :
       length buffer ≤ length words →
       take (length buffer) words ++ drop (length buffer) buffer ≡ copied words buffer
-  room-filled h = rw (drop-of-length-le buffer {i = length buffer} (omega arith), drop-of-length-le buffer {i = length words} h)
+  room-filled h =
+      rw (drop-of-length-le buffer {i = length buffer} (omega arith), drop-of-length-le buffer {i = length words} h)

@@ -1,5 +1,5 @@
--- The number of a refusal at one place is neither 0 nor one of those with a card and a shape: so the number of an answer
--- tells what the answer says. Each law composes what the readers refuse with.
+-- The number of a refusal at one place is neither 0 nor one of those with a card and a shape: so the number of an
+-- answer tells what the answer says. Each law composes what the readers refuse with.
 --   template-plain, fit-plain, script-plain, largest-plain, smallest-plain, both-plain   of each operation
 -- Assumes nothing.
 use Prim.Native.Nat.{ℕ, _≤_, _<_}

@@ -1,7 +1,7 @@
 -- One law for all answers: what the numbers of a struct say tells the numbers.
 --   Plain            a number that is neither 0 nor one of the refusals with a card and a shape
 --   plain-number     enough that it is neither 0 nor 50
---   tells-found, tells-refused, tells-paired   the numbers of values, of a refusal at a place, and at a card and a shape
+--   tells-found, tells-refused, tells-paired   the numbers of values, of a refusal at a place, at a card and a shape
 --   equals-refused, both-refused   the numbers of a refusal where one thing is said, and of a refusal of both typings
 --   said-by          what holds of what an answer says holds by the case that it is
 --   numbers-unique   numbers that say the same, and are 0 where they say nothing, are the same

@@ -1,5 +1,5 @@
--- No choice at the C boundary: two answers that the contract of a C function allows for the same input are equal, and so
--- is the memory that they leave.
+-- No choice at the C boundary: two answers that the contract of a C function allows for the same input are equal, and
+-- so is the memory that they leave.
 --   template-no-choice, fit-no-choice, script-no-choice, links-no-choice, largest-no-choice, smallest-no-choice,
 --   both-no-choice   of each function
 -- Assumes nothing.

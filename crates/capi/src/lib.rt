@@ -1,5 +1,5 @@
-// The operations for C and Rust, on words and bytes that the caller lends (docs/FORMAT.md, "Operations"). An answer is a
-// struct of plain numbers: number is 0 where nothing is refused, and what an answer does not say is 0.
+// The operations for C and Rust, on words and bytes that the caller lends (docs/FORMAT.md, "Operations"). An answer is
+// a struct of plain numbers: number is 0 where nothing is refused, and what an answer does not say is 0.
 ghost use mathlib.Core.Path.{_≡_};
 ghost use lib.ListN.{length};
 ghost use Rattle.template.specs.Template.{templateSays};

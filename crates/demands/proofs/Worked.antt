@@ -275,7 +275,7 @@ is-booked : (c u : ℕ) → Booked (1 ∷ c ∷ u ∷ []) c u
 unfolding cardAt shapeAt
 is-booked c u = record { booking = 0; listed = omega arith; card = refl; shape = refl }
 
-one-inside : (c u : ℕ) → c < 3 → u < 2 → BookedIn worked (Booked (1 ∷ c ∷ u ∷ []))
+pub one-inside : (c u : ℕ) → c < 3 → u < 2 → BookedIn worked (Booked (1 ∷ c ∷ u ∷ []))
 one-inside c u lc lu n t b = let (e, f) = one-booked c u n t b in (omega (arith, e), omega (arith, f))
 
 -- Counts that fit everywhere: then a pair is met under a set just where the set has all that the pair asks for.

@@ -1,4 +1,6 @@
--- Demands: the three demands on one page. Refusals: an input for each refusal. Worked: a worked sheet and its answers.
+-- Demands: the three demands on one page. Refusals: an input for each refusal. Worked: a worked sheet and its
+-- answers. Printed: its bytes and its text.
 pub mod Worked
+pub mod Printed
 pub mod Refusals
 pub mod Demands

@@ -24,7 +24,8 @@ use Rattle.words.proofs.Readings.{accepted-same, passed}
 use Rattle.input.specs.Input.{wordAt, wordsFrom, sectionEnd, sectionWords, scriptStart, bookingsStart, inputEnd}
 use Rattle.input.specs.Input.{Input, inputOf, readInput}
 use Rattle.input.specs.Writer.{writeWords, section, inputWords, writeInput, InputFormed, Bytes}
-use Rattle.input.proofs.Inputs.{reads-sections, words-length, same-input}
+use Rattle.input.proofs.Inputs.{reads-sections, same-input}
+use Rattle.input.proofs.Words.{words-length}
 
 pub words-size : (ws : List ℕ) → length (writeWords ws) ≡ 2 * length ws
 words-size [] = refl

@@ -15,7 +15,7 @@ use Rattle.input.specs.Machine.{Decoded, wordsIn, Within}
 use Rattle.input.specs.declared.Section.{Section}
 
 module _ (bytes : List ℕ) where
-  words-length : (at n : ℕ) → length (wordsFrom bytes at n) ≡ n
+  pub words-length : (at n : ℕ) → length (wordsFrom bytes at n) ≡ n
   unfolding wordsFrom
   words-length at zero = refl
   words-length at (suc n) =

@@ -1,4 +1,4 @@
--- Chains, Walks: chains and walks of them. Names, Needs: what the chains and the links make good. Followed, Indexes: the
+-- Chains, Walks: chains and their walks. Names, Needs: what the chains and the links make good. Followed, Indexes: the
 -- search forwards. Tallies: a tally in memory. Marks, Closures: the closure of the bookings.
 pub mod Chains
 pub mod Walks

@@ -2,15 +2,15 @@
 ghost use mathlib.Core.Path.{_≡_};
 ghost use lib.ListN.{length};
 ghost use Rattle.search.specs.Closing.{MarkAsked, Marked, CloseAsked, Closes, UnfitAsked, UnfitFound};
+use crate::Unfit;
+use crate::follow::flood;
 use board::fill;
 use board::first_missing;
 use board::flip;
 use board::list_off;
-use crate::Unfit;
 use script::Card;
 use template::Shape;
 use words::wide;
-use crate::follow::flood;
 
 // Turns the pairs of the bookings off in a grid that has every pair.
 fn mark_bookings(bookings: &[u16], count: u16, cards: usize, shapes: usize, grid: &mut [u8])

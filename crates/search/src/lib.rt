@@ -13,8 +13,8 @@ pub use closure::close;
 pub use closure::first_unfit;
 pub use index::link_starts;
 use script::Card;
-use template::Shape;
 pub use strike::strike_all;
+use template::Shape;
 
 // Rounds and pairs struck.
 pub struct Tally {

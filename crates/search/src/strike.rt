@@ -10,17 +10,17 @@ ghost use Rattle.typing.specs.Needs.{boardOf};
 ghost use Rattle.search.specs.Tally.{closed};
 ghost use Rattle.search.specs.Strikes.{NamedGood, TargetGood, Searched, NamedAsked, TargetAsked, RoundsAsked};
 ghost use Rattle.search.specs.Strikes.{StrikeAsked};
+use crate::Tally;
+use crate::index::chain;
+use crate::index::index_names;
 use board::list_off;
 use board::strike_one;
-use crate::Tally;
 use words::MAX_CARDS;
 use words::MAX_KINDS;
 use words::MAX_LINKS;
 use words::MAX_SHAPES;
 use words::TABLE_SIZE;
 use words::wide;
-use crate::index::chain;
-use crate::index::index_names;
 
 // Strikes the pairs of the card at `base` whose shape names u for the label.
 fn strike_named(

@@ -21,7 +21,8 @@ Allowed a =
     (record { small = a .both-typings .last .1 .1 .1 .0; large = a .both-typings .last .1 .1 .1 .1 .0 })
 
 plain : (a : tie.After-both-typings) (number place : ℕ)
-    → Allowed a (record { largest = refusal number (place ∷ []); smallest = refusal number (place ∷ []) }) → Plain number
+    → Allowed a (record { largest = refusal number (place ∷ []); smallest = refusal number (place ∷ []) })
+    → Plain number
 plain a number place =
     let s = a .before .before .before .before .before .before .before .before in
     both-plain number place (now (s .args .template)) (now (s .args .script)) (now (s .args .bookings))
