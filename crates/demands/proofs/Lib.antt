@@ -1,5 +1,6 @@
 -- Worked: the right answers of the worked sheet are allowed; Printed: and its text. Refusals: every refusal happens.
--- Refuted: wrong answers are not allowed. Formed, Listed: what is well-formed is read, and what is refused is listed. Demands: the demands.
+-- Refuted: wrong answers are not allowed. Formed, Listed: what is well-formed is read, and what is refused is listed.
+-- Demands: the demands.
 pub mod Worked
 pub mod Refusals
 pub mod Refuted
