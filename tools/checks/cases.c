@@ -1,7 +1,8 @@
-/* * A sheet printer over the library's C functions. Standard input holds printer inputs, each after its length
-in four bytes, * low first; the text of each goes to standard output. On the way it checks that the calls agree
-with each other: both * typings with each typing alone, the links of the cards with the script, and that a
-refusal leaves the grids alone. */
+/*
+ * A sheet printer over the library's C functions. Standard input holds printer inputs, each after its length in four
+ * bytes, low first; the text of each goes to standard output. On the way it checks that the calls agree with each other:
+ * both typings with each typing alone, the links of the cards with the script, and that a refusal leaves the grids alone.
+ */
 #include "prep.h"
 
 #include <stdio.h>
@@ -10,70 +11,168 @@ refusal leaves the grids alone. */
 
 enum { MOST_BYTES = 65536, UNTOUCHED = 0xa5 };
 
-/* Words of one file. A section may be longer than its file's limit; then it is refused. */ struct words {
-uint16_t word[MOST_BYTES / 2]; size_t length; };
+/* Words of one file. A section may be longer than its file's limit; then it is refused. */
+struct words {
+    uint16_t word[MOST_BYTES / 2];
+    size_t length;
+};
 
-static struct words sheet_template, script, bookings; static uint8_t smallest[PREP_MAX_GRID_BYTES],
-largest[PREP_MAX_GRID_BYTES], alone[PREP_MAX_GRID_BYTES]; static uint16_t links[PREP_MAX_SCRIPT_WORDS];
+static struct words sheet_template, script, bookings;
+static uint8_t smallest[PREP_MAX_GRID_BYTES], largest[PREP_MAX_GRID_BYTES], alone[PREP_MAX_GRID_BYTES];
+static uint16_t links[PREP_MAX_SCRIPT_WORDS];
 
 /* What every call is lent. */
 #define TEMPLATE sheet_template.word, sheet_template.length
 #define SCRIPT script.word, script.length
 #define BOOKINGS bookings.word, bookings.length
 
-static void require(int holds, const char *what) { if (!holds) { fprintf(stderr, "cases: does not hold: %s\n",
-what); exit(1); } }
+static void require(int holds, const char *what)
+{
+    if (!holds) {
+        fprintf(stderr, "cases: does not hold: %s\n", what);
+        exit(1);
+    }
+}
 
 #define REQUIRE(holds) require((holds) != 0, #holds)
 
-/* Reads one section after its count; the place after it, or 0 if the input ends early. */ static size_t
-read_section(const uint8_t *bytes, size_t length, size_t at, struct words *section) { size_t i; if (length - at
-< 2) { return 0; } section->length = (size_t)bytes[at] + 256 * (size_t)bytes[at + 1]; at += 2; if (length - at <
-2 * section->length) { return 0; } for (i = 0; i < section->length; i++, at += 2) { section->word[i] =
-(uint16_t)(bytes[at] + 256 * bytes[at + 1]); } return at; }
+/* Reads one section after its count; the place after it, or 0 if the input ends early. */
+static size_t read_section(const uint8_t *bytes, size_t length, size_t at, struct words *section)
+{
+    size_t i;
+    if (length - at < 2) {
+        return 0;
+    }
+    section->length = (size_t)bytes[at] + 256 * (size_t)bytes[at + 1];
+    at += 2;
+    if (length - at < 2 * section->length) {
+        return 0;
+    }
+    for (i = 0; i < section->length; i++, at += 2) {
+        section->word[i] = (uint16_t)(bytes[at] + 256 * bytes[at + 1]);
+    }
+    return at;
+}
 
-/* Cuts an input into its three files; 0 if it ends early, goes on, or is too long. */ static int split(const
-uint8_t *bytes, size_t length) { size_t at; if (length > MOST_BYTES) { return 0; } at = read_section(bytes,
-length, 0, &sheet_template); at = at ? read_section(bytes, length, at, &script) : 0; at = at ?
-read_section(bytes, length, at, &bookings) : 0; return at != 0 && at == length; }
+/* Cuts an input into its three files; 0 if it ends early, goes on, or is too long. */
+static int split(const uint8_t *bytes, size_t length)
+{
+    size_t at;
+    if (length > MOST_BYTES) {
+        return 0;
+    }
+    at = read_section(bytes, length, 0, &sheet_template);
+    at = at ? read_section(bytes, length, at, &script) : 0;
+    at = at ? read_section(bytes, length, at, &bookings) : 0;
+    return at != 0 && at == length;
+}
 
-/* A line for each card: its shapes, ascending. */ static void print_cards(const uint8_t *grid, size_t cards,
-size_t shapes) { size_t card, shape; for (card = 0; card < cards; card++) { printf("card %zu:", card); for
-(shape = 0; shape < shapes; shape++) { if (grid[card * shapes + shape]) { printf(" %zu", shape); } }
-printf("\n"); } }
+/* A line for each card: its shapes, ascending. */
+static void print_cards(const uint8_t *grid, size_t cards,
+                                                                           size_t shapes)
+{
+    size_t card, shape;
+    for (card = 0; card < cards; card++) {
+        printf("card %zu:", card);
+        for (shape = 0; shape < shapes; shape++) {
+            if (grid[card * shapes + shape]) {
+                printf(" %zu", shape);
+            }
+        }
+        printf("\n");
+    }
+}
 
-static void check_alone(const struct prep_both_answer *both, size_t size) { struct prep_largest_answer l =
-prep_largest(TEMPLATE, SCRIPT, alone, size); struct prep_smallest_answer s; REQUIRE(l.number == 0 && l.rounds ==
-both->rounds && l.struck == both->struck && l.bare == both->bare); REQUIRE(memcmp(alone, largest, size) == 0); s
-= prep_smallest(TEMPLATE, SCRIPT, BOOKINGS, alone, size); REQUIRE(s.number == both->number && s.card ==
-both->card && s.shape == both->shape); REQUIRE(s.pairs == both->pairs && s.place == both->place);
-REQUIRE(memcmp(alone, smallest, size) == 0); }
+static void check_alone(const struct prep_both_answer *both, size_t size)
+{
+    struct prep_largest_answer l = prep_largest(TEMPLATE, SCRIPT, alone, size);
+    struct prep_smallest_answer s;
+    REQUIRE(l.number == 0 && l.rounds == both->rounds && l.struck == both->struck && l.bare == both->bare);
+    REQUIRE(memcmp(alone, largest, size) == 0);
+    s = prep_smallest(TEMPLATE, SCRIPT, BOOKINGS, alone, size);
+    REQUIRE(s.number == both->number && s.card == both->card && s.shape == both->shape);
+    REQUIRE(s.pairs == both->pairs && s.place == both->place);
+    REQUIRE(memcmp(alone, smallest, size) == 0);
+}
 
-/* The links of all cards, one card after the other, are the script's words. */ static void check_links(size_t
-cards) { size_t card, at = 2; for (card = 0; card < cards; card++) { size_t count = prep_links_of_card(TEMPLATE,
-SCRIPT, (uint16_t)card, links, PREP_MAX_SCRIPT_WORDS); REQUIRE(count <= script.length - at);
-REQUIRE(memcmp(links, script.word + at, count * sizeof links[0]) == 0); at += count; } REQUIRE(at ==
-script.length); }
+/* The links of all cards, one card after the other, are the script's words. */
+static void check_links(size_t cards)
+{
+    size_t card, at = 2;
+    for (card = 0; card < cards; card++) {
+        size_t count = prep_links_of_card(TEMPLATE, SCRIPT, (uint16_t)card, links, PREP_MAX_SCRIPT_WORDS);
+        REQUIRE(count <= script.length - at);
+        REQUIRE(memcmp(links, script.word + at, count * sizeof links[0]) == 0);
+        at += count;
+    }
+    REQUIRE(at == script.length);
+}
 
-static void check_untouched(void) { size_t i; for (i = 0; i < PREP_MAX_GRID_BYTES; i++) { require(smallest[i] ==
-UNTOUCHED && largest[i] == UNTOUCHED, "a refusal leaves the grids alone"); } }
+static void check_untouched(void)
+{
+    size_t i;
+    for (i = 0; i < PREP_MAX_GRID_BYTES; i++) {
+        require(smallest[i] == UNTOUCHED && largest[i] == UNTOUCHED, "a refusal leaves the grids alone");
+    }
+}
 
-static void print_sheet(void) { struct prep_template_answer t = prep_read_template(TEMPLATE); struct
-prep_script_answer s = prep_read_script(TEMPLATE, SCRIPT); size_t size = (size_t)s.cards * t.shapes; struct
-prep_both_answer both; memset(smallest, UNTOUCHED, sizeof smallest); memset(largest, UNTOUCHED, sizeof largest);
-both = prep_both_typings(TEMPLATE, SCRIPT, BOOKINGS, smallest, size, largest, size); if (both.number != 0 &&
-both.number != PREP_NOT_MET) { check_untouched(); printf("refused %u %zu\n", (unsigned)both.number, both.place);
-return; } printf("largest %zu %zu %zu\n", both.rounds, both.struck, both.bare); print_cards(largest, s.cards,
-t.shapes); if (both.number == PREP_NOT_MET) { printf("smallest no %u %u\n", (unsigned)both.card,
-(unsigned)both.shape); } else { printf("smallest %zu\n", both.pairs); print_cards(smallest, s.cards, t.shapes);
-} check_alone(&both, size); check_links(s.cards); }
+static void print_sheet(void)
+{
+    struct prep_template_answer t = prep_read_template(TEMPLATE);
+    struct prep_script_answer s = prep_read_script(TEMPLATE, SCRIPT);
+    size_t size = (size_t)s.cards * t.shapes;
+    struct prep_both_answer both;
+    memset(smallest, UNTOUCHED, sizeof smallest);
+    memset(largest, UNTOUCHED, sizeof largest);
+    both = prep_both_typings(TEMPLATE, SCRIPT, BOOKINGS, smallest, size, largest, size);
+    if (both.number != 0 && both.number != PREP_NOT_MET) {
+        check_untouched();
+        printf("refused %u %zu\n", (unsigned)both.number, both.place);
+        return;
+    }
+    printf("largest %zu %zu %zu\n", both.rounds, both.struck, both.bare);
+    print_cards(largest, s.cards, t.shapes);
+    if (both.number == PREP_NOT_MET) {
+        printf("smallest no %u %u\n", (unsigned)both.card, (unsigned)both.shape);
+    } else {
+        printf("smallest %zu\n", both.pairs);
+        print_cards(smallest, s.cards, t.shapes);
+    }
+    check_alone(&both, size);
+    check_links(s.cards);
+}
 
-/* The next input's bytes in memory of its own size, or NULL at the end of the stream. */ static uint8_t
-*next_input(size_t *length) { uint8_t head[4]; uint8_t *bytes; size_t got = fread(head, 1, sizeof head, stdin);
-if (got == 0) { return NULL; } REQUIRE(got == sizeof head); *length = head[0] + 256 * (size_t)head[1] + 65536 *
-(size_t)head[2] + 16777216 * (size_t)head[3]; bytes = (uint8_t *)malloc(*length + 1); REQUIRE(bytes != NULL);
-REQUIRE(fread(bytes, 1, *length, stdin) == *length); return bytes; }
+/* The next input's bytes in memory of its own size, or NULL at the end of the stream. */
+static uint8_t *
+next_input(size_t *length)
+{
+    uint8_t head[4];
+    uint8_t *bytes;
+    size_t got = fread(head, 1, sizeof head, stdin);
+    if (got == 0) {
+        return NULL;
+    }
+    REQUIRE(got == sizeof head);
+    *length = head[0] + 256 * (size_t)head[1] + 65536 * (size_t)head[2] + 16777216 * (size_t)head[3];
+    bytes = (uint8_t *)malloc(*length + 1);
+    REQUIRE(bytes != NULL);
+    REQUIRE(fread(bytes, 1, *length, stdin) == *length);
+    return bytes;
+}
 
-int main(void) { size_t length = 0, count = 0; uint8_t *bytes; while ((bytes = next_input(&length)) != NULL) {
-if (split(bytes, length)) { print_sheet(); } else { printf("refused %d 0\n", PREP_INPUT); } free(bytes);
-count++; } fprintf(stderr, "%zu\n", count); return count == 0 || fflush(stdout) != 0; }
+int main(void)
+{
+    size_t length = 0, count = 0;
+    uint8_t *bytes;
+    while ((bytes = next_input(&length)) != NULL) {
+        if (split(bytes, length)) {
+            print_sheet();
+        } else {
+            printf("refused %d 0\n", PREP_INPUT);
+        }
+        free(bytes);
+        count++;
+    }
+    fprintf(stderr, "%zu\n", count);
+    return count == 0 || fflush(stdout) != 0;
+}

@@ -11,8 +11,6 @@ cp "$out/printed" "$out/longest"
 quietly python3 tools/checks/pieces.py "$printer" examples/prep/*.bin "$out/longest"
 say "printer: $(cat "$out/printed")"
 
-# The page of the format runs its own examples, if the tools can.
-if "$tools" --help | grep -q 'prep-tools page '; then
-    quietly "$tools" page docs/FORMAT.md --printer "$printer"
-    say "page: docs/FORMAT.md: $(tail -n 1 "$out/printed")"
-fi
+# The examples of the format's page, here and by the printer.
+quietly "$tools" page docs/FORMAT.md --printer "$printer"
+say "page: docs/FORMAT.md: $(tail -n 1 "$out/printed")"
