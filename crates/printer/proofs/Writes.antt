@@ -1,5 +1,5 @@
 -- Everything that the printer writes has room, and what it wrote is the text for the input.
---   refused-end, large-end   where a refusal and the lines of the largest typing end
+--   refused-end, line-end, line-ended, large-end   where a refusal, the first line and all lines of the largest end
 --   written-by               a text for the input at the front of the buffer
 -- Assumes nothing.
 use mathlib.Core.Path.{_≡_, sym, ap, _∙_, subst}
@@ -20,6 +20,14 @@ use Rattle.printer.specs.Printed.{largestText, PrintsInput, Written}
 -- Where a refusal ends.
 pub refused-end : (number place : ℕ) → 0 + length (refusedLine number place) ≤ 50
 refused-end number place = omega (arith, refused-bound number place)
+
+-- Where the first line of the largest typing ends.
+pub line-end : (rounds struck bare : ℕ) → 0 + length (largestLine rounds struck bare) ≤ 71
+line-end rounds struck bare = omega (arith, largest-bound rounds struck bare)
+
+pub line-ended : (rounds struck bare : ℕ) {out after : List ℕ} {at : ℕ}
+    → Wrote out 0 (largestLine rounds struck bare) after at → at ≤ 71
+line-ended rounds struck bare w = omega (arith, w .moved, line-end rounds struck bare)
 
 -- Where the lines of the largest typing end.
 pub large-end : (rounds struck bare : ℕ) (grid : List ℕ) (shapes cards : ℕ) {out after : List ℕ} {at : ℕ}

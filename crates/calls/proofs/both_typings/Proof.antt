@@ -51,7 +51,7 @@ returns c =
     let s = start (read told) .args in
     let l = listed told in
     both-small (now (s .template)) (now (s .script)) (now (s .bookings)) (sheet (l .known)) (listed-asked l)
-    (grids (read told)) (λ e. c .if1 .taken (omega (arith, c .before .grid-size .ensures)))
+    (grids (read told)) (λ e. omega (arith, c .before .grid-size .ensures))
 
 returns-2 : tie.Need-returns-2
 returns-2 c =
@@ -61,7 +61,7 @@ returns-2 c =
     let l = listed told in
     both-large (now (s .template)) (now (s .script)) (now (s .bookings)) (sheet (l .known)) (listed-asked l)
     (grids (read told)) (omega (arith, size .grid-size .ensures))
-    (λ e. c .if2 .taken (omega (arith, size .grid-size .ensures)))
+    (λ e. omega (arith, size .grid-size .ensures))
 
 slice-aggregate-both-of : tie.Need-slice-aggregate-both-of
 slice-aggregate-both-of c = search needs

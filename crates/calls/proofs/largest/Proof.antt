@@ -43,7 +43,7 @@ returns c =
     let s = start (read told) .args in
     let k = known told in
     largest-size (now (s .template)) (now (s .script)) (sheet k) (asked k) (now (s .grid))
-    (λ e. c .if1 .taken (omega (arith, c .before .grid-size .ensures)))
+    (λ e. omega (arith, c .before .grid-size .ensures))
 
 slice-aggregate-largest-of : tie.Need-slice-aggregate-largest-of
 slice-aggregate-largest-of c = search needs

@@ -46,7 +46,7 @@ returns c =
     let s = start (read told) .args in
     let l = listed told in
     smallest-size (now (s .template)) (now (s .script)) (now (s .bookings)) (sheet (l .known)) (listed-asked l)
-    (now (s .grid)) (λ e. c .if1 .taken (omega (arith, c .before .grid-size .ensures)))
+    (now (s .grid)) (λ e. omega (arith, c .before .grid-size .ensures))
 
 sub-pairs : tie.Need-sub-pairs
 sub-pairs c = search needs

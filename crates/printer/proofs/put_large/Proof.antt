@@ -1,9 +1,11 @@
 -- `printer::put_large` writes the lines of the largest typing, which have room. Assumes nothing.
+use native.Mathlib.Nat.{le-trans}
 use native.Mathlib.Omega.{arith}
 use denote.Ref.{now}
 use borrow.Author.Needs.{needs}
-use Rattle.text.proofs.Lines.{cards-bound, largest-bound}
+use Rattle.text.proofs.Lines.{cards-bound}
 use Rattle.words.proofs.Writing.{wrote-append}
+use Rattle.printer.proofs.Writes.{line-end, line-ended}
 use Rattle.printer.proofs.put_large.Statement.{statement}
 use Rattle.printer.proofs.put_large.Tie as tie
 
@@ -16,16 +18,15 @@ first c = c .before .before .before
 
 put-largest-requires : tie.Need-put-largest-requires
 put-largest-requires c κs =
-    let found = c .before .before .before .args .found in
-    omega (arith, largest-bound (found .rounds) (found .struck) (found .bare))
+    le-trans (line-end _ _ _) (omega arith)
 
 put-cards-requires : tie.Need-put-cards-requires
 put-cards-requires c κs =
     let s = start (first c) in
-    let found = s .args .found in
+    let line = line-ended _ _ _ (first c .put-largest .ensures) in
     let lines = cards-bound (now (s .args .grid)) (s .args .shapes) (s .args .cards) (s .pre .few-shapes)
     (s .pre .few-cards) in
-    (s .pre .inside, omega (arith, largest-bound (found .rounds) (found .struck) (found .bare), lines))
+    (s .pre .inside, omega (arith, line, lines))
 
 same-length : tie.Need-same-length
 same-length c = search needs
