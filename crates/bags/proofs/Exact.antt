@@ -1,10 +1,9 @@
 -- The interval of a part has exactly the numbers i for which the counts of its labels are a sum of i of its bags.
 --   interval-exact       the law of section 8.2, for parts with no label twice
---   optional-choice      optional is the choice of nothing and the part; optional-interval: for intervals too
+--   optional-interval    an optional part has the interval of the choice of nothing and the part
 --   fits-exact           counts fit exactly where 1 is in the interval and the labels not named count 0
---   fits-names           a label that counts more than 0 in counts that fit is named
 -- Assumes nothing.
-use Prim.Native.Nat.{ℕ, _+_, _<_}
+use Prim.Native.Nat.{ℕ, _+_}
 use mathlib.Core.Path.{_≡_, refl, sym, _∙_, ap, ap₂}
 use mathlib.Core.Logic.{_⊎_, inl, inr, ⊎-elim, _↔_}
 use mathlib.Core.Bool.{Bool, true, false, true≢false}
@@ -140,9 +139,6 @@ module _ (w : ℕ → ℕ) where
           (part-supported S p) (each-supported S ps)
           (interval p w) (meetRun ps w) (interval-exact p (u .0) (s .0)) (meet-run-exact ps (u .1) (s .1))
 
-pub optional-choice : (p : Part) → Bags (optional p) ≡ Bags (choice (more nothing (more p none)))
-optional-choice p = refl
-
 add-none : (I : Interval) → add I (within 0 0) ≡ I
 add-none empty = refl
 add-none (within lo hi) =
@@ -174,13 +170,3 @@ fits-exact S p w u s = (
         → (k : ℕ) → Dec (Names p k) → total S b k ≡ w k
     counted b m a z k (yes n) = a k n
     counted b m a z k (no n) = part-supported S p b m k n ∙ sym (z k n)
-
-pub fits-names : (S : ℕ) (p : Part) (w : ℕ → ℕ) → Fits S p w → (k : ℕ) → 0 < w k → Names p k
-fits-names S p w f k h = named-or-none (names-dec p k)
-  where
-    named-or-none : Dec (Names p k) → Names p k
-    named-or-none (yes n) = n
-    named-or-none (no n) =
-        let (b, g, a) = f in
-        let z : ⊥ = omega (arith, a k, part-supported S p b g k n) in
-        absurd z

@@ -1,11 +1,10 @@
--- What the contract of `read_template` leaves to no choice, what it tells of the reading, and a sample.
+-- What the contract of `read_template` leaves to no choice, and what it tells of the reading.
 -- template-answer-unique   what an answer says tells the answer
 -- read-template-unique     two answers that the contract allows for the same words are equal
 -- template-read            the template that was read, and that the counts which are said are its own
 -- template-turned          the refusal, from what is said
--- sample-read              the sample template has 2 kinds and 2 shapes
 -- Assumes nothing.
-use mathlib.Core.Path.{_≡_, refl, sym, _∙_}
+use mathlib.Core.Path.{_≡_, sym, _∙_}
 use mathlib.Core.List.{List, [], _∷_}
 use Prim.Native.Nat.{ℕ}
 use native.Mathlib.Omega.{arith}
@@ -15,8 +14,7 @@ use Rattle.words.proofs.Readings.{said-accepted, said-turned}
 use Rattle.template.specs.declared.TemplateAnswer.{TemplateAnswer}
 use Rattle.template.specs.declared.TemplateAnswer.the-variants.{Counts, Refused}
 use Rattle.template.specs.Answer.{templateSaid}
-use Rattle.template.specs.Reading.{readLink, readRun, readPart}
-use Rattle.template.specs.Template.{readShape, readShapes, Template, readTemplate, templateValues, templateSays}
+use Rattle.template.specs.Template.{Template, readTemplate, templateValues, templateSays}
 
 -- What an answer says tells the answer.
 pub template-answer-unique : (a b : TemplateAnswer) → templateSaid a ≡ templateSaid b → a ≡ b
@@ -52,9 +50,3 @@ pub template-turned :
     readTemplate words ≡ turnedDown number place
 unfolding templateSays
 template-turned words number place e = said-turned templateValues (readTemplate words) number place e
-
--- The template of docs/FORMAT.md's worked sheet: two kinds and two shapes.
-pub sample-read :
-    templateSays (2 ∷ 2 ∷ 10 ∷ 17 ∷ 2 ∷ 256 ∷ 1 ∷ 1 ∷ 1 ∷ 257 ∷ 0 ∷ 0 ∷ 1 ∷ 1 ∷ 0 ∷ []) ≡ values (2 ∷ 2 ∷ [])
-unfolding templateSays readTemplate readShapes readShape readPart readRun readLink
-sample-read = refl

@@ -1,6 +1,6 @@
 -- Laws of readings.
 --   accepted-turned       what is accepted is not turned down
---   accepted-same         what is accepted is one thing; turned-same: a refusal has one number and one place
+--   accepted-same         what is accepted is one thing
 --   refused, passed       a refusal whose test passes; what is accepted has passed its test
 --   refuse-case           what holds of both ways of a test holds of what it refuses
 --   then-accepted         what is accepted in the end was accepted at each step
@@ -21,10 +21,6 @@ accepted-turned e = let z : _≡_ {A = ℕ} 0 1 = cc in absurd (omega arith)
 
 pub accepted-same : {A : Type 0} {a b : A} → accepted a ≡ accepted b → a ≡ b
 accepted-same e = cc
-
-pub turned-same : {A : Type 0} {n p m q : ℕ} → _≡_ {A = Reading A} (turnedDown n p) (turnedDown m q)
-    → (n ≡ m) × (p ≡ q)
-turned-same e = (cc, cc)
 
 -- One test of a decision list.
 module _ {A : Type 0} (number place : ℕ) where
