@@ -1,4 +1,4 @@
--- What writing a text into a buffer does.
+-- What writing a text into a buffer does; no part of a promise.
 -- Room    from a place on the buffer has room for a text
 -- Wrote   the text stands in the buffer from a place on, the rest is as it was, and the next place is past it
 -- Assumes nothing.
