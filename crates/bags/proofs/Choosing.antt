@@ -15,7 +15,8 @@ use lib.Dec.{eqb}
 use Rattle.bags.specs.Part.{Part, nothing, star, plus, optional, choice, all, link, Parts, none, more, Declares}
 use Rattle.bags.specs.Part.{RunDeclares, Single, ShapesBelow}
 use Rattle.bags.specs.Bag.{Bag, ∅, _⊕_, when, copies, Language, Power, Bags, BagsOfOne, BagsOfEach, total, Fits}
-use Rattle.bags.specs.Choice.{Neighbour, to, Chosen, Met, labelCount, TargetsHave}
+use Rattle.bags.specs.Choice.{Neighbour, to, Chosen, Met}
+use Rattle.bags.specs.Proposition.{labelCount, TargetsHave}
 use Rattle.bags.proofs.Powers.{at-point, bag-ext}
 use Rattle.bags.proofs.Totals.{when-yes, when-no, sum-at, total-empty, total-path, total-sum, total-copies}
 use Rattle.bags.proofs.Totals.{total-other}

@@ -17,7 +17,8 @@ use lib.Dec.{eqb}
 use borrow.Author.Tests.{eq-eqb, ne-eqb, eqb-true, eqb-false}
 use Rattle.bags.specs.Part.{Part, nothing, star, plus, optional, choice, all, link, Parts, none, more, Names}
 use Rattle.bags.specs.Part.{RunNames, Declares, RunDeclares, Single, RunSingle, ShapesBelow, RunShapesBelow}
-use Rattle.bags.specs.Part.{LabelsBelow, RunLabelsBelow, entry, firstEntry, named, runNamed}
+use Rattle.bags.specs.Part.{LabelsBelow, RunLabelsBelow}
+use Rattle.bags.specs.Named.{entry, firstEntry, named, runNamed}
 use Rattle.bags.specs.Interval.{names, runNames}
 use Rattle.words.proofs.Bools.{or-cases, or-left, or-right}
 

@@ -2,14 +2,12 @@
 --   Neighbour                a label and the far card
 --   Chosen                   a bag of (label, shape) for a choice of one shape of each far card
 --   Met                      some such bag belongs to the part
---   labelCount, TargetsHave  the two sides of Proposition 8.1: counts, and the shapes that the part declares
 -- Assumes nothing.
-use Prim.Native.Nat.{ℕ, _+_, _<_}
+use Prim.Native.Nat.{ℕ, _<_}
 use mathlib.Core.Path.{_≡_}
 use mathlib.Core.List.{List, [], _∷_}
-use lib.Dec.{eqb}
-use Rattle.bags.specs.Part.{Part, Declares}
-use Rattle.bags.specs.Bag.{Bag, ∅, _⊕_, when, copies, Bags}
+use Rattle.bags.specs.Part.{Part}
+use Rattle.bags.specs.Bag.{Bag, ∅, _⊕_, copies, Bags}
 
 -- A neighbour of a card: the label under which it is seen, and its number.
 pub data Neighbour : Type 0 where
@@ -24,13 +22,3 @@ Chosen S has (to label far ∷ ns) b =
 -- The part takes the bag of some choice of one shape for each neighbour.
 abbrev pub Met : ℕ → (ℕ → ℕ → Type 0) → List Neighbour → Part → Type 0
 Met S has ns p = (b : Bag) × Chosen S has ns b × Bags p b
-
--- How many neighbours have the label k.
-abbrev pub labelCount : List Neighbour → ℕ → ℕ
-labelCount [] k = 0
-labelCount (to label far ∷ ns) k = when (eqb k label) 1 + labelCount ns k
-
--- Each neighbour has the shape that the part declares for its label.
-abbrev pub TargetsHave : (ℕ → ℕ → Type 0) → List Neighbour → Part → Type 0
-TargetsHave has [] p = Unit {0}
-TargetsHave has (to label far ∷ ns) p = ((s : ℕ) × Declares p label s × has far s) × TargetsHave has ns p

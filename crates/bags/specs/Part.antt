@@ -5,9 +5,8 @@
 --   Single                  no label stands twice
 --   ShapesBelow, LabelsBelow   every link's shape, label is below a number
 --   depth                   how deep the parts stand in each other
---   named                   the shape that a part names for a label, as an entry of a table
 -- A label is the number of a link's kind as the list of counts has it. Assumes nothing.
-use Prim.Native.Nat.{ℕ, zero, suc, _<_, max}
+use Prim.Native.Nat.{ℕ, suc, _<_, max}
 use mathlib.Core.Path.{_≡_}
 use mathlib.Core.Logic.{_⊎_}
 use mathlib.Core.Bool.{Bool, true, false}
@@ -134,28 +133,3 @@ abbrev mutual
   pub runDepth : Parts → ℕ
   runDepth none = 0
   runDepth (more p ps) = max (depth p) (runDepth ps)
-
--- The entry for a shape that a link names, if it does.
-abbrev pub entry : Bool → ℕ → ℕ
-entry true shape = suc shape
-entry false shape = 0
-
--- The first of two entries that is one.
-abbrev pub firstEntry : ℕ → ℕ → ℕ
-firstEntry zero n = n
-firstEntry (suc m) n = suc m
-
--- The shape that a part names for the label k, plus one; 0 where it names none. In a run the first that names it wins.
-abbrev mutual
-  pub named : Part → ℕ → ℕ
-  named nothing k = 0
-  named (star p) k = named p k
-  named (plus p) k = named p k
-  named (optional p) k = named p k
-  named (choice ps) k = runNamed ps k
-  named (all ps) k = runNamed ps k
-  named (link label shape low high) k = entry (eqb k label) shape
-
-  pub runNamed : Parts → ℕ → ℕ
-  runNamed none k = 0
-  runNamed (more p ps) k = firstEntry (named p k) (runNamed ps k)

@@ -1,6 +1,7 @@
 -- What a span of the code stands for; no part of a promise.
 --   view        its interval
 --   Small       its ends are at most a number
+--   Addable     the ends of two can be added
 -- Assumes nothing.
 use Prim.Native.Nat.{ℕ, _≤_}
 use mathlib.Core.Path.{_≡_}
@@ -26,3 +27,8 @@ view x = seenAs (ltb (x .hi) (x .lo)) (eqb (x .hi) top) (x .lo) (x .hi)
 -- lo is at most n, and so is hi unless it is the top.
 unfoldable pub Small : ℕ → Span → Type 0
 Small n x = (x .lo ≤ n) × ((x .hi ≡ top → ⊥) → x .hi ≤ n)
+
+-- The ends of two spans are small enough that their sums are below the top.
+pub record Addable (x y : Span) : Type 0 where
+  pub first : Small 1000000000 x
+  pub second : Small 1000000000 y

@@ -3,7 +3,7 @@ ghost use mathlib.Core.Path.{_≡_};
 ghost use Prim.Native.Nat.{ℕ, _≤_, _+_, min, max};
 ghost use Rattle.bags.specs.Interval.{inside, meet, add, from, lowRoom, highRoom, linkInterval, starInterval};
 ghost use Rattle.bags.specs.Interval.{plusInterval};
-ghost use Rattle.bags.specs.Span.{view, Small};
+ghost use Rattle.bags.specs.Span.{view, Small, Addable};
 ghost use Rattle.bags.specs.Part.{limitOf};
 use words::NO_LIMIT;
 
@@ -47,7 +47,7 @@ pub fn meet_span(x: Span, y: Span) -> Span
 
 // The sums of a number of each.
 pub fn add_span(x: Span, y: Span) -> Span
-    requires { ⌜ (Small 1000000000 x) × (Small 1000000000 y) ⌝ }
+    requires { ⌜ Addable x y ⌝ }
     ensures view { λ r. ⌜ view r ≡ add (view x) (view y) ⌝ }
     ensures small { λ r. ⌜ ((m n : ℕ) → Small m x → Small n y → Small (m + n) r) ⌝ }
 {

@@ -15,7 +15,7 @@ use mathlib.Core.List.{List}
 use mathlib.Core.Bool.{false, cond}
 use Prim.Native.Nat.{ℕ, _+_, _≤_, _<_}
 use lib.ListN.{length, getD, set}
-use Rattle.words.specs.Limits.{maxGrid}
+use Rattle.words.specs.Sizes.{maxGrid}
 use Rattle.board.specs.Grid.{on, tally}
 
 pub record Work : Type 0 where

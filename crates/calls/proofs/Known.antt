@@ -3,7 +3,7 @@
 --   read                       what its template and its script passed
 --   few-pairs                  it has at most 32,768 pairs
 --   ready                      it is ready to be searched
---   starts-found, card-starts  where each card's links start, as found and as the search takes it
+--   card-starts                where each card's links start, as the search takes it
 -- Assumes nothing.
 use Prim.Native.Nat.{ℕ, _+_, _*_, _≤_}
 use mathlib.Core.Path.{_≡_, sym, _∙_, subst}
@@ -11,13 +11,15 @@ use mathlib.Core.List.{List}
 use native.Mathlib.Nat.{mul-le-mul}
 use native.Mathlib.Omega.{arith}
 use lib.ListN.{length, getD}
-use Rattle.words.specs.Limits.{maxKinds, maxCards, maxGrid}
+use Rattle.words.specs.Limits.{maxKinds}
+use Rattle.words.specs.Sizes.{maxGrid}
 use Rattle.words.specs.Reading.{accepted}
 use Rattle.words.proofs.Readings.{accepted-same}
-use Rattle.template.specs.Template.{Template, Tabled}
-use Rattle.script.specs.Link.{Ascending, below}
+use Rattle.template.specs.Template.{Template}
+use Rattle.template.specs.Machine.{Tabled}
+use Rattle.script.specs.Link.{below}
 use Rattle.script.specs.Script.{ScriptCounts, countsOf}
-use Rattle.script.specs.Steps.{StartsOf}
+use Rattle.script.specs.Steps.{StartsOf, Ascending}
 use Rattle.sheet.specs.Sheet.{Sheet, sheetOf, readSheet}
 use Rattle.sheet.specs.Opened.{templateAs, Known}
 use Rattle.sheet.specs.declared.Extent.{Extent}
@@ -57,11 +59,6 @@ module _ {template script names : List ℕ} {e : Extent} (k : Known template scr
 
   pub ready : Ready script names (e .shapes)
   ready = instance.ready read names tabled rows
-
-  pub starts-found : {starts : List ℕ} → length starts ≡ maxCards + 1
-      → ((c : ℕ) → c ≤ e .cards → getD starts c 0 ≡ below script c (e .links))
-      → StartsOf script starts (e .cards) (e .links)
-  starts-found long exact = record { room = omega (arith, read .links .cards-bound); exact = exact }
 
   -- the links of a card stand from its start up to the next card's
   pub card-starts : (starts : List ℕ) → StartsOf script starts (e .cards) (e .links) → Starts script starts

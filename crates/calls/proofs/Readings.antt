@@ -7,7 +7,7 @@ use Prim.Native.Nat.{ℕ}
 use mathlib.Core.Path.{_≡_, refl, sym, ap, _∙_, subst}
 use mathlib.Core.List.{List}
 use lib.ListN.{length}
-use Rattle.words.specs.Limits.{tableSize}
+use Rattle.words.specs.Sizes.{tableSize}
 use Rattle.words.specs.Reading.{accepted, turnedDown, then}
 use Rattle.sheet.specs.Sheet.{readSheet}
 use Rattle.sheet.specs.Opened.{TableOf, ReadAs, Known}

@@ -15,7 +15,7 @@ use lib.ListN.{length, getD}
 use Rattle.bags.specs.Part.{Part}
 use Rattle.bags.specs.Bag.{count}
 use Rattle.bags.specs.Interval.{fits}
-use Rattle.words.specs.Limits.{maxGrid}
+use Rattle.words.specs.Sizes.{maxGrid}
 use Rattle.words.specs.Reading.{accepted}
 use Rattle.words.proofs.Places.{card-in, shape-in, place-of}
 use Rattle.board.specs.Grid.{on}

@@ -1,5 +1,6 @@
 -- What the steps of a call ask for and leave behind; no part of a promise.
 -- SheetTested   a sheet that is read, its table of names, and the grid of the pairs that fit by counts
+-- SomeTested    some sheet is
 -- PairsTested   each sheet that the readings ask for is; and where each card's links start
 -- Listed        a sheet with its table of names and a booking list, all read; BookedAs: what reading them finds
 -- Sized, Lent   what is read, with a grid or two grids of the sheet's size
@@ -35,6 +36,11 @@ pub record SheetTested (s : Sheet) (script names : List ℕ) (e : Extent) (fitti
   pub known : Known template script names e
   pub asked : readSheet template script ≡ accepted s
   pub fits : Fitted script (e .links) (e .cards) (e .shapes) (s .parts) fitting
+
+-- Some sheet is tested so.
+pub record SomeTested (script names : List ℕ) (e : Extent) (fitting : List ℕ) : Type 0 where
+  pub sheet : Sheet
+  pub tested : SheetTested sheet script names e fitting
 
 -- What testing the pairs leaves: where each card's links start, and which pairs fit.
 pub record PairsTested (template script names : List ℕ) (e : Extent) (starts fitting : List ℕ) : Type 0 where

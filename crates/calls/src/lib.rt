@@ -4,7 +4,7 @@
 ghost use mathlib.Core.Path.{_≡_};
 ghost use Prim.Native.Nat.{_*_};
 ghost use lib.ListN.{replicate};
-ghost use Rattle.words.specs.Limits.{tableSize};
+ghost use Rattle.words.specs.Sizes.{tableSize};
 ghost use Rattle.words.specs.Reading.{accepted};
 ghost use Rattle.board.specs.Grid.{on};
 ghost use Rattle.sheet.specs.Sheet.{Sheet, readSheet};
@@ -12,7 +12,7 @@ ghost use Rattle.bookings.specs.Bookings.{Booked};
 ghost use Rattle.typing.specs.Answer.{largestSaid, smallestSaid, bothSaid};
 ghost use Rattle.typing.specs.Largest.{bareCards};
 ghost use Rattle.typing.specs.Calls.{LargestFound, LargestSays, SmallestFound, SmallestSays, BothFound, BothSays};
-ghost use Rattle.calls.specs.Steps.{SheetTested, PairsTested, BookedAs, Sized, Lent, Settling, Rows};
+ghost use Rattle.calls.specs.Steps.{SheetTested, SomeTested, PairsTested, BookedAs, Sized, Lent, Settling, Rows};
 ghost use Rattle.calls.specs.Steps.{struckSaid, settledSaid, bothOf};
 use board::count_on;
 use bookings::BookingRead;
@@ -139,7 +139,7 @@ fn strike(
     grid: &mut [u8],
     queue: &mut [u16; MAX_GRID],
 ) -> Struck
-    requires { ⌜ ((s : Sheet) × SheetTested s (now script) (now names) e (now grid)) ⌝ }
+    requires { ⌜ SomeTested (now script) (now names) e (now grid) ⌝ }
     ensures { λ r. ⌜ ((s : Sheet) → SheetTested s (now (script .entry)) (now (names .entry)) e (now (grid .entry))
         → LargestFound s (now (grid .exit)) (struckSaid r)) ⌝ }
 {

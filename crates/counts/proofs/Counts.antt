@@ -15,7 +15,8 @@ use lib.Seq.{drop-cons, drop-length}
 use lib.Dec.{eqb}
 use Rattle.words.specs.Limits.{maxCount}
 use Rattle.words.proofs.Bools.{never-both, is-false, and-first, and-second, and-both, last-or-below}
-use Rattle.bags.specs.Part.{Part, named}
+use Rattle.bags.specs.Part.{Part}
+use Rattle.bags.specs.Named.{named}
 use Rattle.bags.specs.Interval.{names, othersZero}
 use Rattle.bags.proofs.Naming.{named-names}
 use Rattle.counts.specs.Fit.{firstOver}

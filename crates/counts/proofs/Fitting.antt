@@ -15,13 +15,16 @@ use borrow.Author.Tests.{le-leb, lt-leb, le-ltb, lt-ltb, eq-eqb, ne-eqb}
 use lib.ListN.{length, getD, take, drop, length-drop}
 use lib.Seq.{length-take-le, getD-take, getD-drop}
 use Rattle.words.specs.Said.{Said, refusal}
-use Rattle.words.specs.Limits.{maxKinds, maxDepth, tableSize}
+use Rattle.words.specs.Limits.{maxKinds, maxDepth}
+use Rattle.words.specs.Sizes.{tableSize}
 use Rattle.words.specs.Reading.{Reading, accepted, turnedDown}
-use Rattle.bags.specs.Part.{Part, named}
+use Rattle.bags.specs.Part.{Part}
+use Rattle.bags.specs.Named.{named}
 use Rattle.bags.specs.Bag.{Fits, count}
 use Rattle.bags.specs.Interval.{fits}
 use Rattle.bags.proofs.Decide.{list-decided}
-use Rattle.template.specs.Template.{Template, readTemplate, templateSays, Tabled}
+use Rattle.template.specs.Template.{Template, readTemplate, templateSays}
+use Rattle.template.specs.Machine.{Tabled}
 use Rattle.template.specs.Machine.{shapePlace}
 use Rattle.template.proofs.Answers.{template-turned}
 use Rattle.template.proofs.Accepted.{template-accepted}

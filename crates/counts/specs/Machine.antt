@@ -8,10 +8,13 @@ use mathlib.Core.Path.{_≡_}
 use mathlib.Core.List.{List, [], _∷_}
 use lib.ListN.{length, getD}
 use Rattle.words.specs.Said.{values}
-use Rattle.words.specs.Limits.{maxTemplate, maxDepth, tableSize}
+use Rattle.words.specs.Limits.{maxTemplate, maxDepth}
+use Rattle.words.specs.Sizes.{tableSize}
 use Rattle.words.specs.Reading.{accepted}
-use Rattle.bags.specs.Part.{Part, named}
-use Rattle.template.specs.Template.{Template, readTemplate, templateSays, Tabled}
+use Rattle.bags.specs.Part.{Part}
+use Rattle.bags.specs.Named.{named}
+use Rattle.template.specs.Template.{Template, readTemplate, templateSays}
+use Rattle.template.specs.Machine.{Tabled}
 use Rattle.counts.specs.Trees.{treeAt}
 
 -- A row has the names of a part for the labels below a number.

@@ -9,7 +9,7 @@ ghost use Rattle.words.specs.Limits.{maxTemplate, maxDepth};
 ghost use Rattle.bags.specs.Part.{Part, Parts};
 ghost use Rattle.bags.specs.Bag.{count};
 ghost use Rattle.bags.specs.Interval.{othersZero, fits as countsFit};
-ghost use Rattle.bags.specs.Span.{Small};
+ghost use Rattle.bags.specs.Span.{Addable};
 ghost use Rattle.template.specs.Reading.{gathered};
 ghost use Rattle.template.specs.Template.{placed, onto};
 ghost use Rattle.template.specs.Machine.{shapePlace};
@@ -130,7 +130,7 @@ fn none(code: u16, next: usize) -> Eval
 
 // The first part of a choice (16) or of all (17), with the rest of them.
 fn join(code: u16, first: Eval, rest: Eval) -> Eval
-    requires { ⌜ (Small 1000000000 (first .span)) × (Small 1000000000 (rest .span)) ⌝ }
+    requires { ⌜ Addable (first .span) (rest .span) ⌝ }
     ensures { λ r. ⌜ Joins code first rest r ⌝ }
 {
     let next = rest.next;

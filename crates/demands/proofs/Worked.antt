@@ -23,11 +23,13 @@ use Rattle.words.specs.Said.{values}
 use Rattle.words.specs.Reading.{Reading, accepted}
 use Rattle.words.proofs.Bools.{never-both, or-cases, false-true, false-of-not}
 use Rattle.words.proofs.Places.{place-in, card-of, shape-of}
-use Rattle.bags.specs.Part.{Part, Parts, at-most, named}
+use Rattle.bags.specs.Part.{Part, Parts, at-most}
+use Rattle.bags.specs.Named.{named}
 use Rattle.bags.specs.Bag.{count}
 use Rattle.bags.specs.Interval.{fits}
 use Rattle.template.specs.Reading.{readLink, readRun, readPart}
-use Rattle.template.specs.Template.{Tabled, readShape, readShapes, readTemplate, templateSays}
+use Rattle.template.specs.Template.{readShape, readShapes, readTemplate, templateSays}
+use Rattle.template.specs.Machine.{Tabled}
 use Rattle.script.specs.Link.{fromAt, kindAt, toAt, far, above, greater, cardWords, below, neighbours}
 use Rattle.script.specs.Script.{readLinks, readScript, scriptSays, cardLinks, linksStart}
 use Rattle.sheet.specs.Sheet.{Sheet, partOf, place, readSheet}

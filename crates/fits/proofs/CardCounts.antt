@@ -15,11 +15,12 @@ use native.Mathlib.Omega.{arith}
 use native.Mathlib.Nat.{add-zero, add-suc}
 use borrow.Rule.Slice.PartMut.{mid-len}
 use lib.ListN.{length, getD, take, replicate, List·getD-eq-default}
-use Rattle.bags.specs.Choice.{labelCount}
+use Rattle.bags.specs.Proposition.{labelCount}
 use Rattle.words.specs.Limits.{maxKinds}
 use Rattle.words.specs.Reading.{accepted}
 use Rattle.template.proofs.Accepted.{template-accepted}
-use Rattle.script.specs.Link.{kindAt, neighbours, below, kindCount}
+use Rattle.script.specs.Link.{kindAt, neighbours, below}
+use Rattle.script.specs.Steps.{kindCount}
 use Rattle.words.proofs.Bools.{le-or-lt}
 use Rattle.script.proofs.Reading.{script-accepted}
 use Rattle.script.specs.Script.{countsOf}

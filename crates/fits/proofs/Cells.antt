@@ -18,7 +18,8 @@ use borrow.Rule.Slice.PartMut.{midOf, putMid, same-len-mid, mid-len}
 use lib.ListN.{length, getD, take, drop}
 use Rattle.bags.specs.Part.{Part}
 use Rattle.template.specs.Template.{readTemplate}
-use Rattle.words.specs.Limits.{maxCards, maxShapes, maxGrid}
+use Rattle.words.specs.Limits.{maxCards, maxShapes}
+use Rattle.words.specs.Sizes.{maxGrid}
 use Rattle.words.specs.Reading.{accepted}
 use Rattle.template.proofs.Accepted.{template-accepted}
 use Rattle.script.specs.Script.{countsOf}

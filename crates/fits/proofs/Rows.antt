@@ -19,9 +19,11 @@ use native.Mathlib.Numerals.{add-one}
 use borrow.Rule.Slice.PartMut.{mid-len}
 use lib.ListN.{length, getD, set, take, drop, length-set}
 use lib.Seq.{getD-take, getD-drop, getD-set-same, getD-set-other}
-use Rattle.bags.specs.Part.{Part, named}
+use Rattle.bags.specs.Part.{Part}
+use Rattle.bags.specs.Named.{named}
 use Rattle.template.specs.Template.{readTemplate}
-use Rattle.words.specs.Limits.{maxKinds, maxShapes, maxTemplate, maxDepth, tableSize}
+use Rattle.words.specs.Limits.{maxKinds, maxShapes, maxTemplate, maxDepth}
+use Rattle.words.specs.Sizes.{tableSize}
 use Rattle.words.specs.Reading.{accepted}
 use Rattle.template.specs.Machine.{shapePlace}
 use Rattle.template.proofs.Accepted.{place-next, template-accepted}

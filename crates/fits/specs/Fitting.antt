@@ -1,5 +1,5 @@
 -- What testing a sheet's pairs by counts asks and leaves behind; no part of a promise.
--- SheetReady, CardReady, CountsReady, RowReady   what testing all cards, one card, and some counts asks
+-- SheetReady, GridReady, CardReady, CountsReady, RowReady   what testing all cards, one card, and some counts asks
 -- Tested      the byte of a pair: 1 where the counts of the card's kinds fit the shape
 -- Fitted      a grid has that byte for each pair; RowFitted: a row of it for some counts; CardFitted: for a card
 -- Assumes nothing.
@@ -8,12 +8,13 @@ use mathlib.Core.Path.{_≡_}
 use mathlib.Core.Bool.{cond}
 use mathlib.Core.List.{List}
 use lib.ListN.{length, getD}
-use Rattle.words.specs.Limits.{maxKinds, tableSize}
+use Rattle.words.specs.Limits.{maxKinds}
+use Rattle.words.specs.Sizes.{tableSize}
 use Rattle.words.specs.Reading.{accepted}
 use Rattle.bags.specs.Part.{Part}
 use Rattle.bags.specs.Bag.{count}
 use Rattle.bags.specs.Interval.{fits}
-use Rattle.bags.specs.Choice.{labelCount}
+use Rattle.bags.specs.Proposition.{labelCount}
 use Rattle.template.specs.Template.{readTemplate}
 use Rattle.script.specs.Link.{neighbours}
 use Rattle.script.specs.Steps.{StartsOf}
@@ -25,14 +26,21 @@ pub record SheetReady (template script names starts : List ℕ) (e : Extent) : T
   pub known : Known template script names e
   pub links : StartsOf script starts (e .cards) (e .links)
 
--- A card of the sheet, and a row with a byte for each shape.
-pub record CardReady (e : Extent) (n : ℕ) (row : List ℕ) : Type 0 where
+-- Such a sheet, and a grid with a byte for each pair.
+pub record GridReady (template script names starts : List ℕ) (e : Extent) (grid : List ℕ) : Type 0 where
+  pub sheet : SheetReady template script names starts e
+  pub size : length grid ≡ e .cards * e .shapes
+
+-- Such a sheet, a card of it, and a row with a byte for each shape.
+pub record CardReady (template script names starts : List ℕ) (e : Extent) (n : ℕ) (row : List ℕ) : Type 0 where
+  pub sheet : SheetReady template script names starts e
   pub below : n < e .cards
   pub size : length row ≡ e .shapes
 
 -- And room for the counts of all kinds.
-pub record CountsReady (e : Extent) (n : ℕ) (counts row : List ℕ) : Type 0 where
-  pub card : CardReady e n row
+pub record CountsReady (template script names starts : List ℕ) (e : Extent) (n : ℕ) (counts row : List ℕ)
+    : Type 0 where
+  pub card : CardReady template script names starts e n row
   pub kinds : length counts ≡ e .kinds
 
 -- A template that is read, its table of names, counts of its kinds, and a row with a byte for each shape.

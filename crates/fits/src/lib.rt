@@ -1,14 +1,13 @@
 // Which pairs of a sheet fit by counts.
 ghost use mathlib.Core.Path.{_≡_};
 ghost use mathlib.Core.List.{List};
-ghost use Prim.Native.Nat.{ℕ, _*_};
-ghost use lib.ListN.{length};
+ghost use Prim.Native.Nat.{ℕ};
 ghost use Rattle.bags.specs.Part.{Part};
 ghost use Rattle.words.specs.Reading.{accepted};
 ghost use Rattle.template.specs.Template.{readTemplate};
 ghost use Rattle.sheet.specs.Opened.{templateAs};
-ghost use Rattle.fits.specs.Fitting.{SheetReady, CardReady, CountsReady, RowReady, RowFitted, CardFitted};
-ghost use Rattle.fits.specs.Fitting.{Fitted};
+ghost use Rattle.fits.specs.Fitting.{GridReady, CardReady, CountsReady, RowReady};
+ghost use Rattle.fits.specs.Fitting.{RowFitted, CardFitted, Fitted};
 use counts::fits;
 use script::count_kinds;
 use sheet::Extent;
@@ -46,8 +45,7 @@ fn fit_counted(
     counts: &mut [u16],
     row: &mut [u8],
 )
-    requires { ⌜ SheetReady (now template) (now script) (now names) (now starts) e ⌝ }
-    requires { ⌜ CountsReady e n (now counts) (now row) ⌝ }
+    requires { ⌜ CountsReady (now template) (now script) (now names) (now starts) e n (now counts) (now row) ⌝ }
     ensures { λ _. ⌜ CardFitted (now (template .entry)) (now (script .entry)) (e .links) (e .shapes) n
         (now (row .exit)) ⌝ }
 {
@@ -67,8 +65,7 @@ fn fit_row(
     n: usize,
     row: &mut [u8],
 )
-    requires { ⌜ SheetReady (now template) (now script) (now names) (now starts) e ⌝ }
-    requires { ⌜ CardReady e n (now row) ⌝ }
+    requires { ⌜ CardReady (now template) (now script) (now names) (now starts) e n (now row) ⌝ }
     ensures { λ _. ⌜ CardFitted (now (template .entry)) (now (script .entry)) (e .links) (e .shapes) n
         (now (row .exit)) ⌝ }
 {
@@ -95,8 +92,7 @@ pub fn fit_grid(
     e: Extent,
     grid: &mut [u8],
 )
-    requires { ⌜ SheetReady (now template) (now script) (now names) (now starts) e ⌝ }
-    requires { ⌜ length (now grid) ≡ e .cards * e .shapes ⌝ }
+    requires { ⌜ GridReady (now template) (now script) (now names) (now starts) e (now grid) ⌝ }
     ensures { λ _. ⌜ ((kinds : ℕ) (parts : List Part) →
         readTemplate (now (template .entry)) ≡ accepted (templateAs kinds (e .shapes) parts) →
         Fitted (now (script .entry)) (e .links) (e .cards) (e .shapes) parts (now (grid .exit))) ⌝ }

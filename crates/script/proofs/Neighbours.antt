@@ -16,8 +16,10 @@ use lib.Seq.{getD-set-same, getD-set-other}
 use lib.Dec.{eqb}
 use borrow.Author.Tests.{eq-eqb, ne-eqb, le-leb, lt-leb}
 use Rattle.bags.specs.Bag.{when}
-use Rattle.bags.specs.Choice.{Neighbour, to, labelCount}
-use Rattle.script.specs.Link.{kindAt, toAt, near, label, far, neighbours, below, kindCount}
+use Rattle.bags.specs.Choice.{Neighbour, to}
+use Rattle.bags.specs.Proposition.{labelCount}
+use Rattle.script.specs.Link.{kindAt, toAt, near, label, far, neighbours, below}
+use Rattle.script.specs.Steps.{kindCount}
 use Rattle.words.proofs.Bools.{le-or-lt, eq-or-ne, one-or-none}
 use Rattle.script.proofs.Order.{StartsRise}
 use Rattle.script.proofs.Cards.{below-le, test-before, test-within, test-after}

@@ -12,7 +12,8 @@ use native.Mathlib.Omega.{arith}
 use native.Mathlib.Nat.{le-refl, le-trans, add-zero, add-suc}
 use lib.Dec.{ltb}
 use borrow.Author.Tests.{le-ltb, eq-eqb, ne-eqb}
-use Rattle.script.specs.Link.{fromAt, kindAt, toAt, greater, above, Ascending}
+use Rattle.script.specs.Link.{fromAt, kindAt, toAt, greater, above}
+use Rattle.script.specs.Steps.{Ascending}
 use Rattle.words.proofs.Bools.{le-or-lt, false-true}
 
 pick-bool : (b : Bool) → cond b true false ≡ b

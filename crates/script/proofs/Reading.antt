@@ -19,7 +19,8 @@ use borrow.Author.Tests.{le-leb, lt-leb, lt-ltb, le-ltb, eq-eqb, ne-eqb, leb-fal
 use Rattle.words.specs.Limits.{maxCards, maxLinks}
 use Rattle.words.specs.Reading.{Reading, accepted, turnedDown}
 use Rattle.words.proofs.Readings.{accepted-same, passed, Numbered, refuse-numbered}
-use Rattle.script.specs.Link.{fromIndex, kindIndex, toIndex, fromAt, kindAt, toAt, above, Ascending}
+use Rattle.script.specs.Link.{fromIndex, kindIndex, toIndex, fromAt, kindAt, toAt, above}
+use Rattle.script.specs.Steps.{Ascending}
 use Rattle.script.specs.declared.LinkTest.{LinkTest}
 use Rattle.script.specs.Script.{ScriptCounts, countsOf, readLinks, readScript}
 use Rattle.script.specs.Steps.{afterLink}

@@ -3,19 +3,15 @@
 -- fromAt, kindAt, toAt   the words of link i
 -- near, label, far       its near end, its label and its far end: what a card's neighbours and a closure go by
 -- greater, above         link i is above another, and above the link before it
--- Ascending              the first m links stand in the script, each above the one before it
 -- cardWords              the words of a card's links, in order
 -- neighbours             the labels and far cards of a card's links: what a shape looks at
 -- below                  how many links start at a card below a number
--- kindCount              how many links of a row of links have a kind
 -- Assumes nothing.
-use Prim.Native.Nat.{ℕ, zero, suc, _+_, _*_, _≤_, _<_}
-use mathlib.Core.Path.{_≡_}
+use Prim.Native.Nat.{ℕ, zero, suc, _+_, _*_}
 use mathlib.Core.List.{List, [], _∷_, _++_}
 use mathlib.Core.Bool.{Bool, true, false, cond}
-use lib.ListN.{length, getD}
-use lib.Dec.{ltb, leb, eqb}
-use Rattle.words.specs.Limits.{maxLinks}
+use lib.ListN.{getD}
+use lib.Dec.{ltb, eqb}
 use Rattle.bags.specs.Choice.{Neighbour, to}
 
 -- Where the words of link i stand.
@@ -62,12 +58,6 @@ unfoldable pub above : List ℕ → ℕ → Bool
 above script zero = true
 above script (suc i) = greater script (suc i) i
 
--- The first m links, at most 8,192, stand in the script and rise strictly.
-pub record Ascending (script : List ℕ) (m : ℕ) : Type 0 where
-  pub few : m ≤ maxLinks
-  pub size : 2 + 3 * m ≤ length script
-  pub rising : (i : ℕ) → i < m → above script i ≡ true
-
 -- Of the first m links, the words of those that start at a card.
 unfoldable pub cardWords : List ℕ → ℕ → ℕ → List ℕ
 cardWords script card zero = []
@@ -85,8 +75,3 @@ neighbours script card (suc i) =
 unfoldable pub below : List ℕ → ℕ → ℕ → ℕ
 below script c zero = 0
 below script c (suc i) = below script c i + cond (ltb (fromAt script i) c) 1 0
-
--- Of the links from link lo on and below link hi, how many have the kind k.
-unfoldable pub kindCount : List ℕ → ℕ → ℕ → ℕ → ℕ
-kindCount script k lo zero = 0
-kindCount script k lo (suc i) = kindCount script k lo i + cond (leb lo i) (cond (eqb k (kindAt script i)) 1 0) 0

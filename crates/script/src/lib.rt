@@ -5,14 +5,14 @@ use words::MAX_CARDS;
 use words::MAX_LINKS;
 use words::wide;
 ghost use mathlib.Core.Path.{_≡_};
-ghost use Prim.Native.Nat.{ℕ, suc, _+_, _*_, _≤_, _<_};
+ghost use Prim.Native.Nat.{ℕ, suc, _+_, _*_, _<_};
 ghost use lib.ListN.{length, getD};
 ghost use Rattle.words.specs.Reading.{Reading, accepted, saidOf};
-ghost use Rattle.script.specs.Link.{fromIndex, kindAt, greater, above, Ascending, cardWords, below, kindCount};
+ghost use Rattle.script.specs.Link.{fromIndex, greater, above, cardWords, below};
 ghost use Rattle.script.specs.Answer.{scriptSaid};
 ghost use Rattle.script.specs.Script.{ScriptCounts, countsOf, readLinks, readScript, scriptValues, scriptSays};
 ghost use Rattle.script.specs.Script.{cardLinks, linksStart};
-ghost use Rattle.script.specs.Steps.{afterLink, LinkIn, Within};
+ghost use Rattle.script.specs.Steps.{afterLink, LinkIn, Within, Ascending, kindCount, PartAsked, CountAsked};
 
 // The number of a card: it counts the script's cards from 0.
 pub struct Card(pub u16);
@@ -158,8 +158,7 @@ pub fn count_below(script: &[u16], links: usize, card: usize) -> usize
 
 // The links that start at a card, which lie side by side, as a part of an ascending script.
 pub fn card_part(script: &[u16], links: usize, card: usize) -> &[u16]
-    requires { ⌜ Ascending (now script) links ⌝ }
-    requires { ⌜ card < 65536 ⌝ }
+    requires { ⌜ PartAsked (now script) links card ⌝ }
     ensures list { λ r. ⌜ now r ≡ cardWords (now (script .entry)) card links ⌝ }
     ensures lent { λ r. ⌜ r .ptr .0 ≡ script .entry .ptr .0 ⌝ }
     ensures place { λ r. ⌜ r .ptr .1
@@ -205,8 +204,7 @@ fn clear(counts: &mut [u16])
 
 // How many of the links from lo to hi, hi not included, have each kind. What the counts were before does not matter.
 pub fn count_kinds(script: &[u16], lo: usize, hi: usize, counts: &mut [u16])
-    requires { ⌜ Within (now script) lo hi ⌝ }
-    requires { ⌜ ((i : ℕ) → lo ≤ i → i < hi → kindAt (now script) i < length (now counts)) ⌝ }
+    requires { ⌜ CountAsked (now script) lo hi (now counts) ⌝ }
     ensures exact { λ _. ⌜ ((k : ℕ) → k < length (now (counts .entry)) →
         getD (now (counts .exit)) k 0 ≡ kindCount (now (script .entry)) k lo hi) ⌝ }
     ensures size { λ _. ⌜ length (now (counts .exit)) ≡ length (now (counts .entry)) ⌝ }

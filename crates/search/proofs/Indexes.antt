@@ -6,7 +6,8 @@ use mathlib.Core.List.{List}
 use Prim.Native.Nat.{ℕ, _+_, _≤_, _<_}
 use native.Mathlib.Omega.{arith}
 use lib.ListN.{length, getD}
-use Rattle.script.specs.Link.{near, below, Ascending}
+use Rattle.script.specs.Link.{near, below}
+use Rattle.script.specs.Steps.{Ascending}
 use Rattle.script.proofs.Order.{starts-rise}
 use Rattle.script.proofs.Cards.{below-le, below-rises, starts-exact}
 use Rattle.typing.specs.Needs.{Ready}

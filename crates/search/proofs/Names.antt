@@ -15,7 +15,8 @@ use borrow.Author.Tests.{eq-eqb, ne-eqb}
 use Rattle.board.specs.Work.{Work, Swept}
 use Rattle.words.proofs.Bools.{eq-or-ne}
 use Rattle.board.proofs.Worklist.{swept-same}
-use Rattle.words.specs.Limits.{maxKinds, maxShapes, tableSize}
+use Rattle.words.specs.Limits.{maxKinds, maxShapes}
+use Rattle.words.specs.Sizes.{tableSize}
 use Rattle.typing.specs.Needs.{Ready}
 use Rattle.typing.proofs.Boards.{entries-bound}
 use Rattle.search.specs.Indexes.{entryKey, Table}

@@ -19,7 +19,7 @@ use denote.Memory.{partAt, partOf, cellAt}
 use denote.Steps.{owned}
 use denote.Struct.Laws as struct-laws
 use denote.Struct.Steps.{spelt}
-use Rattle.words.specs.Limits.{maxGrid}
+use Rattle.words.specs.Sizes.{maxGrid}
 use Rattle.search.specs.Tally.{closed}
 use Rattle.search.specs.declared.Tally.{Tally}
 use Rattle.search.proofs.Tally as tally-type

@@ -10,7 +10,8 @@ use mathlib.Core.Path.{_≡_}
 use mathlib.Core.List.{List}
 use mathlib.Core.Bool.{false}
 use lib.ListN.{length, getD, replicate}
-use Rattle.words.specs.Limits.{maxCards, maxShapes, maxGrid}
+use Rattle.words.specs.Limits.{maxCards, maxShapes}
+use Rattle.words.specs.Sizes.{maxGrid}
 use Rattle.board.specs.Grid.{on}
 use Rattle.board.specs.Machine.{Marks, FirstMissing}
 use Rattle.board.specs.Board.{Flooded}

@@ -2,7 +2,8 @@
 -- entryKey     by which the table's places are chained: a label and the shape named for it; nameKeys: how many keys
 -- Table        a table of names with a row for each shape
 -- Blank        what a chain is built in
--- NamesAsked, LinksAsked   what chaining the table's places and the links asks
+-- EntryAsked   what a key of a place asks
+-- NamesAsked, LinksAsked, StartsAsked   what chaining the table's places and the links, and finding the starts, asks
 -- NameIndex    the chains of the table's places
 -- LinkIndex    the chains of the links by target
 -- Indexed      a script and a table of names that fit together, and both chains
@@ -14,8 +15,10 @@ use mathlib.Core.List.{List}
 use mathlib.Core.Bool.{cond}
 use lib.ListN.{length, getD}
 use lib.Dec.{eqb}
-use Rattle.words.specs.Limits.{maxKinds, maxShapes, maxLinks, tableSize}
+use Rattle.words.specs.Limits.{maxKinds, maxShapes, maxLinks}
+use Rattle.words.specs.Sizes.{tableSize}
 use Rattle.script.specs.Link.{near, far}
+use Rattle.script.specs.Steps.{Ascending}
 use Rattle.typing.specs.Needs.{Ready}
 use Rattle.search.specs.Chain.{Chained}
 
@@ -38,6 +41,11 @@ pub record Blank (first next : List ℕ) (numbers : ℕ) : Type 0 where
   pub zeros : (m : ℕ) → m < length first → getD first m 0 ≡ 0
   pub room : numbers ≤ length next
 
+-- A place of the table, with an entry for a shape or for none.
+pub record EntryAsked (names : List ℕ) (p : ℕ) : Type 0 where
+  pub inside : p < length names
+  pub entry : getD names p 0 ≤ maxShapes
+
 -- What chaining the table's places asks.
 pub record NamesAsked (names : List ℕ) (shapes : ℕ) (first next : List ℕ) : Type 0 where
   pub table : Table names shapes
@@ -50,6 +58,11 @@ pub record LinksAsked (script : List ℕ) (links : ℕ) (first next : List ℕ) 
   pub words : 2 + 3 * links ≤ length script
   pub cards : (i : ℕ) → i < links → far script i < length first
   pub blank : Blank first next links
+
+-- What finding where each card's links start asks.
+pub record StartsAsked (script : List ℕ) (links cards : ℕ) (starts : List ℕ) : Type 0 where
+  pub ascending : Ascending script links
+  pub room : cards < length starts
 
 -- The table's places are chained by their keys.
 pub record NameIndex (names : List ℕ) (shapes : ℕ) (first next : List ℕ) : Type 0 where

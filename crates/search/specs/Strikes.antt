@@ -10,7 +10,8 @@ use mathlib.Core.Path.{_≡_}
 use mathlib.Core.List.{List}
 use mathlib.Core.Bool.{Bool}
 use lib.ListN.{length, getD}
-use Rattle.words.specs.Limits.{maxKinds, maxShapes, maxGrid}
+use Rattle.words.specs.Limits.{maxKinds, maxShapes}
+use Rattle.words.specs.Sizes.{maxGrid}
 use Rattle.script.specs.Link.{near, label, far}
 use Rattle.board.specs.Board.{Board, Finished}
 use Rattle.board.specs.Work.{Work, Room}

@@ -1,12 +1,13 @@
 // The indexes of a search, each built in one pass: the table's places by label and shape named, the links by their
 // targets, and where each card's links start.
 ghost use mathlib.Core.Path.{_≡_};
-ghost use Prim.Native.Nat.{ℕ, _<_, _≤_};
-ghost use lib.ListN.{length, getD};
-ghost use Rattle.words.specs.Limits.{maxShapes};
-ghost use Rattle.script.specs.Link.{far, Ascending, below};
+ghost use lib.ListN.{length};
+ghost use Rattle.words.specs.Wide.{Widened};
+ghost use Rattle.script.specs.Link.{far};
+ghost use Rattle.script.specs.Steps.{StartsOf};
 ghost use Rattle.search.specs.Chain.{Chained};
-ghost use Rattle.search.specs.Indexes.{entryKey, nameKeys, NameIndex, NamesAsked, LinksAsked};
+ghost use Rattle.search.specs.Indexes.{entryKey, nameKeys, NameIndex, EntryAsked, NamesAsked};
+ghost use Rattle.search.specs.Indexes.{LinksAsked, StartsAsked};
 use script::count_below;
 use words::MAX_KINDS;
 use words::MAX_SHAPES;
@@ -16,8 +17,8 @@ use words::wide;
 
 // By which the place p of the table is chained: the last key where it names no shape.
 fn entry_key(names: &[u8], p: usize) -> usize
-    requires { ⌜ (p < length (now names)) × (getD (now names) p 0 ≤ maxShapes) ⌝ }
-    ensures { λ r. ⌜ (r ≡ entryKey (now (names .entry)) p) × (r < nameKeys) ⌝ }
+    requires { ⌜ EntryAsked (now names) p ⌝ }
+    ensures { λ r. ⌜ Widened nameKeys (entryKey (now (names .entry)) p) r ⌝ }
 {
     let entry = byte(names[p]);
     if entry == 0 {
@@ -60,11 +61,8 @@ pub fn chain(script: &[u16], links: usize, first: &mut [u16], next: &mut [u16])
 // Where the links of each card start: `starts[c]` is how many start at a card below c. The links of c end where those
 // of c + 1 start.
 pub fn link_starts(script: &[u16], links: usize, cards: usize, starts: &mut [u16])
-    requires { ⌜ Ascending (now script) links ⌝ }
-    requires { ⌜ cards < length (now starts) ⌝ }
-    ensures exact { λ _. ⌜ ((c : ℕ) → c ≤ cards
-        → getD (now (starts .exit)) c 0 ≡ below (now (script .entry)) c links) ⌝ }
-    ensures size { λ _. ⌜ length (now (starts .exit)) ≡ length (now (starts .entry)) ⌝ }
+    requires { ⌜ StartsAsked (now script) links cards (now starts) ⌝ }
+    ensures { λ _. ⌜ StartsOf (now (script .entry)) (now (starts .exit)) cards links ⌝ }
 {
     let mut c = 0;
     while c <= cards {

@@ -2,7 +2,7 @@
 ghost use mathlib.Core.Path.{_≡_};
 ghost use Prim.Native.Nat.{_≤_};
 ghost use lib.ListN.{length};
-ghost use Rattle.words.specs.Limits.{maxGrid};
+ghost use Rattle.words.specs.Sizes.{maxGrid};
 ghost use Rattle.board.specs.Grid.{on};
 ghost use Rattle.board.specs.Machine.{Marks};
 ghost use Rattle.board.specs.Work.{work, Swept};

@@ -9,10 +9,11 @@ use Prim.Native.Nat.{ℕ}
 use mathlib.Core.Path.{_≡_}
 use mathlib.Core.List.{List}
 use lib.ListN.{length}
-use Rattle.words.specs.Limits.{tableSize}
+use Rattle.words.specs.Sizes.{tableSize}
 use Rattle.words.specs.Reading.{accepted, turnedDown}
 use Rattle.bags.specs.Part.{Part}
-use Rattle.template.specs.Template.{Template, readTemplate, Tabled}
+use Rattle.template.specs.Template.{Template, readTemplate}
+use Rattle.template.specs.Machine.{Tabled}
 use Rattle.script.specs.Script.{countsOf, readScript}
 use Rattle.sheet.specs.Sheet.{readSheet}
 use Rattle.sheet.specs.declared.Extent.{Extent}

@@ -1,7 +1,7 @@
 // A template and a script that are read together.
 ghost use mathlib.Core.Path.{_≡_};
 ghost use lib.ListN.{replicate};
-ghost use Rattle.words.specs.Limits.{tableSize};
+ghost use Rattle.words.specs.Sizes.{tableSize};
 ghost use Rattle.sheet.specs.Opened.{TableOf, ReadAs};
 use script::ScriptAnswer;
 use script::read_with_kinds;

@@ -11,7 +11,8 @@ use native.Mathlib.Omega.{arith}
 use borrow.Author.Tests.{le-ltb, lt-ltb, le-leb, lt-leb, ltb-false}
 use lib.ListN.{length, getD}
 use lib.Dec.{ltb}
-use Rattle.bags.specs.Part.{Part, named}
+use Rattle.bags.specs.Part.{Part}
+use Rattle.bags.specs.Named.{named}
 use Rattle.words.specs.Said.{Said, values, refusal}
 use Rattle.words.specs.Limits.{maxKinds, maxShapes, maxTemplate, maxDepth}
 use Rattle.words.specs.Reading.{Reading, accepted, turnedDown, refuse, then, mapped, saidOf}

@@ -15,13 +15,16 @@ use borrow.Rule.Slice.PartMut.{midOf, putMid, same-len-mid, mid-len}
 use lib.ListN.{length, getD, take, drop, replicate, length-replicate}
 use lib.Seq.{ext-getD, getD-take, getD-drop}
 use lib.Dec.{ltb}
-use Rattle.bags.specs.Part.{Part, named}
+use Rattle.bags.specs.Part.{Part}
+use Rattle.bags.specs.Named.{named}
 use Rattle.template.specs.declared.Read.{Read}
 use Rattle.template.specs.declared.Read.the-variants.{Next, Refused}
 use Rattle.template.specs.declared.Sizes.{Sizes}
-use Rattle.template.specs.Template.{Placed, placed, noNames, readShape, readShapes, Tabled}
+use Rattle.template.specs.Template.{Placed, placed, noNames, readShape, readShapes}
+use Rattle.template.specs.Machine.{Tabled}
 use Rattle.template.specs.Machine.{readOf, RowNames}
-use Rattle.words.specs.Limits.{maxKinds, maxShapes, tableSize}
+use Rattle.words.specs.Limits.{maxKinds, maxShapes}
+use Rattle.words.specs.Sizes.{tableSize}
 use Rattle.words.specs.Reading.{accepted}
 use Rattle.words.proofs.Bools.{bool-case}
 use Rattle.words.proofs.Cells.{put-before, put-inside, put-after}

@@ -17,7 +17,8 @@ use lib.ListN.{length, getD, set, length-set, replicate}
 use lib.Seq.{getD-set-same, getD-set-other}
 use lib.Dec.{ltb, leb, eqb}
 use Rattle.bags.specs.Part.{Limit, at-most, no-limit, Part, Parts, Names, RunNames, Single, ShapesBelow, LabelsBelow}
-use Rattle.bags.specs.Part.{depth, runDepth, entry, firstEntry, named, runNamed, limitOf}
+use Rattle.bags.specs.Part.{depth, runDepth, limitOf}
+use Rattle.bags.specs.Named.{entry, firstEntry, named, runNamed}
 use Rattle.template.specs.declared.Sizes.{Sizes}
 use Rattle.template.specs.Reading.{Code, single, wrapped, gathered, codeOf, Found, found, into, after, limitsOk}
 use Rattle.template.specs.Reading.{readLink, readRun, readGroup, readCode, readPart}

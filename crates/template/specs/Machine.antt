@@ -3,21 +3,24 @@
 -- readOf                 what it shows of a shape, or of all shapes
 -- Inside                 what the readers of a part ask
 -- Ready, RowNames        what the readers of a shape ask, and the names that they leave in its row
+-- Tabled                 a table has the shapes that each shape names
 -- Empty, Filled          what filling the table of names asks, and what it leaves there
 -- shapePlace             where a shape's count of words stands
 -- Assumes nothing.
-use Prim.Native.Nat.{ℕ, zero, suc, _+_, _≤_}
+use Prim.Native.Nat.{ℕ, zero, suc, _+_, _*_, _≤_, _<_}
 use mathlib.Core.Path.{_≡_}
 use mathlib.Core.List.{List}
 use lib.ListN.{length, getD, replicate}
-use Rattle.words.specs.Limits.{maxKinds, maxShapes, tableSize}
+use Rattle.words.specs.Limits.{maxKinds, maxShapes}
+use Rattle.words.specs.Sizes.{tableSize}
 use Rattle.words.specs.Reading.{Reading, accepted, turnedDown, mapped}
-use Rattle.bags.specs.Part.{Part, named}
+use Rattle.bags.specs.Part.{Part}
+use Rattle.bags.specs.Named.{named}
 use Rattle.template.specs.declared.Read.{Read}
 use Rattle.template.specs.declared.Read.the-variants.{Next, Refused}
 use Rattle.template.specs.declared.Sizes.{Sizes}
 use Rattle.template.specs.Reading.{Found, found}
-use Rattle.template.specs.Template.{Placed, noNames, Tabled}
+use Rattle.template.specs.Template.{Placed, noNames}
 
 -- The next place and the row: all that the code has of what was found.
 pub record Step : Type 0 where
@@ -65,6 +68,12 @@ pub record Empty (sizes : Sizes) (names : List ℕ) : Type 0 where
   pub kinds-high : sizes .kinds ≤ maxKinds
   pub shapes-high : sizes .shapes ≤ maxShapes
   pub unnamed : names ≡ replicate tableSize 0
+
+-- A table has a row of 64 labels for each shape: the shape that the part names for the label plus one, or 0 for none.
+abbrev pub Tabled : List Part → List ℕ → Type 0
+Tabled parts names =
+    (t k : ℕ) → t < length parts → k < maxKinds
+    → getD names (t * maxKinds + k) 0 ≡ named (getD parts t Part.nothing) k
 
 -- A table has the names of all shapes that were read.
 abbrev pub Filled : Reading (Placed (List Part)) → List ℕ → Type 0

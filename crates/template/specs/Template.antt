@@ -4,17 +4,15 @@
 -- readShape, readShapes   one shape, and so many shapes up to the template's end
 -- Template, readTemplate  a template that is read: its counts and a part for each shape
 -- templateSays            what the operation "Read a template" says
--- Tabled                  a table has the shapes that each shape names
 -- Assumes nothing.
-use Prim.Native.Nat.{ℕ, zero, suc, _+_, _-_, _*_, _<_}
-use mathlib.Core.Path.{_≡_}
+use Prim.Native.Nat.{ℕ, zero, suc, _+_, _-_}
 use mathlib.Core.List.{List, [], _∷_}
 use lib.ListN.{length, getD, replicate}
 use lib.Dec.{ltb, leb}
 use Rattle.words.specs.Said.{Said}
 use Rattle.words.specs.Limits.{maxKinds, maxShapes, maxTemplate, maxDepth}
 use Rattle.words.specs.Reading.{Reading, accepted, refuse, then, mapped, saidOf}
-use Rattle.bags.specs.Part.{Part, named}
+use Rattle.bags.specs.Part.{Part}
 use Rattle.template.specs.declared.Sizes.{Sizes}
 use Rattle.template.specs.Reading.{Found, found, readPart}
 
@@ -87,9 +85,3 @@ templateValues template = template .kinds ∷ template .shapes ∷ []
 
 unfoldable pub templateSays : List ℕ → Said
 templateSays words = saidOf templateValues (readTemplate words)
-
--- A table has a row of 64 labels for each shape: the shape that the part names for the label plus one, or 0 for none.
-abbrev pub Tabled : List Part → List ℕ → Type 0
-Tabled parts names =
-    (t k : ℕ) → t < length parts → k < maxKinds
-    → getD names (t * maxKinds + k) 0 ≡ named (getD parts t Part.nothing) k

@@ -3,11 +3,13 @@
 ghost use mathlib.Core.Path.{_≡_};
 ghost use Prim.Native.Nat.{_+_, _<_};
 ghost use lib.ListN.{replicate};
-ghost use Rattle.words.specs.Limits.{maxShapes, tableSize};
+ghost use Rattle.words.specs.Limits.{maxShapes};
+ghost use Rattle.words.specs.Sizes.{tableSize};
 ghost use Rattle.words.specs.Reading.{accepted};
 ghost use Rattle.template.specs.Answer.{templateSaid};
 ghost use Rattle.template.specs.Reading.{limitsOk, readLink, readPart, readRun};
-ghost use Rattle.template.specs.Template.{readShape, readShapes, Template, readTemplate, templateSays, Tabled};
+ghost use Rattle.template.specs.Template.{readShape, readShapes, Template, readTemplate, templateSays};
+ghost use Rattle.template.specs.Machine.{Tabled};
 ghost use Rattle.template.specs.Machine.{shown, outcome, readOf, Inside, Ready, RowNames, Empty, Filled};
 use words::MAX_COUNT;
 use words::MAX_DEPTH;

@@ -1,9 +1,9 @@
 // Writing the text of a printed sheet into a lent buffer, a piece at a time, and finding the printer's input in bytes.
 ghost use mathlib.Core.List.{[], _∷_};
-ghost use Prim.Native.Nat.{_+_, _*_, _≤_, _<_};
-ghost use lib.ListN.{length};
+ghost use Prim.Native.Nat.{_+_, _*_};
 ghost use Rattle.text.specs.Text.{digits, shapeText, shapesText, cardLine, cardLines, twoNumbers, largestLine};
 ghost use Rattle.text.specs.Text.{smallestLine, notMetLine, refusedLine};
+ghost use Rattle.text.specs.Steps.{Shows};
 ghost use Rattle.words.specs.Wrote.{Room, Wrote};
 
 // Writes a byte. Returns the next place, as the functions below do.
@@ -43,7 +43,7 @@ pub fn put_number(out: &mut [u8], at: usize, n: usize) -> usize
 
 // Writes a space and a shape, if the grid has its place.
 fn put_shape(out: &mut [u8], at: usize, grid: &[u8], place: usize, shape: usize) -> usize
-    requires { ⌜ (place < length (now grid)) × Room (now out) at (shapeText (now grid) place shape) ⌝ }
+    requires { ⌜ Shows (now grid) (place + 1) (now out) at (shapeText (now grid) place shape) ⌝ }
     ensures { λ r. ⌜ Wrote (now (out .entry)) at (shapeText (now (grid .entry)) place shape) (now (out .exit)) r ⌝ }
 {
     if grid[place] == 1 {
@@ -55,7 +55,7 @@ fn put_shape(out: &mut [u8], at: usize, grid: &[u8], place: usize, shape: usize)
 
 // Writes the shapes of the card whose row starts at `base`.
 fn put_shapes(out: &mut [u8], at: usize, grid: &[u8], base: usize, shapes: usize) -> usize
-    requires { ⌜ (base + shapes ≤ length (now grid)) × Room (now out) at (shapesText (now grid) base shapes) ⌝ }
+    requires { ⌜ Shows (now grid) (base + shapes) (now out) at (shapesText (now grid) base shapes) ⌝ }
     ensures { λ r. ⌜ Wrote (now (out .entry)) at (shapesText (now (grid .entry)) base shapes) (now (out .exit)) r ⌝ }
 {
     let mut next = at;
@@ -69,7 +69,7 @@ fn put_shapes(out: &mut [u8], at: usize, grid: &[u8], base: usize, shapes: usize
 
 // Writes a card's line.
 pub fn put_card(out: &mut [u8], at: usize, grid: &[u8], shapes: usize, n: usize) -> usize
-    requires { ⌜ (n * shapes + shapes ≤ length (now grid)) × Room (now out) at (cardLine (now grid) shapes n) ⌝ }
+    requires { ⌜ Shows (now grid) (n * shapes + shapes) (now out) at (cardLine (now grid) shapes n) ⌝ }
     ensures { λ r. ⌜ Wrote (now (out .entry)) at (cardLine (now (grid .entry)) shapes n) (now (out .exit)) r ⌝ }
 {
     let word = put_bytes(out, at, b"card ");
@@ -81,7 +81,7 @@ pub fn put_card(out: &mut [u8], at: usize, grid: &[u8], shapes: usize, n: usize)
 
 // Writes the lines of the cards below a number.
 pub fn put_cards(out: &mut [u8], at: usize, grid: &[u8], shapes: usize, cards: usize) -> usize
-    requires { ⌜ (cards * shapes ≤ length (now grid)) × Room (now out) at (cardLines (now grid) shapes cards) ⌝ }
+    requires { ⌜ Shows (now grid) (cards * shapes) (now out) at (cardLines (now grid) shapes cards) ⌝ }
     ensures { λ r. ⌜ Wrote (now (out .entry)) at (cardLines (now (grid .entry)) shapes cards) (now (out .exit)) r ⌝ }
 {
     let mut next = at;

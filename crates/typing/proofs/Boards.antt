@@ -16,7 +16,8 @@ use lib.Dec.{eqb}
 use lib.ListN.{getD}
 use borrow.Author.Tests.{eqb-true, eq-eqb}
 use Rattle.script.specs.Link.{near, label, far}
-use Rattle.words.specs.Limits.{maxKinds, maxShapes, maxGrid}
+use Rattle.words.specs.Limits.{maxKinds, maxShapes}
+use Rattle.words.specs.Sizes.{maxGrid}
 use Rattle.board.specs.Grid.{on}
 use Rattle.board.specs.Machine.{all}
 use Rattle.board.specs.Board.{Inside, Lawful}

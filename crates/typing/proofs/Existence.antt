@@ -13,11 +13,11 @@ use native.Mathlib.Omega.{arith}
 use native.Mathlib.Nat.{le-of-suc-le-suc, not-suc-le-zero}
 use lib.ListN.{length, getD}
 use Rattle.words.specs.Limits.{maxKinds}
-use Rattle.bags.specs.Part.{named}
+use Rattle.bags.specs.Named.{named}
 use Rattle.bags.specs.Bag.{count}
 use Rattle.bags.specs.Interval.{fits}
-use Rattle.bags.specs.Choice.{labelCount}
-use Rattle.template.specs.Template.{Tabled}
+use Rattle.bags.specs.Proposition.{labelCount}
+use Rattle.template.specs.Machine.{Tabled}
 use Rattle.script.specs.Link.{neighbours}
 use Rattle.board.specs.Grid.{on, bit}
 use Rattle.board.specs.Board.{Board}

@@ -17,12 +17,13 @@ use Rattle.words.specs.Limits.{maxKinds}
 use Rattle.bags.specs.Part.{Names, Declares}
 use Rattle.bags.specs.Bag.{Fits, count}
 use Rattle.bags.specs.Interval.{fits}
-use Rattle.bags.specs.Choice.{to, labelCount}
+use Rattle.bags.specs.Choice.{to}
+use Rattle.bags.specs.Proposition.{labelCount}
 use Rattle.bags.proofs.Naming.{names-dec, names-declares, declares-below, declares-unique, named-exact}
 use Rattle.bags.proofs.Exact.{fits-exact}
 use Rattle.bags.proofs.Decide.{list-decided}
 use Rattle.bags.proofs.Choosing.{met-exact}
-use Rattle.template.specs.Template.{Tabled}
+use Rattle.template.specs.Machine.{Tabled}
 use Rattle.script.specs.Link.{label, far, neighbours}
 use Rattle.script.proofs.Neighbours.{neighbours-exact}
 use Rattle.board.specs.Grid.{on}

@@ -12,7 +12,8 @@ use lib.Dec.{eqb}
 use borrow.Author.Tests.{eq-eqb, ne-eqb}
 use Rattle.bags.specs.Part.{Part, Declares}
 use Rattle.bags.specs.Bag.{when}
-use Rattle.bags.specs.Choice.{Neighbour, to, labelCount, TargetsHave}
+use Rattle.bags.specs.Choice.{Neighbour, to}
+use Rattle.bags.specs.Proposition.{labelCount, TargetsHave}
 
 module _ (has : ℕ → ℕ → Type 0) (p : Part) where
   -- the far card has the shape that the part declares for the label

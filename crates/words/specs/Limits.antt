@@ -1,8 +1,8 @@
 -- The limits of the format (docs/FORMAT.md), each once. The code has the same numbers as constants (src/lib.rt).
 -- Assumes nothing.
-use Prim.Native.Nat.{ℕ, _*_}
+use Prim.Native.Nat.{ℕ}
 
--- Kinds of links in a template, and labels that a row of the table of names has room for.
+-- Kinds of links in a template.
 abbrev pub maxKinds : ℕ
 maxKinds = 64
 
@@ -47,11 +47,3 @@ maxBookings = 1024
 -- Bytes of the printer's input.
 abbrev pub maxInput : ℕ
 maxInput = 65536
-
--- Entries of the table of names: a row of labels for each shape.
-abbrev pub tableSize : ℕ
-tableSize = maxShapes * maxKinds
-
--- Bytes of the greatest grid: a byte for each card and shape.
-abbrev pub maxGrid : ℕ
-maxGrid = maxCards * maxShapes

@@ -1,8 +1,7 @@
 // The format's limits, and words and bytes as sizes: what every reader starts with.
-ghost use mathlib.Core.Path.{_≡_};
-ghost use Prim.Native.Nat.{_<_};
+ghost use Rattle.words.specs.Wide.{Widened};
 
-// The limits, as specs/Limits has them.
+// The limits, as specs/Limits and specs/Sizes have them.
 pub const MAX_KINDS: usize = 64;
 
 pub const MAX_SHAPES: usize = 32;
@@ -33,14 +32,14 @@ pub const MAX_GRID: usize = MAX_CARDS * MAX_SHAPES;
 
 // A word as a size.
 pub fn wide(x: u16) -> usize
-    ensures { λ r. ⌜ (r ≡ x) × (r < 65536) ⌝ }
+    ensures { λ r. ⌜ Widened 65536 x r ⌝ }
 {
     x as usize
 }
 
 // A byte as a size.
 pub fn byte(x: u8) -> usize
-    ensures { λ r. ⌜ (r ≡ x) × (r < 256) ⌝ }
+    ensures { λ r. ⌜ Widened 256 x r ⌝ }
 {
     x as usize
 }

@@ -36,7 +36,7 @@ strike-requires : tie.Need-strike-requires
 strike-requires c κs =
     let pairs = tested (settled c .before) in
     let k = start pairs .pre .listed .known in
-    (sheet k, pairs .test-pairs .ensures .tested (sheet k) (asked k))
+    record { sheet = sheet k; tested = pairs .test-pairs .ensures .tested (sheet k) (asked k) }
 
 same-length : tie.Need-same-length
 same-length c = search needs

@@ -17,7 +17,7 @@ test-pairs-requires c κs = search needs
 strike-requires : tie.Need-strike-requires
 strike-requires c κs =
     let k = start (tested c) .pre .known in
-    (sheet k, tested c .test-pairs .ensures .tested (sheet k) (asked k))
+    record { sheet = sheet k; tested = tested c .test-pairs .ensures .tested (sheet k) (asked k) }
 
 same-length : tie.Need-same-length
 same-length c = search needs

@@ -5,7 +5,7 @@ use mathlib.Core.Path.{ap, _∙_}
 use lib.ListN.{length, length-replicate}
 use denote.Ref.{now}
 use borrow.Author.Needs.{needs}
-use Rattle.words.specs.Limits.{tableSize}
+use Rattle.words.specs.Sizes.{tableSize}
 use Rattle.sheet.specs.Opened.{Known}
 use Rattle.calls.proofs.Readings.{known-by, sheet-refused, list-refused, listed-by}
 use Rattle.calls.proofs.read_booked.Statement.{statement}

@@ -23,7 +23,7 @@ cast-strike-all c = search needs
 
 strike-all-requires : tie.Need-strike-all-requires
 strike-all-requires c κs =
-    let t = start c .pre .1 in
+    let t = start c .pre .tested in
     record {
       ready = ready (t .known);
       all-links = read (t .known) .links .links;
@@ -36,7 +36,7 @@ cast-count-bare c = search needs
 
 count-bare-requires : tie.Need-count-bare-requires
 count-bare-requires c κs =
-    let t = start (rounds c .before) .pre .1 in
+    let t = start (rounds c .before) .pre .tested in
     let accepted = read (t .known) in
     record {
       full = rounds c .strike-all .ensures .1 ∙ t .fits .full;

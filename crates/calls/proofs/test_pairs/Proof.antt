@@ -1,7 +1,7 @@
 -- `calls::test_pairs` tests each pair of a sheet that is read. Assumes nothing.
 use native.Mathlib.Omega.{arith}
 use borrow.Author.Needs.{needs}
-use Rattle.calls.proofs.Known.{read, starts-found}
+use Rattle.calls.proofs.Known.{read}
 use Rattle.calls.proofs.Tested.{pairs-tested}
 use Rattle.calls.proofs.test_pairs.Statement.{statement}
 use Rattle.calls.proofs.test_pairs.Tie as tie
@@ -22,15 +22,12 @@ cast-link-starts-2 c = search needs
 link-starts-requires : tie.Need-link-starts-requires
 link-starts-requires c κs =
     let accepted = read (start c .pre .known) in
-    (accepted .links .ascending, omega (arith, accepted .links .cards-bound))
+    record { ascending = accepted .links .ascending; room = omega (arith, accepted .links .cards-bound) }
 
 fit-grid-requires : tie.Need-fit-grid-requires
 fit-grid-requires c κs =
     let sized = start (found c .before) .pre in
-    let links = found c .link-starts .ensures in (
-      record { known = sized .known; links = starts-found (sized .known) (omega (arith, links .1)) (links .0) },
-      sized .size,
-    )
+    record { sheet = record { known = sized .known; links = found c .link-starts .ensures }; size = sized .size }
 
 same-length : tie.Need-same-length
 same-length c = search needs
@@ -40,8 +37,7 @@ returns c =
     let fitted = c .before .before in
     let at = found (fitted .before) in
     let k = start (at .before) .pre .known in
-    pairs-tested k (starts-found k (omega (arith, at .link-starts .ensures .1)) (at .link-starts .ensures .0))
-    (fitted .fit-grid .ensures)
+    pairs-tested k (at .link-starts .ensures) (fitted .fit-grid .ensures)
 
 pub test-pairs-spec : {M : Type 1} → statement M
 test-pairs-spec =

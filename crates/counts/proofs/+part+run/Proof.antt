@@ -179,7 +179,7 @@ module _ (t : ℕ) where
 
   part-returns-8 : part-lts.Need-returns-8 (part-claims t) (part-at t) part.Post
   part-returns-8 c =
-      part-link _ _ _ _ _ (omega arith) (omega arith) _ (c .before .wide .ensures .0) (omega arith) (omega arith)
+      part-link _ _ _ _ _ (omega arith) (omega arith) _ (c .before .wide .ensures .same) (omega arith) (omega arith)
       (c .link .ensures)
 
   part-returns-9 : part-lts.Need-returns-9 (part-claims t) (part-at t) part.Post
@@ -206,10 +206,11 @@ module _ (t : ℕ) where
   run-join-requires : run-lts.Need-join-requires (run-claims t) (run-at t) run.Post
   run-join-requires c κs =
       let a = c .before .before .before .before .before .args in
-      let b : length (a .words .now) ≤ maxTemplate = omega arith in (
-        part-small _ _ _ b _ _ (c .before .part .ensures),
-        run-small _ _ _ b _ _ (a .code) _ (c .run .ensures),
-      )
+      let b : length (a .words .now) ≤ maxTemplate = omega arith in
+      record {
+        first = part-small _ _ _ b _ _ (c .before .part .ensures);
+        second = run-small _ _ _ b _ _ (a .code) _ (c .run .ensures);
+      }
 
   run-returns-2 : run-lts.Need-returns-2 (run-claims t) (run-at t) run.Post
   run-returns-2 c =

@@ -39,7 +39,7 @@ loop-less c = search needs
 
 loop-again : tie.Need-loop-again Inv-loop μ-loop
 loop-again c = (
-  place-next _ _ _ _ (omega arith) (c .wide .ensures .0 ∙ c .before .word .ensures)
+  place-next _ _ _ _ (omega arith) (c .wide .ensures .same ∙ c .before .word .ensures)
       ∙ c .before .before .before .loop .inv .0,
   omega arith,
 )

@@ -94,7 +94,7 @@ loop-again : tie.Need-loop-again Inv-loop μ-loop
 loop-again c =
     let test = c .before .before .before .fits2 .ensures in
     let inv = c .before .before .before .before .before .before .loop .inv in
-    let size = c .wide .ensures .0 in
+    let size = c .wide .ensures .same in
     ⊎-elim
     (λ w. fitted-next _ _ _ _ _ _ inv (omega arith) 1 _ (byte-is _ _ _ test (w .0 .taken)) size _ (w .1))
     (λ w. fitted-next _ _ _ _ _ _ inv (omega arith) 0 _ (byte-is _ _ _ test (w .0 .left)) size _ (w .1))

@@ -37,13 +37,15 @@ count-kinds-requires : tie.Need-count-kinds-requires
 count-kinds-requires c κs =
     let w = c .before in
     let s = start w in
-    let low = w .before .before .wide .ensures .0 in
-    let high = w .wide2 .ensures .0 in
-    let ready = s .pre .0 in
-    let card = s .pre .1 .card in (
-      starts-within _ _ _ _ _ _ _ (ready .known .opened) (ready .links) (card .below) low high,
-      kinds-within _ _ _ _ _ _ _ (ready .known .opened) (ready .links) (card .below) low high _ (s .pre .1 .kinds),
-    )
+    let low = w .before .before .wide .ensures .same in
+    let high = w .wide2 .ensures .same in
+    let card = s .pre .card in
+    let ready = card .sheet in
+    record {
+      within = starts-within _ _ _ _ _ _ _ (ready .known .opened) (ready .links) (card .below) low high;
+      kinds =
+          kinds-within _ _ _ _ _ _ _ (ready .known .opened) (ready .links) (card .below) low high _ (s .pre .kinds);
+    }
 
 wide-requires-3 : tie.Need-wide-requires-3
 wide-requires-3 c κs = search needs
@@ -52,14 +54,14 @@ fit-card-requires : tie.Need-fit-card-requires
 fit-card-requires c κs =
     let a = c .before .before .before .before .before in
     let s = start (a .before .before) in
-    let shapes = c .before .before .wide3 .ensures .0 in
-    let known = s .pre .0 .known in
+    let shapes = c .before .before .wide3 .ensures .same in
+    let known = s .pre .card .sheet .known in
     record {
       shaped = opened-shaped _ _ _ _ (known .opened) shapes;
       table = known .table;
       room = known .room;
-      few = omega (arith, a .count-kinds .ensures .1, s .pre .1 .kinds, kinds-few _ _ _ (known .opened));
-      size = s .pre .1 .card .size ∙ sym shapes;
+      few = omega (arith, a .count-kinds .ensures .1, s .pre .kinds, kinds-few _ _ _ (known .opened));
+      size = s .pre .card .size ∙ sym shapes;
     }
 
 same-length : tie.Need-same-length
@@ -75,13 +77,14 @@ returns c =
     let s = start w in
     let counts = a .count-kinds .last .1 .1 .1 .0 in
     let size = a .count-kinds .ensures .1 in
-    let low = w .before .before .wide .ensures .0 in
-    let high = w .wide2 .ensures .0 in
-    let ready = s .pre .0 in
+    let low = w .before .before .wide .ensures .same in
+    let high = w .wide2 .ensures .same in
+    let card = s .pre .card in
+    let ready = card .sheet in
     let counted =
-    counts-counted _ _ _ _ _ _ _ (ready .known .opened) (ready .links) (s .pre .1 .card .below) low high counts
-    (size ∙ s .pre .1 .kinds) (λ k h. a .count-kinds .ensures .0 k (omega (arith, size))) in
-    let shapes = c .before .before .before .before .before .wide3 .ensures .0 in
+    counts-counted _ _ _ _ _ _ _ (ready .known .opened) (ready .links) (card .below) low high counts
+    (size ∙ s .pre .kinds) (λ k h. a .count-kinds .ensures .0 k (omega (arith, size))) in
+    let shapes = c .before .before .before .before .before .wide3 .ensures .same in
     card-fitted _ _ _ _ _ _ counts _ shapes counted (c .before .before .fit-card .ensures)
 
 pub fit-counted-spec : {M : Type 1} → statement M

@@ -4,7 +4,8 @@ use Prim.Native.Nat.{ℕ, _*_, _-_, _≤_}
 use mathlib.Core.Path.{ap₂, _∙_}
 use native.Mathlib.Omega.{arith}
 use borrow.Author.Needs.{needs}
-use Rattle.words.specs.Limits.{maxShapes, maxGrid}
+use Rattle.words.specs.Limits.{maxShapes}
+use Rattle.words.specs.Sizes.{maxGrid}
 use Rattle.fits.proofs.Cells.{RowsFitted, rows-start, row-inside, row-length, rows-next, rows-end, pairs-bound}
 use Rattle.fits.proofs.fit_grid.Statement.{statement}
 use Rattle.fits.proofs.fit_grid.Tie as tie
@@ -26,8 +27,8 @@ bounds : (c : tie.In-loop Inv-loop μ-loop) →
     (c .before .loop .n * shapes ≤ maxGrid) × (shapes ≤ maxShapes)
 bounds c =
     let a = c .before .before in
-    let opened = start a .pre .0 .known .opened in
-    pairs-bound _ _ _ _ _ _ opened (a .before .wide .ensures .0) (a .wide2 .ensures .0) (omega arith)
+    let opened = start a .pre .sheet .known .opened in
+    pairs-bound _ _ _ _ _ _ opened (a .before .wide .ensures .same) (a .wide2 .ensures .same) (omega arith)
 
 wide-requires : tie.Need-wide-requires Inv-loop μ-loop
 wide-requires c κs = search needs
@@ -37,7 +38,7 @@ wide-requires-2 c κs = search needs
 
 loop-holds : tie.Need-loop-holds Inv-loop μ-loop
 loop-holds c =
-    rows-start _ _ _ _ _ _ (rw (c .before .wide .ensures .0, c .wide2 .ensures .0) (start c .pre .1))
+    rows-start _ _ _ _ _ _ (rw (c .before .wide .ensures .same, c .wide2 .ensures .same) (start c .pre .size))
 
 mul-base : tie.Need-mul-base Inv-loop μ-loop
 mul-base c = let b = bounds c in search needs
@@ -58,8 +59,8 @@ fit-row-requires : tie.Need-fit-row-requires Inv-loop μ-loop
 fit-row-requires c κs =
     let a = c .before .before .before in
     let size = row-length _ _ _ _ _ _ _ (c .before .before .loop .inv) (omega arith) in
-    let shapes = a .wide2 .ensures .0 in
-    (start a .pre .0, record { below = omega arith; size = size ∙ shapes })
+    let shapes = a .wide2 .ensures .same in
+    record { sheet = start a .pre .sheet; below = omega arith; size = size ∙ shapes }
 
 add-n : tie.Need-add-n Inv-loop μ-loop
 add-n c = search needs
@@ -72,18 +73,18 @@ loop-again c =
     let a = c .before .before .before .before .before in
     let row = c .before .before .fit-row in
     rows-next _ _ _ _ _ _ _ (a .loop .inv) (omega arith) (row .last .1 .1 .1 .1 .1 .1 .0) (c .before .grid .given .0) _
-    (a .before .wide2 .ensures .0) (row .ensures)
+    (a .before .wide2 .ensures .same) (row .ensures)
 
 same-length : tie.Need-same-length Inv-loop μ-loop
 same-length c =
     let a = c .before .before in
-    let size = ap₂ (λ (x y : ℕ). x * y) (a .before .wide .ensures .0) (a .wide2 .ensures .0) in
+    let size = ap₂ (λ (x y : ℕ). x * y) (a .before .wide .ensures .same) (a .wide2 .ensures .same) in
     search needs
 
 returns : tie.Need-returns Inv-loop μ-loop
 returns c =
     let a = c .before .before in
-    rows-end _ _ _ _ _ _ _ _ _ (c .before .loop .inv) (omega arith) (a .before .wide .ensures .0) (a .wide2 .ensures .0)
+    rows-end _ _ _ _ _ _ _ _ _ (c .before .loop .inv) (omega arith) (a .before .wide .ensures .same) (a .wide2 .ensures .same)
 
 pub fit-grid-spec : {M : Type 1} → statement M
 fit-grid-spec =

@@ -20,16 +20,16 @@ part-counts-start c = search needs
 
 part-counts-end : tie.Need-part-counts-end
 part-counts-end c =
-    let few = kinds-few _ _ _ (start c .pre .0 .known .opened) in
+    let few = kinds-few _ _ _ (start c .pre .sheet .known .opened) in
     search needs
 
 fit-counted-requires : tie.Need-fit-counted-requires
 fit-counted-requires c κs =
     let a = c .before .before in
     let s = start a in
-    let kinds = a .wide .ensures .0 in
-    let size = counts-length _ _ _ (s .pre .0 .known .opened) _ kinds in
-    (s .pre .0, record { card = s .pre .1; kinds = size })
+    let kinds = a .wide .ensures .same in
+    let size = counts-length _ _ _ (s .pre .sheet .known .opened) _ kinds in
+    record { card = s .pre; kinds = size }
 
 same-length : tie.Need-same-length
 same-length c = search needs

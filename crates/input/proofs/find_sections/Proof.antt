@@ -18,14 +18,14 @@ abbrev bytes-of : tie.After-count-at → List ℕ
 bytes-of a = now (a .before .before .before .before .args .bytes)
 
 second : (a : tie.After-count-at) → 2 + 2 * a .count-at .result ≡ scriptStart (bytes-of a)
-second a = script-at (bytes-of a) (a .count-at .ensures .0)
+second a = script-at (bytes-of a) (a .count-at .ensures .same)
 
 third : (a : tie.After-count-at2) →
     let first = a .before .before in
     2 + 2 * first .count-at .result + 2 + 2 * a .count-at2 .result ≡ bookingsStart (bytes-of first)
 third a =
     let first = a .before .before in
-    bookings-at (bytes-of first) (second first) (a .count-at2 .ensures .0)
+    bookings-at (bytes-of first) (second first) (a .count-at2 .ensures .same)
 
 end : (a : tie.After-count-at3) →
     let next = a .before .before in
@@ -34,7 +34,7 @@ end : (a : tie.After-count-at3) →
     ≡ inputEnd (bytes-of first)
 end a =
     let next = a .before .before in
-    end-at (bytes-of (next .before .before)) (third next) (a .count-at3 .ensures .0)
+    end-at (bytes-of (next .before .before)) (third next) (a .count-at3 .ensures .same)
 
 returns : tie.Need-returns
 returns c = (reads-too-long _ (omega arith), tt)
@@ -127,8 +127,8 @@ returns-7 c =
     let bookings = third next in
     let all = end last in (
       reads-sections _ (omega arith) (omega arith) (omega arith) (omega arith) (omega arith) (omega arith)
-          ∙ ap accepted (same-input (words-at _ refl (first .count-at .ensures .0))
-          (words-at _ script (next .count-at2 .ensures .0)) (words-at _ bookings (last .count-at3 .ensures .0))),
+          ∙ ap accepted (same-input (words-at _ refl (first .count-at .ensures .same))
+          (words-at _ script (next .count-at2 .ensures .same)) (words-at _ bookings (last .count-at3 .ensures .same))),
       record {
         few = omega arith;
         template = record { ends = omega arith; even = omega arith };

@@ -26,7 +26,7 @@ put-cards-requires c κs =
     let line = line-ended _ _ _ (first c .put-largest .ensures) in
     let lines = cards-bound (now (s .args .grid)) (s .args .shapes) (s .args .cards) (s .pre .few-shapes)
     (s .pre .few-cards) in
-    (s .pre .inside, omega (arith, line, lines))
+    record { inside = s .pre .inside; room = omega (arith, line, lines) }
 
 same-length : tie.Need-same-length
 same-length c = search needs

@@ -22,7 +22,7 @@ put-cards-requires c κs =
     let s = start (first c) in
     let lines = cards-bound (now (s .args .grid)) (s .args .shapes) (s .args .cards) (s .pre .few-shapes)
     (s .pre .few-cards) in
-    (s .pre .inside, omega (arith, smallest-bound (s .args .pairs), lines))
+    record { inside = s .pre .inside; room = omega (arith, smallest-bound (s .args .pairs), lines) }
 
 same-length : tie.Need-same-length
 same-length c = search needs

@@ -25,7 +25,7 @@ lies : (a : tie.After-count-below2) →
     Within (now (a .before .before .before .args .script)) (a .before .count-below .result) (a .count-below2 .result)
 lies a =
     let s = a .before .before .before in
-    part-within _ _ (s .pre .0) _ _ _ (a .before .count-below .ensures) (a .count-below2 .ensures)
+    part-within _ _ (s .pre .ascending) _ _ _ (a .before .count-below .ensures) (a .count-below2 .ensures)
 
 mul-result : tie.Need-mul-result
 mul-result c = omega (arith, lies c .order, lies c .few, lies c .end)
@@ -55,7 +55,7 @@ returns : tie.Need-returns
 returns c =
     let a = c .before in
     let s = a .before .before .before in (
-      part-words _ _ (s .pre .0) _ _ _ (a .before .count-below .ensures) (a .count-below2 .ensures),
+      part-words _ _ (s .pre .ascending) _ _ _ (a .before .count-below .ensures) (a .count-below2 .ensures),
       (refl, ap (λ (x : ℕ). fromIndex x * 2 + s .args .script .ptr .1) (a .before .count-below .ensures)),
     )
 

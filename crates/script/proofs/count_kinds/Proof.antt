@@ -6,7 +6,8 @@ use native.Mathlib.Omega.{arith}
 use lib.ListN.{length, getD, length-set}
 use denote.Ref.{now}
 use borrow.Author.Needs.{needs}
-use Rattle.script.specs.Link.{kindAt, kindCount}
+use Rattle.script.specs.Link.{kindAt}
+use Rattle.script.specs.Steps.{kindCount}
 use Rattle.script.proofs.Neighbours.{kind-count-none, kind-count-bound, kind-counts-more}
 use Rattle.script.proofs.count_kinds.Tie as tie
 use Rattle.script.proofs.count_kinds.Statement.{statement}
@@ -32,13 +33,13 @@ start l = l .before .before .before .before .before .before .before
 kind-is : (a : tie.After-wide Inv-loop μ-loop) →
     a .wide .result ≡ kindAt (now (start (turn a) .args .script)) (turn a .loop .i)
 unfolding kindAt
-kind-is a = a .wide .ensures .0
+kind-is a = a .wide .ensures .same
 
 kind-in : (a : tie.After-wide Inv-loop μ-loop) → a .wide .result < length (turn a .loop .counts)
 kind-in a =
     let l = turn a in
     let cleared = l .before .before .before .clear .ensures in
-    let below = start l .pre .1 (l .loop .i) (omega arith) (omega arith) in
+    let below = start l .pre .kinds (l .loop .i) (omega arith) (omega arith) in
     omega (arith, kind-is a, below, l .loop .inv .2, cleared .1)
 
 clear-requires : tie.Need-clear-requires Inv-loop μ-loop
@@ -77,7 +78,7 @@ add-counts c =
     let kind = c .before .wide .result in
     let counted = l .loop .inv .3 kind (kind-in (c .before)) in
     let bound = kind-count-bound (now (s .args .script)) kind (s .args .lo) (l .loop .i) in
-    omega (arith, counted, bound, s .pre .0 .few)
+    omega (arith, counted, bound, s .pre .within .few)
 
 slice-write-counts : tie.Need-slice-write-counts Inv-loop μ-loop
 slice-write-counts c = kind-in (c .before)

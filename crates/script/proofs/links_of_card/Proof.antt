@@ -4,7 +4,7 @@ use Prim.Native.Nat.{ℕ, _+_, _*_}
 use mathlib.Core.Path.{_≡_, refl, sym, ap, subst, _∙_}
 use native.Mathlib.Omega.{arith}
 use borrow.Author.Needs.{needs}
-use Rattle.script.specs.Link.{Ascending}
+use Rattle.script.specs.Steps.{Ascending}
 use Rattle.script.specs.Answer.{scriptSaid}
 use Rattle.script.proofs.WithTemplate.{both-read, card-links-none, card-links-outside, card-links-part}
 use Rattle.script.proofs.WithTemplate.{links-start-none, links-start-outside, links-start-part}
@@ -47,7 +47,10 @@ card-part-requires : tie.Need-card-part-requires
 card-part-requires c κs =
     let a = c .before .before .before .before in
     let both = both-read _ _ _ _ (sym (ap scriptSaid (a .read .given .1)) ∙ a .before .before .read-script .ensures) in
-    (subst (Ascending _) (sym (c .before .wide .ensures .0)) (both .read .ascending), omega arith)
+    record {
+      ascending = subst (Ascending _) (sym (c .before .wide .ensures .same)) (both .read .ascending);
+      small = c .wide2 .ensures .small;
+    }
 
 enum-told : tie.Need-enum-told
 enum-told c = search needs
@@ -61,8 +64,8 @@ returns-2 c =
     let words = card-links-part _ _ _ _ _ both inside in
     let start = at-word _ (links-start-part _ _ _ _ _ both inside) in
     let part = c .card-part .ensures in (
-      part .0 ∙ rw (w .wide2 .ensures .0, w .before .wide .ensures .0) words,
-      (part .1 .0, part .1 .1 ∙ rw (w .wide2 .ensures .0, w .before .wide .ensures .0) start),
+      part .0 ∙ rw (w .wide2 .ensures .same, w .before .wide .ensures .same) words,
+      (part .1 .0, part .1 .1 ∙ rw (w .wide2 .ensures .same, w .before .wide .ensures .same) start),
     )
 
 returns-3 : tie.Need-returns-3

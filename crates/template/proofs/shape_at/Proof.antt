@@ -27,7 +27,7 @@ sub-if2 : tie.Need-sub-if2
 sub-if2 c = search needs
 
 returns-2 : tie.Need-returns-2
-returns-2 c = shape-long _ _ _ _ _ (omega arith) (c .before .wide .ensures .0) (omega arith)
+returns-2 c = shape-long _ _ _ _ _ (omega arith) (c .before .wide .ensures .same) (omega arith)
 
 add-end : tie.Need-add-end
 add-end c = search needs

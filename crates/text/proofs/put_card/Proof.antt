@@ -37,7 +37,10 @@ put-shapes-requires c κs =
     let second = third .before .before .before .before in
     let first = second .before .before .before .before in
     let start = first .before .before .before .before .before in
-    (start .pre .0, omega (arith, card-length (now (start .args .grid)) (start .args .shapes) (start .args .n)))
+    record {
+      inside = start .pre .inside;
+      room = omega (arith, card-length (now (start .args .grid)) (start .args .shapes) (start .args .n));
+    }
 
 put-byte-requires-2 : tie.Need-put-byte-requires-2
 put-byte-requires-2 c κs =

@@ -29,10 +29,11 @@ put-card-requires : tie.Need-put-card-requires Inv-loop μ-loop
 put-card-requires c κs =
     let at-loop = c .before .before in
     let args = at-loop .before .before .before .args in
-    let n = at-loop .loop .n in (
-      omega (arith, row-inside n (args .cards) (args .shapes) (omega arith)),
-      omega (arith, cards-room (now (args .grid)) (args .shapes) n (args .cards) (omega arith)),
-    )
+    let n = at-loop .loop .n in
+    record {
+      inside = omega (arith, row-inside n (args .cards) (args .shapes) (omega arith));
+      room = omega (arith, cards-room (now (args .grid)) (args .shapes) n (args .cards) (omega arith));
+    }
 
 add-n : tie.Need-add-n Inv-loop μ-loop
 add-n c = search needs

@@ -31,10 +31,9 @@ add-put-shape c = search needs
 put-shape-requires : tie.Need-put-shape-requires Inv-loop μ-loop
 put-shape-requires c κs =
     let at-loop = c .before .before in
-    let args = at-loop .before .before .before .args in (
-      omega arith,
-      omega (arith, shapes-room (now (args .grid)) (args .base) (at-loop .loop .shape) (args .shapes) (omega arith)),
-    )
+    let args = at-loop .before .before .before .args in
+    let room = shapes-room (now (args .grid)) (args .base) (at-loop .loop .shape) (args .shapes) (omega arith) in
+    record { inside = omega arith; room = omega (arith, room) }
 
 add-shape : tie.Need-add-shape Inv-loop μ-loop
 add-shape c = search needs

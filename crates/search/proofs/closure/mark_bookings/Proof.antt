@@ -7,7 +7,7 @@ use native.Mathlib.Omega.{arith}
 use lib.ListN.{length, length-set}
 use denote.Ref.{now}
 use borrow.Author.Needs.{needs}
-use Rattle.words.specs.Limits.{maxGrid}
+use Rattle.words.specs.Sizes.{maxGrid}
 use Rattle.words.proofs.Places.{place-in}
 use Rattle.bookings.specs.Bookings.{cardAt, shapeAt}
 use Rattle.search.specs.Closing.{Marked}
@@ -32,11 +32,11 @@ Start a = Loop a .before .before .before
 -- the card and the shape that are read are the booking's, and on the board
 card-here : (a : tie.After-wide3 Inv-loop μ-loop) →
     a .before .before .wide2 .result ≡ cardAt (now (Start a .args .bookings)) (Loop a .loop .i)
-card-here a = a .before .before .wide2 .ensures .0 ∙ sym (card-word (now (Start a .args .bookings)) (Loop a .loop .i))
+card-here a = a .before .before .wide2 .ensures .same ∙ sym (card-word (now (Start a .args .bookings)) (Loop a .loop .i))
 
 shape-here : (a : tie.After-wide3 Inv-loop μ-loop) →
     a .wide3 .result ≡ shapeAt (now (Start a .args .bookings)) (Loop a .loop .i)
-shape-here a = a .wide3 .ensures .0 ∙ sym (shape-word (now (Start a .args .bookings)) (Loop a .loop .i))
+shape-here a = a .wide3 .ensures .same ∙ sym (shape-word (now (Start a .args .bookings)) (Loop a .loop .i))
 
 place-here : (a : tie.After-wide3 Inv-loop μ-loop) → let s = Start a in
     a .before .before .wide2 .result * s .args .shapes + a .wide3 .result < s .args .cards * s .args .shapes

@@ -6,7 +6,7 @@ use native.Mathlib.Omega.{arith}
 use lib.ListN.{length, getD}
 use denote.Ref.{now}
 use borrow.Author.Needs.{needs}
-use Rattle.words.specs.Limits.{maxGrid}
+use Rattle.words.specs.Sizes.{maxGrid}
 use Rattle.board.specs.Work.{work, entry, Queued, Swept}
 use Rattle.board.proofs.Flooding.{Flooding, flood-start, queued-inside, flood-tail, flood-head, flood-room}
 use Rattle.board.proofs.Flooding.{flood-turn, flood-done}
@@ -75,7 +75,7 @@ pair-in : (a : tie.After-wide Inv-loop μ-loop) → let s = Start (Loop a) in
     a .wide .result < getD (now (s .args .script)) 0 0 * s .args .shapes
 pair-in a =
     let l = Loop a in
-    omega (arith, a .wide .ensures .0, flood-head (Now l) (a .before .before .loop-test .taken))
+    omega (arith, a .wide .ensures .same, flood-head (Now l) (a .before .before .loop-test .taken))
 
 card-of : (a : tie.After-wide Inv-loop μ-loop) → let s = Start (Loop a) in
     a .wide .result / s .args .shapes < getD (now (s .args .script)) 0 0
@@ -143,8 +143,8 @@ strike-needs-requires c κs =
     record {
       ready = s .pre .ready;
       shape-in = shape-in (s .args .shapes) (s .pre .ready .one-shape) (a .wide .result);
-      rising = omega (arith, low .wide2 .ensures .0, high .wide3 .ensures .0, s .pre .starting .rising n (card-of a));
-      links-in = omega (arith, high .wide3 .ensures .0, s .pre .starting .within (n + 1) (omega (arith, card-of a)));
+      rising = omega (arith, low .wide2 .ensures .same, high .wide3 .ensures .same, s .pre .starting .rising n (card-of a));
+      links-in = omega (arith, high .wide3 .ensures .same, s .pre .starting .within (n + 1) (omega (arith, card-of a)));
       full = Now l .full;
       room = flood-room (Now l) (room-of l);
     }
@@ -172,7 +172,7 @@ loop-again c =
     let starts = now (s .args .starts) in
     let q = getD (l .loop .queue) (l .loop .head) 0 in
     let lq = flood-head (Now l) (i .loop-test .taken) in
-    let is = Pair low .wide .ensures .0 in
+    let is = Pair low .wide .ensures .same in
     let w = work (l .loop .grid) (l .loop .queue) (l .loop .tail) in
     let v = work (struck .last .1 .1 .1 .1 .1 .1 .0) (struck .last .1 .1 .1 .1 .1 .1 .1 .0) (struck .result) in (
       l .loop .inv .0,
@@ -180,8 +180,8 @@ loop-again c =
           (λ p g. let d = card-exact ready (s .pre .starting) q p lq .0 g in (needs-in ready q p d, d))
           (λ p d. card-exact ready (s .pre .starting) q p lq .1 d)
           (subst₃ (λ (lo hi t : ℕ). Swept (CardGood (now (s .args .script)) (now (s .args .names)) shapes lo hi t) w v)
-          (low .wide2 .ensures .0 ∙ ap (λ (x : ℕ). getD starts (x / shapes) 0) is)
-          (high .wide3 .ensures .0 ∙ ap (λ (x : ℕ). getD starts (x / shapes + 1) 0) is)
+          (low .wide2 .ensures .same ∙ ap (λ (x : ℕ). getD starts (x / shapes) 0) is)
+          (high .wide3 .ensures .same ∙ ap (λ (x : ℕ). getD starts (x / shapes + 1) 0) is)
           (ap (λ (x : ℕ). x % shapes) is)
           (struck .ensures)),
     )

@@ -64,7 +64,7 @@ kind-is : (a : tie.After-wide Inv-loop μ-loop) → let l = Loop a in
     a .wide .result ≡ label (now (Start l .args .script)) (l .loop .i)
 kind-is a =
     let l = Loop a in
-    a .wide .ensures .0 ∙ label-word (now (Start l .args .script)) (l .loop .i)
+    a .wide .ensures .same ∙ label-word (now (Start l .args .script)) (l .loop .i)
 
 kind-in : (a : tie.After-wide Inv-loop μ-loop) → a .wide .result < maxKinds
 kind-in a =
@@ -76,7 +76,7 @@ target-is : (a : tie.After-wide2 Inv-loop μ-loop) → let l = Loop (Kind a) in
     a .wide2 .result ≡ far (now (Start l .args .script)) (l .loop .i)
 target-is a =
     let l = Loop (Kind a) in
-    a .wide2 .ensures .0 ∙ far-word (now (Start l .args .script)) (l .loop .i)
+    a .wide2 .ensures .same ∙ far-word (now (Start l .args .script)) (l .loop .i)
 
 -- the entry read
 entry-is : (a : tie.After-byte Inv-loop μ-loop) → let l = Turn a .before in
@@ -84,7 +84,7 @@ entry-is : (a : tie.After-byte Inv-loop μ-loop) → let l = Turn a .before in
     a .byte .result ≡ entryAt (now (s .args .names)) (s .args .t) (label (now (s .args .script)) (l .loop .i))
 entry-is a =
     let s = Start (Turn a .before) in
-    a .byte .ensures .0
+    a .byte .ensures .same
     ∙ ap (λ (x : ℕ). getD (now (s .args .names)) (s .args .t * maxKinds + x) 0) (kind-is (Kind (Target a)))
 
 entry-suc : (a : tie.After-byte Inv-loop μ-loop) → 0 < a .byte .result → let l = Turn a .before in

@@ -34,7 +34,7 @@ unfolding toAt
 card-in a =
     let l = Loop a in
     let in-first = Start l .pre .cards (l .loop .i) (a .before .before .loop-test .taken) in
-    omega (arith, in-first, a .wide .ensures .0, l .loop .inv .1)
+    omega (arith, in-first, a .wide .ensures .same, l .loop .inv .1)
 
 loop-holds : tie.Need-loop-holds Inv-loop μ-loop
 loop-holds c =
@@ -93,7 +93,7 @@ loop-again c =
       omega arith,
       simp length-set (l .loop .inv .1),
       simp length-set (l .loop .inv .2),
-      chained-more _ _ _ _ _ (l .loop .inv .3) (c .before .wide .ensures .0) (card-in (c .before)) (omega arith),
+      chained-more _ _ _ _ _ (l .loop .inv .3) (c .before .wide .ensures .same) (card-in (c .before)) (omega arith),
     )
 
 same-length : tie.Need-same-length Inv-loop μ-loop

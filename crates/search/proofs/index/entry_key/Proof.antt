@@ -23,7 +23,10 @@ returns : tie.Need-returns
 returns c =
     let start = Start (c .before) in
     let names = now (start .args .names) in
-    (sym (key-none names (start .args .p) (sym (c .before .byte .ensures .0) ∙ c .if1 .taken)), omega arith)
+    record {
+      same = sym (key-none names (start .args .p) (sym (c .before .byte .ensures .same) ∙ c .if1 .taken));
+      small = omega arith;
+    }
 
 mul-result : tie.Need-mul-result
 mul-result c = search needs
@@ -39,10 +42,11 @@ returns-2 c =
     let start = Start (c .before) in
     let names = now (start .args .names) in
     let p = start .args .p in
-    let is = c .before .byte .ensures .0 in (
-      ap (λ (x : ℕ). p % maxKinds * maxShapes + (x - 1)) is ∙ sym (key-of names p (λ e. c .if1 .left (is ∙ e))),
-      omega (arith, is, start .pre .1, c .if1 .left),
-    )
+    let is = c .before .byte .ensures .same in
+    record {
+      same = ap (λ (x : ℕ). p % maxKinds * maxShapes + (x - 1)) is ∙ sym (key-of names p (λ e. c .if1 .left (is ∙ e)));
+      small = omega (arith, is, start .pre .entry, c .if1 .left);
+    }
 
 pub entry-key-spec : {M : Type 1} → statement M
 entry-key-spec =

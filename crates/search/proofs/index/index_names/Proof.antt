@@ -40,7 +40,10 @@ mul-loop c = search needs
 entry-key-requires : tie.Need-entry-key-requires Inv-loop μ-loop
 entry-key-requires c κs =
     let table = Start (c .before) .pre .table in
-    (omega (arith, table .rows, c .loop-test .taken), table .entries (c .before .loop .p) (c .loop-test .taken))
+    record {
+      inside = omega (arith, table .rows, c .loop-test .taken);
+      entry = table .entries (c .before .loop .p) (c .loop-test .taken);
+    }
 
 mul-next : tie.Need-mul-next Inv-loop μ-loop
 mul-next c = search needs
@@ -84,7 +87,7 @@ loop-again c =
       length-set first key (p + 1) ∙ at-loop .loop .inv .1,
       length-set next p (getD first key 0) ∙ at-loop .loop .inv .2,
       chained-more (entryKey (now (start .args .names))) first next p key (at-loop .loop .inv .3)
-          (c .before .entry-key .ensures .0)
+          (c .before .entry-key .ensures .same)
           (omega (arith, at-loop .loop .inv .1, start .pre .keys))
           (omega (arith, at-loop .loop .inv .2, start .pre .blank .room)),
     )

@@ -35,7 +35,7 @@ cast-starts : tie.Need-cast-starts Inv-loop μ-loop
 cast-starts c =
     let l = c .before .before in
     let s = Start l in
-    omega (arith, below-le (now (s .args .script)) (l .loop .c) (s .args .links), s .pre .0 .few)
+    omega (arith, below-le (now (s .args .script)) (l .loop .c) (s .args .links), s .pre .ascending .few)
 
 mul-starts : tie.Need-mul-starts Inv-loop μ-loop
 mul-starts c = search needs
@@ -65,7 +65,7 @@ same-length c = search needs
 returns : tie.Need-returns Inv-loop μ-loop
 returns c =
     let l = c .before in
-    (λ k h. l .loop .inv .2 k (omega arith), l .loop .inv .1)
+    record { room = omega (arith, l .loop .inv .1); exact = λ k h. l .loop .inv .2 k (omega arith) }
 
 pub link-starts-spec : {M : Type 1} → statement M
 link-starts-spec =

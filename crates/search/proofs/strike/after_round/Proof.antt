@@ -41,7 +41,7 @@ use denote.Triple.Spec.{Meets, tripleOf}
 use denote.Triple.Table.{entered, cited}
 use denote.Triple.Walked.{says, needs, Stays, stay-none, walkOf, AllGo, goes-none, Walks, ends-at, walked, walk-meets}
 use denote.Exit.{yes}
-use Rattle.words.specs.Limits.{maxGrid}
+use Rattle.words.specs.Sizes.{maxGrid}
 use Rattle.search.specs.Tally.{closed}
 use Rattle.search.specs.declared.Tally.{Tally}
 use Rattle.search.proofs.Tallies.{words, IsTally, closed-is, tally-lends, tally-back}

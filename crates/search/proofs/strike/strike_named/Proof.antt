@@ -56,7 +56,7 @@ next-is : (c : tie.After-wide2 Inv-loop μ-loop) → let l = Turn (c .before) .b
     c .wide2 .result ≡ lastAt key (key (l .loop .at - 1)) (l .loop .at - 1)
 next-is c =
     let i = Turn (c .before) in
-    c .wide2 .ensures .0 ∙ Start (i .before) .pre .places .chained .nexts (i .before .loop .at - 1)
+    c .wide2 .ensures .same ∙ Start (i .before) .pre .places .chained .nexts (i .before .loop .at - 1)
     (walk-in (i .before .loop .inv) (i .loop-test .taken))
 
 mul-wide : tie.Need-mul-wide Inv-loop μ-loop
@@ -78,7 +78,7 @@ wide-requires c κs = search needs
 loop-holds : tie.Need-loop-holds Inv-loop μ-loop
 loop-holds c =
     let s = Entered (c .before) in
-    walk-start (c .wide .ensures .0
+    walk-start (c .wide .ensures .same
     ∙ s .pre .places .chained .heads (s .args .label * maxShapes + s .args .u)
     (omega (arith, s .pre .places .keys, s .pre .label-in, s .pre .shape-in)))
 

@@ -8,7 +8,7 @@ use native.Mathlib.Numerals.{add-one}
 use lib.ListN.{length, getD}
 use denote.Ref.{now}
 use borrow.Author.Needs.{needs}
-use Rattle.words.specs.Limits.{maxGrid}
+use Rattle.words.specs.Sizes.{maxGrid}
 use Rattle.board.specs.Grid.{on}
 use Rattle.board.specs.Machine.{Marks}
 use Rattle.board.specs.Work.{work, Swept}
@@ -138,7 +138,7 @@ strike-target-requires c κs =
     let s = Start l in
     let shapes = s .args .shapes in
     let cards = getD (now (s .args .script)) 0 0 in
-    let is = read .wide .ensures .0 in
+    let is = read .wide .ensures .same in
     let small = search-head (l .loop .inv .1) (turn .loop-test .taken) in
     let one-shape = s .pre .indexed .ready .one-shape in
     record {
@@ -173,7 +173,7 @@ loop-again c =
     let w = work (l .loop .grid) (l .loop .queue) (l .loop .tail) in
     let last = struck .last .1 .1 .1 .1 .1 .1 .1 .1 .1 in
     let v = work (last .0) (last .1 .0) (struck .result) in
-    let swept = subst (λ (x : ℕ). Swept (Good (x / shapes) (x % shapes)) w v) (read .wide .ensures .0)
+    let swept = subst (λ (x : ℕ). Swept (Good (x / shapes) (x % shapes)) w v) (read .wide .ensures .same)
     (struck .ensures) in (
       l .loop .inv .0,
       search-turn (here .0) (room-of l) (here .1)

@@ -64,13 +64,13 @@ from-is : (a : tie.After-wide2 Inv-loop μ-loop) → let l = Loop a in
     a .wide2 .result ≡ near (now (Start l .args .script)) (l .loop .at - 1)
 from-is a =
     let l = Loop a in
-    a .wide2 .ensures .0 ∙ near-word (now (Start l .args .script)) (l .loop .at - 1)
+    a .wide2 .ensures .same ∙ near-word (now (Start l .args .script)) (l .loop .at - 1)
 
 kind-is : (a : tie.After-wide3 Inv-loop μ-loop) → let l = Loop (From a) in
     a .wide3 .result ≡ label (now (Start l .args .script)) (l .loop .at - 1)
 kind-is a =
     let l = Loop (From a) in
-    a .wide3 .ensures .0 ∙ label-word (now (Start l .args .script)) (l .loop .at - 1)
+    a .wide3 .ensures .same ∙ label-word (now (Start l .args .script)) (l .loop .at - 1)
 
 -- all pairs of the card are on the board
 card-pairs : (a : tie.After-wide2 Inv-loop μ-loop) → let s = Start (Loop a) in
@@ -92,7 +92,7 @@ next-is : (c : tie.After-wide4 Inv-loop μ-loop) → let l = Turn (c .before .be
     c .wide4 .result ≡ lastAt to (to (l .loop .at - 1)) (l .loop .at - 1)
 next-is c =
     let i = Turn (c .before .before) in
-    c .wide4 .ensures .0 ∙ Start (i .before) .pre .indexed .links .chained .nexts (i .before .loop .at - 1) (link-in i)
+    c .wide4 .ensures .same ∙ Start (i .before) .pre .indexed .links .chained .nexts (i .before .loop .at - 1) (link-in i)
 
 mul-wide : tie.Need-mul-wide Inv-loop μ-loop
 mul-wide c =
@@ -110,7 +110,7 @@ wide-requires c κs = search needs
 loop-holds : tie.Need-loop-holds Inv-loop μ-loop
 loop-holds c =
     let s = Entered (c .before .before) in
-    walk-start (c .wide .ensures .0
+    walk-start (c .wide .ensures .same
     ∙ s .pre .indexed .links .chained .heads (s .args .m)
     (omega (arith, s .pre .card-in, s .pre .indexed .links .cards)))
 
