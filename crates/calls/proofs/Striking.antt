@@ -5,26 +5,23 @@ use Prim.Native.Nat.{ℕ}
 use mathlib.Core.Path.{_≡_, _∙_}
 use mathlib.Core.List.{List, [], _∷_}
 use native.Mathlib.Omega.{arith}
-use lib.ListN.{length}
 use Rattle.words.specs.Said.{values}
 use Rattle.board.specs.Grid.{on}
-use Rattle.board.specs.Machine.{Marks}
 use Rattle.sheet.specs.Sheet.{Sheet}
 use Rattle.sheet.specs.declared.Extent.{Extent}
-use Rattle.typing.specs.Needs.{boardOf}
 use Rattle.typing.specs.Largest.{bareCards}
 use Rattle.typing.specs.Calls.{LargestFound}
 use Rattle.typing.proofs.Largest.{largest-found}
-use Rattle.search.specs.Strikes.{Searched}
+use Rattle.search.specs.Strikes.{StrikesLeft}
 use Rattle.calls.specs.Steps.{SheetTested}
 use Rattle.calls.proofs.Tested.{full, marks, stands}
 
 pub struck-found : {s : Sheet} {script names : List ℕ} {e : Extent} {grid after : List ℕ} {rounds struck bare : ℕ}
     → SheetTested s script names e grid
-    → Searched (boardOf script names (e .shapes) grid) (on after) rounds struck
-    → length after ≡ length grid → (Marks grid → Marks after) → bare ≡ bareCards s (on after)
+    → StrikesLeft script names (e .shapes) grid after rounds struck → bare ≡ bareCards s (on after)
     → LargestFound s after (values (rounds ∷ struck ∷ bare ∷ []))
-struck-found {after = after} t found same marked counted =
+struck-found {after = after} t left counted =
+    let found = left .searched in
     largest-found (stands t) after _ (found .striking) _ _
-    (record { full = same ∙ full t; bytes = λ p l. marked (marks t) p (omega (arith, same, full t)) })
+    (record { full = left .size ∙ full t; bytes = λ p l. left .marks (marks t) p (omega (arith, left .size, full t)) })
     (found .counted) (found .finished) counted

@@ -3,7 +3,7 @@
 -- TargetGood   those that it makes fall by all links to its card
 -- NamedAsked, TargetAsked   what striking these asks
 -- RoundsAsked, StrikeAsked  what the search asks, with its indexes and without
--- Searched     its answer
+-- Searched     its answer; StrikesLeft: with what becomes of the grid
 -- Assumes nothing.
 use Prim.Native.Nat.{ℕ, suc, _+_, _*_, _≤_, _<_}
 use mathlib.Core.Path.{_≡_}
@@ -13,9 +13,11 @@ use lib.ListN.{length, getD}
 use Rattle.words.specs.Limits.{maxKinds, maxShapes}
 use Rattle.words.specs.Sizes.{maxGrid}
 use Rattle.script.specs.Link.{near, label, far}
+use Rattle.board.specs.Grid.{on}
 use Rattle.board.specs.Board.{Board, Finished}
+use Rattle.board.specs.Machine.{Marks}
 use Rattle.board.specs.Work.{Work, Room}
-use Rattle.typing.specs.Needs.{entryAt, Ready}
+use Rattle.typing.specs.Needs.{entryAt, boardOf, Ready}
 use Rattle.search.specs.Indexes.{Table, NameIndex, Indexed}
 
 -- The pairs of the card at `base` whose shape names u for the label k.
@@ -70,3 +72,9 @@ pub record Searched (B : Board) (X : ℕ → Bool) (rounds struck : ℕ) : Type 
   pub striking : ℕ
   pub counted : rounds ≡ suc striking
   pub finished : Finished B X struck striking
+
+-- The grid after the search is the answer on the grid before, as long as that one, and of 0 and 1 if that one was.
+pub record StrikesLeft (script names : List ℕ) (shapes : ℕ) (before after : List ℕ) (rounds struck : ℕ) : Type 0 where
+  pub searched : Searched (boardOf script names shapes before) (on after) rounds struck
+  pub size : length after ≡ length before
+  pub marks : Marks before → Marks after

@@ -1,15 +1,11 @@
 // The search backwards: from the pairs whose counts do not fit, rounds of strikes, until one strikes nothing.
 ghost use mathlib.Core.Path.{_≡_};
 ghost use Prim.Native.Nat.{_≤_};
-ghost use lib.ListN.{length};
 ghost use Rattle.words.specs.Sizes.{maxGrid};
-ghost use Rattle.board.specs.Grid.{on};
-ghost use Rattle.board.specs.Machine.{Marks};
 ghost use Rattle.board.specs.Work.{work, Swept};
-ghost use Rattle.typing.specs.Needs.{boardOf};
 ghost use Rattle.search.specs.Tally.{closed};
-ghost use Rattle.search.specs.Strikes.{NamedGood, TargetGood, Searched, NamedAsked, TargetAsked, RoundsAsked};
-ghost use Rattle.search.specs.Strikes.{StrikeAsked};
+ghost use Rattle.search.specs.Strikes.{NamedGood, TargetGood, NamedAsked, TargetAsked, RoundsAsked, StrikeAsked};
+ghost use Rattle.search.specs.Strikes.{StrikesLeft};
 use crate::Tally;
 use crate::index::chain;
 use crate::index::index_names;
@@ -128,9 +124,8 @@ fn strike_rounds(
 ) -> Tally
     requires { ⌜ RoundsAsked (now script) (now first) (now next) (now names) shapes (now named) (now alike)
         (now grid) (now queue) ⌝ }
-    ensures { λ r. ⌜ Searched (boardOf (now (script .entry)) (now (names .entry)) shapes (now (grid .entry)))
-        (on (now (grid .exit))) (r .rounds) (r .struck) × (length (now (grid .exit)) ≡ length (now (grid .entry)))
-        × (Marks (now (grid .entry)) → Marks (now (grid .exit))) ⌝ }
+    ensures { λ r. ⌜ StrikesLeft (now (script .entry)) (now (names .entry)) shapes (now (grid .entry)) (now (grid .exit))
+        (r .rounds) (r .struck) ⌝ }
 {
     let mut tail = list_off(grid, queue);
     let mut head = 0;
@@ -173,9 +168,8 @@ pub fn strike_all(
     queue: &mut [u16],
 ) -> Tally
     requires { ⌜ StrikeAsked (now script) (now names) links shapes (now grid) (now queue) ⌝ }
-    ensures { λ r. ⌜ Searched (boardOf (now (script .entry)) (now (names .entry)) shapes (now (grid .entry)))
-        (on (now (grid .exit))) (r .rounds) (r .struck) × (length (now (grid .exit)) ≡ length (now (grid .entry)))
-        × (Marks (now (grid .entry)) → Marks (now (grid .exit))) ⌝ }
+    ensures { λ r. ⌜ StrikesLeft (now (script .entry)) (now (names .entry)) shapes (now (grid .entry)) (now (grid .exit))
+        (r .rounds) (r .struck) ⌝ }
 {
     let mut named = [0u16; TABLE_SIZE + 1];
     let mut alike = [0u16; TABLE_SIZE];

@@ -39,7 +39,7 @@ count-bare-requires c κs =
     let t = start (rounds c .before) .pre .tested in
     let accepted = read (t .known) in
     record {
-      full = rounds c .strike-all .ensures .1 ∙ t .fits .full;
+      full = rounds c .strike-all .ensures .size ∙ t .fits .full;
       few-cards = accepted .links .cards-bound;
       few-shapes = accepted .shapes .shapes-high;
     }
@@ -49,8 +49,7 @@ same-length c = search needs
 
 returns : tie.Need-returns
 returns c s t =
-    let struck = rounds (c .before) .strike-all .ensures in
-    struck-found t (struck .0) (struck .1) (struck .2) (c .count-bare .ensures s (cards-same t) (shapes-same t))
+    struck-found t (rounds (c .before) .strike-all .ensures) (c .count-bare .ensures s (cards-same t) (shapes-same t))
 
 pub strike-spec : {M : Type 1} → statement M
 strike-spec =

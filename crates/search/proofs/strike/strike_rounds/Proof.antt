@@ -199,17 +199,18 @@ returns c =
     let l = c .before .before in
     let s = Start l in
     let grid = now (s .args .grid) in
-    let board = boardOf (now (s .args .script)) (now (s .args .names)) (s .args .shapes) grid in (
-      subst (λ (t : Tally). Searched board (on (l .loop .grid)) (t .rounds) (t .struck))
+    let board = boardOf (now (s .args .script)) (now (s .args .names)) (s .args .shapes) grid in
+    record {
+      searched = subst (λ (t : Tally). Searched board (on (l .loop .grid)) (t .rounds) (t .struck))
           (sym (c .after-round2 .ensures)) (record {
             striking = l .loop .tally .rounds;
             counted = add-one (l .loop .tally .rounds);
             finished = search-done (l .loop .inv .1) (board-inside (s .pre .indexed .ready) grid)
                 (c .before .loop-test .left);
-          }),
-      l .loop .inv .1 .full ∙ sym (s .pre .full),
-      l .loop .inv .2,
-    )
+          });
+      size = l .loop .inv .1 .full ∙ sym (s .pre .full);
+      marks = l .loop .inv .2;
+    }
 
 pub strike-rounds-spec : {M : Type 1} → statement M
 strike-rounds-spec =
