@@ -24,8 +24,7 @@ use Rattle.bags.specs.Bag.{Fits, count}
 use Rattle.bags.specs.Interval.{fits}
 use Rattle.bags.proofs.Decide.{list-decided}
 use Rattle.template.specs.Template.{Template, readTemplate, templateSays}
-use Rattle.template.specs.Machine.{Tabled}
-use Rattle.template.specs.Machine.{shapePlace}
+use Rattle.template.specs.Machine.{Tabled, shapePlace}
 use Rattle.template.proofs.Answers.{template-turned}
 use Rattle.template.proofs.Accepted.{template-accepted}
 use Rattle.counts.specs.declared.FitAnswer.{FitAnswer}

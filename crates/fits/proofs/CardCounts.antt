@@ -20,7 +20,7 @@ use Rattle.words.specs.Limits.{maxKinds}
 use Rattle.words.specs.Reading.{accepted}
 use Rattle.template.proofs.Accepted.{template-accepted}
 use Rattle.script.specs.Link.{kindAt, neighbours, below}
-use Rattle.script.specs.Steps.{kindCount}
+use Rattle.script.specs.Steps.{kindCount, StartsOf, Within}
 use Rattle.words.proofs.Bools.{le-or-lt}
 use Rattle.script.proofs.Reading.{script-accepted}
 use Rattle.script.specs.Script.{countsOf}
@@ -29,7 +29,6 @@ use Rattle.script.proofs.Neighbours.{kind-count, kind-count-none, kind-count-ot
 use Rattle.sheet.specs.declared.Extent.{Extent}
 use Rattle.sheet.specs.Opened.{templateAs, Opened}
 use Rattle.fits.specs.Fitting.{RowFitted, CardFitted}
-use Rattle.script.specs.Steps.{StartsOf, Within}
 
 -- A kind that none of the links has is counted 0.
 kind-count-absent :

@@ -17,8 +17,7 @@ use lib.Seq.{take-add, drop-drop, drop-cons}
 use lib.Dec.{ltb, eqb}
 use borrow.Author.Tests.{lt-ltb, le-ltb, eq-eqb, ne-eqb}
 use Rattle.script.specs.Link.{fromAt, kindAt, toAt, cardWords, below}
-use Rattle.script.specs.Steps.{Ascending}
-use Rattle.script.specs.Steps.{Within}
+use Rattle.script.specs.Steps.{Ascending, Within}
 use Rattle.words.proofs.Bools.{le-or-lt, one-or-none}
 use Rattle.script.proofs.Order.{StartsRise, starts-rise}
 

@@ -20,10 +20,9 @@ use Rattle.words.specs.Limits.{maxCards, maxLinks}
 use Rattle.words.specs.Reading.{Reading, accepted, turnedDown}
 use Rattle.words.proofs.Readings.{accepted-same, passed, Numbered, refuse-numbered}
 use Rattle.script.specs.Link.{fromIndex, kindIndex, toIndex, fromAt, kindAt, toAt, above}
-use Rattle.script.specs.Steps.{Ascending}
+use Rattle.script.specs.Steps.{Ascending, afterLink}
 use Rattle.script.specs.declared.LinkTest.{LinkTest}
 use Rattle.script.specs.Script.{ScriptCounts, countsOf, readLinks, readScript}
-use Rattle.script.specs.Steps.{afterLink}
 use Rattle.script.proofs.Order.{StartsRise, starts-rise}
 
 -- One link's test.

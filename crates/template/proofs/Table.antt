@@ -21,8 +21,7 @@ use Rattle.template.specs.declared.Read.{Read}
 use Rattle.template.specs.declared.Read.the-variants.{Next, Refused}
 use Rattle.template.specs.declared.Sizes.{Sizes}
 use Rattle.template.specs.Template.{Placed, placed, noNames, readShape, readShapes}
-use Rattle.template.specs.Machine.{Tabled}
-use Rattle.template.specs.Machine.{readOf, RowNames}
+use Rattle.template.specs.Machine.{Tabled, readOf, RowNames}
 use Rattle.words.specs.Limits.{maxKinds, maxShapes}
 use Rattle.words.specs.Sizes.{tableSize}
 use Rattle.words.specs.Reading.{accepted}
