@@ -124,8 +124,8 @@ fn strike_rounds(
 ) -> Tally
     requires { ⌜ RoundsAsked (now script) (now first) (now next) (now names) shapes (now named) (now alike)
         (now grid) (now queue) ⌝ }
-    ensures { λ r. ⌜ StrikesLeft (now (script .entry)) (now (names .entry)) shapes (now (grid .entry)) (now (grid .exit))
-        (r .rounds) (r .struck) ⌝ }
+    ensures { λ r. ⌜ StrikesLeft (now (script .entry)) (now (names .entry)) shapes
+        (now (grid .entry)) (now (grid .exit)) (r .rounds) (r .struck) ⌝ }
 {
     let mut tail = list_off(grid, queue);
     let mut head = 0;
@@ -168,8 +168,8 @@ pub fn strike_all(
     queue: &mut [u16],
 ) -> Tally
     requires { ⌜ StrikeAsked (now script) (now names) links shapes (now grid) (now queue) ⌝ }
-    ensures { λ r. ⌜ StrikesLeft (now (script .entry)) (now (names .entry)) shapes (now (grid .entry)) (now (grid .exit))
-        (r .rounds) (r .struck) ⌝ }
+    ensures { λ r. ⌜ StrikesLeft (now (script .entry)) (now (names .entry)) shapes
+        (now (grid .entry)) (now (grid .exit)) (r .rounds) (r .struck) ⌝ }
 {
     let mut named = [0u16; TABLE_SIZE + 1];
     let mut alike = [0u16; TABLE_SIZE];

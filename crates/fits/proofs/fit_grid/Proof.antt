@@ -84,7 +84,8 @@ same-length c =
 returns : tie.Need-returns Inv-loop μ-loop
 returns c =
     let a = c .before .before in
-    rows-end _ _ _ _ _ _ _ _ _ (c .before .loop .inv) (omega arith) (a .before .wide .ensures .same) (a .wide2 .ensures .same)
+    rows-end _ _ _ _ _ _ _ _ _ (c .before .loop .inv) (omega arith) (a .before .wide .ensures .same)
+    (a .wide2 .ensures .same)
 
 pub fit-grid-spec : {M : Type 1} → statement M
 fit-grid-spec =

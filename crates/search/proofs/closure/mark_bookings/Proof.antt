@@ -32,7 +32,8 @@ Start a = Loop a .before .before .before
 -- the card and the shape that are read are the booking's, and on the board
 card-here : (a : tie.After-wide3 Inv-loop μ-loop) →
     a .before .before .wide2 .result ≡ cardAt (now (Start a .args .bookings)) (Loop a .loop .i)
-card-here a = a .before .before .wide2 .ensures .same ∙ sym (card-word (now (Start a .args .bookings)) (Loop a .loop .i))
+card-here a =
+    a .before .before .wide2 .ensures .same ∙ sym (card-word (now (Start a .args .bookings)) (Loop a .loop .i))
 
 shape-here : (a : tie.After-wide3 Inv-loop μ-loop) →
     a .wide3 .result ≡ shapeAt (now (Start a .args .bookings)) (Loop a .loop .i)

@@ -140,11 +140,13 @@ strike-needs-requires c κs =
     let l = Loop a in
     let s = Start l in
     let n = a .wide .result / s .args .shapes in
+    let from = low .wide2 .ensures .same in
+    let to = high .wide3 .ensures .same in
     record {
       ready = s .pre .ready;
       shape-in = shape-in (s .args .shapes) (s .pre .ready .one-shape) (a .wide .result);
-      rising = omega (arith, low .wide2 .ensures .same, high .wide3 .ensures .same, s .pre .starting .rising n (card-of a));
-      links-in = omega (arith, high .wide3 .ensures .same, s .pre .starting .within (n + 1) (omega (arith, card-of a)));
+      rising = omega (arith, from, to, s .pre .starting .rising n (card-of a));
+      links-in = omega (arith, to, s .pre .starting .within (n + 1) (omega (arith, card-of a)));
       full = Now l .full;
       room = flood-room (Now l) (room-of l);
     }

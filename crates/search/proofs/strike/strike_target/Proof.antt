@@ -92,7 +92,8 @@ next-is : (c : tie.After-wide4 Inv-loop μ-loop) → let l = Turn (c .before .be
     c .wide4 .result ≡ lastAt to (to (l .loop .at - 1)) (l .loop .at - 1)
 next-is c =
     let i = Turn (c .before .before) in
-    c .wide4 .ensures .same ∙ Start (i .before) .pre .indexed .links .chained .nexts (i .before .loop .at - 1) (link-in i)
+    let links = Start (i .before) .pre .indexed .links in
+    c .wide4 .ensures .same ∙ links .chained .nexts (i .before .loop .at - 1) (link-in i)
 
 mul-wide : tie.Need-mul-wide Inv-loop μ-loop
 mul-wide c =
