@@ -6,15 +6,10 @@ ghost use lib.ListN.{length, take};
 use counts::FitAnswer;
 use libc::STDOUT_FILENO;
 use template::Shape;
+use words::wide;
 
 fn text(s: &[u8]) {
     io::write_all(STDOUT_FILENO, s);
-}
-
-fn wide(x: u16) -> usize
-    ensures { λ r. ⌜ (r ≡ x) × (r < 65536) ⌝ }
-{
-    x as usize
 }
 
 fn refused(number: u16, place: usize) {

@@ -2,7 +2,7 @@
 ghost use mathlib.Core.Path.{_≡_};
 ghost use Prim.Native.Nat.{_+_, _*_, _≤_, _<_};
 ghost use lib.ListN.{length};
-ghost use Rattle.words.specs.Wide.{Widened};
+ghost use Rattle.words.specs.Bounded.{Bounded};
 ghost use Rattle.input.specs.Input.{wordAt, readInput};
 ghost use Rattle.input.specs.Machine.{Decodes, Decoded, sectionsRead, Inside};
 use words::MAX_INPUT;
@@ -50,7 +50,7 @@ pub fn decode(bytes: &[u8], at: usize, count: usize, words: &mut [u16])
 // How many words a section has whose count stands at a byte.
 fn count_at(bytes: &[u8], at: usize) -> usize
     requires { ⌜ at + 2 ≤ length (now bytes) ⌝ }
-    ensures { λ r. ⌜ Widened 65536 (wordAt (now (bytes .entry)) at) r ⌝ }
+    ensures { λ r. ⌜ Bounded 65536 (wordAt (now (bytes .entry)) at) r ⌝ }
 {
     wide(word_at(bytes, at))
 }

@@ -2,7 +2,7 @@
 // targets, and where each card's links start.
 ghost use mathlib.Core.Path.{_≡_};
 ghost use lib.ListN.{length};
-ghost use Rattle.words.specs.Wide.{Widened};
+ghost use Rattle.words.specs.Bounded.{Bounded};
 ghost use Rattle.script.specs.Link.{far};
 ghost use Rattle.script.specs.Steps.{StartsOf};
 ghost use Rattle.search.specs.Chain.{Chained};
@@ -18,7 +18,7 @@ use words::wide;
 // By which the place p of the table is chained: the last key where it names no shape.
 fn entry_key(names: &[u8], p: usize) -> usize
     requires { ⌜ EntryAsked (now names) p ⌝ }
-    ensures { λ r. ⌜ Widened nameKeys (entryKey (now (names .entry)) p) r ⌝ }
+    ensures { λ r. ⌜ Bounded nameKeys (entryKey (now (names .entry)) p) r ⌝ }
 {
     let entry = byte(names[p]);
     if entry == 0 {

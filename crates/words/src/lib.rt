@@ -1,5 +1,5 @@
 // The format's limits, and words and bytes as sizes: what every reader starts with.
-ghost use Rattle.words.specs.Wide.{Widened};
+ghost use Rattle.words.specs.Bounded.{Bounded};
 
 // The limits, as specs/Limits and specs/Sizes have them.
 pub const MAX_KINDS: usize = 64;
@@ -32,14 +32,14 @@ pub const MAX_GRID: usize = MAX_CARDS * MAX_SHAPES;
 
 // A word as a size.
 pub fn wide(x: u16) -> usize
-    ensures { λ r. ⌜ Widened 65536 x r ⌝ }
+    ensures { λ r. ⌜ Bounded 65536 x r ⌝ }
 {
     x as usize
 }
 
 // A byte as a size.
 pub fn byte(x: u8) -> usize
-    ensures { λ r. ⌜ Widened 256 x r ⌝ }
+    ensures { λ r. ⌜ Bounded 256 x r ⌝ }
 {
     x as usize
 }
