@@ -3,6 +3,7 @@
 --   read                       what its template and its script passed
 --   few-pairs                  it has at most 32,768 pairs
 --   ready                      it is ready to be searched
+--   among                      its links are among its cards
 --   card-starts                where each card's links start, as the search takes it
 -- Assumes nothing.
 use Prim.Native.Nat.{ℕ, _*_, _≤_}
@@ -19,7 +20,7 @@ use Rattle.template.specs.Template.{Template}
 use Rattle.template.specs.Machine.{Tabled}
 use Rattle.script.specs.Link.{below}
 use Rattle.script.specs.Script.{ScriptCounts, countsOf}
-use Rattle.script.specs.Steps.{StartsOf, Ascending}
+use Rattle.script.specs.Steps.{StartsOf, Ascending, LinksAmong}
 use Rattle.sheet.specs.Sheet.{Sheet, sheetOf, readSheet}
 use Rattle.sheet.specs.Opened.{templateAs, Known}
 use Rattle.sheet.specs.declared.Extent.{Extent}
@@ -59,6 +60,15 @@ module _ {template script names : List ℕ} {e : Extent} (k : Known template scr
 
   pub ready : Ready script names (e .shapes)
   ready = instance.ready read names tabled rows
+
+  pub among : LinksAmong script (e .links) (e .cards)
+  among =
+      let links = read .links in
+      record {
+        within = record { order = omega arith; few = links .links-bound; end = omega (arith, links .size) };
+        from-in = links .from-below;
+        to-in = links .to-below;
+      }
 
   -- the links of a card stand from its start up to the next card's
   pub card-starts : (starts : List ℕ) → StartsOf script starts (e .cards) (e .links) → Starts script starts

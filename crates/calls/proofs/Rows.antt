@@ -1,22 +1,34 @@
--- The row of a card in a grid: the bytes of its shapes.
+-- The row of a card in a grid, the bytes of its shapes, and which cards are counted.
 --   row-tally            a row as a list of its own has as many places on as the grid has there
---   isBare               a card has no shape
---   bare-hit, bare-miss  one card more, that has no shape or some
---   bare-counted         the cards with no shape of a sheet
+--   byte-on              the byte of a test is on exactly if the test passed
+--   isBare               a card is marked and has no shape
+--   bare-hit, blank-miss, shaped-miss   one card more, that is so, that isn't marked, or that has a shape
+--   bare-counted         a sheet's cards with some link and no shape
 -- Assumes nothing.
 use mathlib.Core.Path.{_≡_, refl, sym, ap, _∙_}
 use mathlib.Core.List.{List}
-use mathlib.Core.Bool.{Bool}
+use mathlib.Core.Bool.{Bool, true, false, cond, _&&_}
 use Prim.Native.Nat.{ℕ, _+_, _-_, _*_, _≤_}
 use native.Mathlib.Omega.{arith}
 use lib.Dec.{eqb}
 use lib.ListN.{length, getD, take, drop, length-take, length-drop}
 use lib.Seq.{getD-drop, getD-take}
-use borrow.Author.Tests.{eq-eqb, ne-eqb}
+use borrow.Author.Tests.{eq-eqb, eqb-true}
 use Rattle.board.specs.Grid.{on, tally}
+use Rattle.board.proofs.Grids.{on-yes, on-no}
 use Rattle.board.proofs.Tally.{tally-ext, tally-hit, tally-miss}
+use Rattle.words.proofs.Bools.{is-false, and-both, and-second}
+use Rattle.script.specs.Link.{linked}
+use Rattle.script.specs.Steps.{LinkedMarked}
 use Rattle.sheet.specs.Sheet.{Sheet}
+use Rattle.sheet.specs.declared.Extent.{Extent}
 use Rattle.typing.specs.Largest.{bare, bareCards}
+use Rattle.calls.specs.Steps.{CountedAs}
+
+-- the byte of a test is 1 where it passed, else 0
+pub byte-on : (grid : List ℕ) (p : ℕ) (b : Bool) → getD grid p 0 ≡ cond b 1 0 → on grid p ≡ b
+byte-on grid p true h = on-yes grid p h
+byte-on grid p false h = on-no grid p (λ one. absurd (omega (arith, h, one)))
 
 -- bytes that are the same are tested the same
 byte-same : (g h : List ℕ) (p q : ℕ) → getD g p 0 ≡ getD h q 0 → on g p ≡ on h q
@@ -40,20 +52,37 @@ module _ (grid : List ℕ) (base size : ℕ) (inside : base + size ≤ length gr
       ∙ tally-ext (on (part base size)) (λ t. on grid (base + t)) size
       (λ t l. byte-same (part base size) grid t (base + t) (rw (getD-take, getD-drop)))
 
--- Card n has no shape.
-abbrev pub isBare : List ℕ → ℕ → ℕ → Bool
-isBare grid shapes n = eqb (tally (λ t. on grid (n * shapes + t)) shapes) 0
+-- Card n is marked and has no shape.
+abbrev pub isBare : List ℕ → List ℕ → ℕ → ℕ → Bool
+isBare marks grid shapes n = on marks n && eqb (tally (λ t. on grid (n * shapes + t)) shapes) 0
 
-module _ (grid : List ℕ) (shapes n : ℕ) where
-  pub bare-hit : tally (λ t. on grid (n * shapes + t)) shapes ≡ 0
-      → tally (isBare grid shapes) (n + 1) ≡ tally (isBare grid shapes) n + 1
-  bare-hit e = tally-hit (isBare grid shapes) n (eq-eqb (tally (λ t. on grid (n * shapes + t)) shapes) 0 e)
+-- One card more: it is marked and has no shape, it isn't marked, or it has a shape.
+module _ (marks grid : List ℕ) (shapes n : ℕ) where
+  abbrev row : ℕ
+  row = tally (λ t. on grid (n * shapes + t)) shapes
 
-  pub bare-miss : (tally (λ t. on grid (n * shapes + t)) shapes ≡ 0 → ⊥)
-      → tally (isBare grid shapes) (n + 1) ≡ tally (isBare grid shapes) n
-  bare-miss ne = tally-miss (isBare grid shapes) n (ne-eqb (tally (λ t. on grid (n * shapes + t)) shapes) 0 ne)
+  pub bare-hit : getD marks n 0 ≡ 1 → row ≡ 0
+      → tally (isBare marks grid shapes) (n + 1) ≡ tally (isBare marks grid shapes) n + 1
+  bare-hit one e =
+      tally-hit (isBare marks grid shapes) n (and-both (on marks n) (eqb row 0) (on-yes marks n one) (eq-eqb row 0 e))
 
-pub bare-counted : (grid : List ℕ) (cards shapes : ℕ) (s : Sheet) → s .cards ≡ cards → s .shapes ≡ shapes
-    → tally (isBare grid shapes) cards ≡ bareCards s (on grid)
+  pub blank-miss : (getD marks n 0 ≡ 1 → ⊥)
+      → tally (isBare marks grid shapes) (n + 1) ≡ tally (isBare marks grid shapes) n
+  blank-miss other = tally-miss (isBare marks grid shapes) n (rw (on-no marks n other) refl)
+
+  pub shaped-miss : (row ≡ 0 → ⊥) → tally (isBare marks grid shapes) (n + 1) ≡ tally (isBare marks grid shapes) n
+  shaped-miss ne =
+      tally-miss (isBare marks grid shapes) n
+      (is-false (λ both. absurd (ne (eqb-true row 0 (and-second (on marks n) (eqb row 0) both)))))
+
+-- Where the marks are those of the cards that links touch, the cards that are marked and have no shape are those that
+-- the definition counts.
+pub bare-counted : (script : List ℕ) (e : Extent) (marks grid : List ℕ) (s : Sheet) {size : ℕ} → CountedAs s script e
+    → LinkedMarked script (e .links) size marks → e .cards ≤ size
+    → tally (isBare marks grid (e .shapes)) (e .cards) ≡ bareCards s (on grid)
 unfolding bareCards bare
-bare-counted grid cards shapes s e f = rw (sym e, sym f) refl
+bare-counted script e marks grid s {size} c marked room =
+    rw (c .words, c .links, c .cards, c .shapes)
+    (tally-ext (isBare marks grid (e .shapes)) _ (e .cards) (λ n l.
+    ap (λ (b : Bool). b && eqb (tally (λ t. on grid (n * e .shapes + t)) (e .shapes)) 0)
+    (byte-on marks n (linked script n (e .links)) (marked .exact n (omega (arith, marked .size))))))

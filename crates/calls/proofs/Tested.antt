@@ -1,6 +1,6 @@
 -- The grid of a sheet's pairs that fit stands for the sheet.
 --   pairs-tested                    what testing the pairs leaves is that grid for each sheet that is read
---   cards-same, shapes-same         the sheet's counts are those that are read
+--   cards-same, shapes-same, counted-as   the sheet's counts, and its words, are those that are read
 --   full, full-words, few           the grid has the sheet's size, which the script's words tell too
 --   marks                           the grid's bytes are 0 or 1
 --   stands                          the board of script, table of names and grid stands for the sheet
@@ -20,7 +20,6 @@ use Rattle.words.specs.Reading.{accepted}
 use Rattle.words.proofs.Places.{card-in, shape-in, place-of}
 use Rattle.board.specs.Grid.{on}
 use Rattle.board.specs.Machine.{Marks}
-use Rattle.board.proofs.Grids.{on-yes, on-no}
 use Rattle.template.specs.Template.{readTemplate}
 use Rattle.script.specs.Steps.{StartsOf}
 use Rattle.sheet.specs.Sheet.{Sheet, size}
@@ -30,8 +29,9 @@ use Rattle.typing.specs.Needs.{boardOf}
 use Rattle.typing.proofs.Represents.{Represents}
 use Rattle.typing.proofs.Instance.{FitsGrid, fits-grid, represents}
 use Rattle.fits.specs.Fitting.{Fitted}
-use Rattle.calls.specs.Steps.{SheetTested, PairsTested}
+use Rattle.calls.specs.Steps.{SheetTested, PairsTested, CountedAs}
 use Rattle.calls.proofs.Known.{sheet, same-sheet, read, few-pairs, tabled, rows}
+use Rattle.calls.proofs.Rows.{byte-on}
 
 pub pairs-tested : {template script names : List ℕ} {e : Extent} {starts fitting : List ℕ}
     (k : Known template script names e) → StartsOf script starts (e .cards) (e .links)
@@ -49,11 +49,7 @@ pairs-tested {template} {script} {names} {e} {starts} {fitting} k links fit = re
   };
 }
 
--- the byte of a pair is 0 or 1, and on exactly if the test passed
-byte-on : (grid : List ℕ) (p : ℕ) (b : Bool) → getD grid p 0 ≡ cond b 1 0 → on grid p ≡ b
-byte-on grid p true h = on-yes grid p h
-byte-on grid p false h = on-no grid p (λ one. absurd (omega (arith, h, one)))
-
+-- the byte of a pair is 0 or 1
 byte-one : {x : ℕ} (b : Bool) → x ≡ cond b 1 0 → (x ≡ 0) ⊎ (x ≡ 1)
 byte-one true h = inr h
 byte-one false h = inl h
@@ -67,6 +63,14 @@ module _ {s : Sheet} {script names : List ℕ} {e : Extent} {grid : List ℕ} (t
 
   pub shapes-same : s .shapes ≡ e .shapes
   shapes-same = sym (ap (λ (x : Sheet). x .shapes) same)
+
+  pub counted-as : CountedAs s script e
+  counted-as = record {
+    words = sym (ap (λ (x : Sheet). x .script) same);
+    links = sym (ap (λ (x : Sheet). x .links) same);
+    cards = cards-same;
+    shapes = shapes-same;
+  }
 
   pub full : length grid ≡ size s
   full = rw (cards-same, shapes-same) (t .fits .full)

@@ -5,7 +5,8 @@
 -- Listed        a sheet with its table of names and a booking list, all read; BookedAs: what reading them finds
 -- Sized, Lent   what is read, with a grid or two grids of the sheet's size
 -- Settling      what settling the bookings asks for
--- Rows          a grid has a row of so many shapes for each card
+-- CountedAs     a sheet has these words of its script and these counts
+-- Rows          a grid has a row of shapes for each card, and links are among the cards
 -- struckSaid, settledSaid, bothOf   what the two searches say, and both
 -- Assumes nothing.
 use Prim.Native.Nat.{ℕ, _*_, _≤_}
@@ -15,7 +16,7 @@ use lib.ListN.{length}
 use Rattle.words.specs.Said.{Said, values, refusal}
 use Rattle.words.specs.Limits.{maxCards, maxShapes}
 use Rattle.words.specs.Reading.{accepted, turnedDown, then}
-use Rattle.script.specs.Steps.{StartsOf}
+use Rattle.script.specs.Steps.{StartsOf, LinksAmong}
 use Rattle.sheet.specs.Sheet.{Sheet, readSheet}
 use Rattle.sheet.specs.Opened.{Known}
 use Rattle.sheet.specs.declared.Extent.{Extent}
@@ -79,13 +80,22 @@ pub record Settling (script names : List ℕ) (e : Extent) (fitting bookings : L
   pub links : StartsOf script starts (e .cards) (e .links)
   pub size : length grid ≡ e .cards * e .shapes
 
--- A grid has a row of so many shapes for each card, and a sheet can have that many.
-pub record Rows (grid : List ℕ) (cards shapes : ℕ) : Type 0 where
-  pub full : length grid ≡ cards * shapes
-  pub few-cards : cards ≤ maxCards
-  pub few-shapes : shapes ≤ maxShapes
+-- The sheet's script has these words, and its counts are these.
+pub record CountedAs (s : Sheet) (script : List ℕ) (e : Extent) : Type 0 where
+  pub words : s .script ≡ script
+  pub links : s .links ≡ e .links
+  pub cards : s .cards ≡ e .cards
+  pub shapes : s .shapes ≡ e .shapes
 
--- Rounds, pairs struck, cards with no shape.
+-- The script's links are among its cards, and the grid has a row of shapes for each of these, as many as a sheet can
+-- have.
+pub record Rows (script : List ℕ) (e : Extent) (grid : List ℕ) : Type 0 where
+  pub among : LinksAmong script (e .links) (e .cards)
+  pub full : length grid ≡ e .cards * e .shapes
+  pub few-cards : e .cards ≤ maxCards
+  pub few-shapes : e .shapes ≤ maxShapes
+
+-- Rounds, pairs struck, cards with some link and no shape.
 abbrev pub struckSaid : Struck → Said
 struckSaid r = values (r .rounds ∷ r .struck ∷ r .bare ∷ [])
 

@@ -12,13 +12,14 @@ ghost use Rattle.bookings.specs.Bookings.{Booked};
 ghost use Rattle.typing.specs.Answer.{largestSaid, smallestSaid, bothSaid};
 ghost use Rattle.typing.specs.Largest.{bareCards};
 ghost use Rattle.typing.specs.Calls.{LargestFound, LargestSays, SmallestFound, SmallestSays, BothFound, BothSays};
-ghost use Rattle.calls.specs.Steps.{SheetTested, SomeTested, PairsTested, BookedAs, Sized, Lent, Settling, Rows};
-ghost use Rattle.calls.specs.Steps.{struckSaid, settledSaid, bothOf};
+ghost use Rattle.calls.specs.Steps.{SheetTested, SomeTested, PairsTested, BookedAs, Sized, Lent, Settling};
+ghost use Rattle.calls.specs.Steps.{CountedAs, Rows, struckSaid, settledSaid, bothOf};
 use board::count_on;
 use bookings::BookingRead;
 use bookings::read_bookings;
 use fits::fit_grid;
 use script::Card;
+use script::mark_linked;
 use search::Unfit;
 use search::close;
 use search::first_unfit;
@@ -38,7 +39,7 @@ use words::TABLE_SIZE;
 // Where the links of each card start, and where those of the last end.
 const STARTS: usize = MAX_CARDS + 1;
 
-// What striking rounds found: rounds, pairs struck, cards with no shape.
+// What striking rounds found: rounds, pairs struck, cards with some link and no shape.
 pub struct Struck {
     pub rounds: usize,
     pub struck: usize,
@@ -112,18 +113,21 @@ fn test_pairs(
     fit_grid(template, script, names, starts, e, fitting);
 }
 
-// Counts the cards with no shape.
-fn count_bare(grid: &[u8], cards: usize, shapes: usize) -> usize
-    requires { ⌜ Rows (now grid) cards shapes ⌝ }
-    ensures { λ r. ⌜ ((s : Sheet) → s .cards ≡ cards → s .shapes ≡ shapes
-        → r ≡ bareCards s (on (now (grid .entry)))) ⌝ }
+// Counts the cards with some link and no shape.
+fn count_bare(script: &[u16], e: Extent, grid: &[u8]) -> usize
+    requires { ⌜ Rows (now script) e (now grid) ⌝ }
+    ensures { λ r. ⌜ ((s : Sheet) → CountedAs s (now (script .entry)) e → r ≡ bareCards s (on (now (grid .entry)))) ⌝ }
 {
+    let mut linked = [0u8; MAX_CARDS];
+    mark_linked(script, e.links as usize, &mut linked);
+    let cards = e.cards as usize;
+    let shapes = e.shapes as usize;
     let mut bare = 0;
     let mut n = 0;
     while n < cards {
         let base = n * shapes;
         let end = base + shapes;
-        if count_on(&grid[base..end]) == 0 {
+        if linked[n] == 1 && count_on(&grid[base..end]) == 0 {
             bare += 1;
         }
         n += 1;
@@ -145,7 +149,7 @@ fn strike(
 {
     let shapes = e.shapes as usize;
     let tally = strike_all(script, names, e.links as usize, shapes, grid, queue);
-    let bare = count_bare(grid, e.cards as usize, shapes);
+    let bare = count_bare(script, e, grid);
     Struck {
         rounds: tally.rounds,
         struck: tally.struck,
@@ -297,7 +301,7 @@ fn both_answer(found: Both) -> BothAnswer
     }
 }
 
-// Largest: rounds, pairs struck and cards with no shape, and the typing in the grid.
+// Largest: rounds, pairs struck and cards with some link and no shape, and the typing in the grid.
 pub fn largest(template: &[u16], script: &[u16], grid: &mut [u8]) -> LargestAnswer
     ensures { λ r. ⌜ LargestSays (now (template .entry)) (now (script .entry)) (now (grid .entry)) (now (grid .exit))
         (largestSaid r) ⌝ }

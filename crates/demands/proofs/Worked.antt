@@ -30,7 +30,7 @@ use Rattle.bags.specs.Interval.{fits}
 use Rattle.template.specs.Reading.{readLink, readRun, readPart}
 use Rattle.template.specs.Template.{readShape, readShapes, readTemplate, templateSays}
 use Rattle.template.specs.Machine.{Tabled}
-use Rattle.script.specs.Link.{fromAt, kindAt, toAt, far, above, greater, cardWords, below, neighbours}
+use Rattle.script.specs.Link.{fromAt, kindAt, toAt, far, above, greater, cardWords, below, neighbours, linked}
 use Rattle.script.specs.Script.{readLinks, readScript, scriptSays, cardLinks, linksStart}
 use Rattle.sheet.specs.Sheet.{Sheet, partOf, place, readSheet}
 use Rattle.sheet.proofs.Accepted.{SheetAccepted, sheet-made}
@@ -239,7 +239,7 @@ last-shape-typing = record {
 }
 
 two-bare : 2 ≡ bareCards worked (on lastShape)
-unfolding bareCards bare tally bit on
+unfolding bareCards linked fromAt toAt bare tally bit on
 two-bare = refl
 
 pub largest-found : LargestFound worked lastShape largestAnswer

@@ -6,10 +6,11 @@
 -- cardWords              the words of a card's links, in order
 -- neighbours             the labels and far cards of a card's links: what a shape looks at
 -- below                  how many links start at a card below a number
+-- linked                 whether a link touches a card
 -- Assumes nothing.
 use Prim.Native.Nat.{ℕ, zero, suc, _+_, _*_}
 use mathlib.Core.List.{List, [], _∷_, _++_}
-use mathlib.Core.Bool.{Bool, true, false, cond}
+use mathlib.Core.Bool.{Bool, true, false, cond, _||_}
 use lib.ListN.{getD}
 use lib.Dec.{ltb, eqb}
 use Rattle.bags.specs.Choice.{Neighbour, to}
@@ -75,3 +76,8 @@ neighbours script card (suc i) =
 unfoldable pub below : List ℕ → ℕ → ℕ → ℕ
 below script c zero = 0
 below script c (suc i) = below script c i + cond (ltb (fromAt script i) c) 1 0
+
+-- Of the first m links, whether one starts at a card or leads to it. A card that no link touches is blank.
+unfoldable pub linked : List ℕ → ℕ → ℕ → Bool
+linked script card zero = false
+linked script card (suc i) = linked script card i || eqb (fromAt script i) card || eqb (toAt script i) card

@@ -5,6 +5,7 @@
 -- Ascending   the first m links stand in the script, each above the one before it
 -- kindCount   how many links of a row of links have a kind
 -- PartAsked, CountAsked   what finding a card's part, and counting kinds, asks
+-- LinksAmong, LinkedMarked   what marking the cards that links touch asks, and what it leaves
 -- Assumes nothing.
 use Prim.Native.Nat.{ℕ, zero, suc, _+_, _*_, _≤_, _<_}
 use mathlib.Core.Bool.{true, cond}
@@ -14,7 +15,7 @@ use mathlib.Core.List.{List}
 use lib.ListN.{length, getD}
 use Rattle.words.specs.Limits.{maxLinks}
 use Rattle.words.specs.Reading.{Reading, turnedDown}
-use Rattle.script.specs.Link.{kindAt, above, below}
+use Rattle.script.specs.Link.{fromAt, kindAt, toAt, above, below, linked}
 use Rattle.script.specs.declared.LinkTest.{LinkTest}
 use Rattle.script.specs.Script.{ScriptCounts}
 
@@ -59,3 +60,14 @@ pub record PartAsked (script : List ℕ) (links card : ℕ) : Type 0 where
 pub record CountAsked (script : List ℕ) (lo hi : ℕ) (counts : List ℕ) : Type 0 where
   pub within : Within script lo hi
   pub kinds : (i : ℕ) → lo ≤ i → i < hi → kindAt script i < length counts
+
+-- The first m links are in the script, and start at and lead to cards below a number.
+pub record LinksAmong (script : List ℕ) (m cards : ℕ) : Type 0 where
+  pub within : Within script 0 m
+  pub from-in : (i : ℕ) → i < m → fromAt script i < cards
+  pub to-in : (i : ℕ) → i < m → toAt script i < cards
+
+-- A mark for each card: 1 where one of the first m links touches it, else 0.
+pub record LinkedMarked (script : List ℕ) (m cards : ℕ) (marks : List ℕ) : Type 0 where
+  pub size : length marks ≡ cards
+  pub exact : (n : ℕ) → n < length marks → getD marks n 0 ≡ cond (linked script n m) 1 0

@@ -1,4 +1,5 @@
-// Reading a script (a graph): its cards (nodes) and links (edges), the links of a card and the links by target.
+// Reading a script (a graph): its cards (nodes) and links (edges), the links of a card, and the cards with links.
+use board::fill;
 use template::TemplateAnswer;
 use template::read_template;
 use words::MAX_CARDS;
@@ -13,6 +14,7 @@ ghost use Rattle.script.specs.Answer.{scriptSaid};
 ghost use Rattle.script.specs.Script.{ScriptCounts, countsOf, readLinks, readScript, scriptValues, scriptSays};
 ghost use Rattle.script.specs.Script.{cardLinks, linksStart};
 ghost use Rattle.script.specs.Steps.{afterLink, LinkIn, Within, Ascending, kindCount, PartAsked, CountAsked};
+ghost use Rattle.script.specs.Steps.{LinksAmong, LinkedMarked};
 
 // The number of a card: it counts the script's cards from 0.
 pub struct Card(pub u16);
@@ -214,6 +216,22 @@ pub fn count_kinds(script: &[u16], lo: usize, hi: usize, counts: &mut [u16])
     while i < hi {
         let kind = wide(script[3 + 3 * i]);
         counts[kind] += 1;
+        i += 1;
+    }
+}
+
+// Marks the cards that a link touches: 1 where one starts at the card or leads to it, else 0, whatever it was before.
+pub fn mark_linked(script: &[u16], links: usize, linked: &mut [u8])
+    requires { ⌜ LinksAmong (now script) links (length (now linked)) ⌝ }
+    ensures { λ _. ⌜ LinkedMarked (now (script .entry)) links (length (now (linked .entry))) (now (linked .exit)) ⌝ }
+{
+    fill(linked, 0);
+    let mut i = 0;
+    while i < links {
+        let from = wide(script[2 + 3 * i]);
+        linked[from] = 1;
+        let to = wide(script[4 + 3 * i]);
+        linked[to] = 1;
         i += 1;
     }
 }

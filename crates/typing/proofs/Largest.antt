@@ -5,12 +5,13 @@
 --   largest-bound   rounds are at most one more than the pairs struck
 --   largest-unique  its rounds, its strikes and its pairs are determined
 --   some-largest    there is one
---   bare-alike      sets that agree leave as many cards with no shape
+--   bare-alike      sets that agree leave as many cards with some link and no shape
 --   largest-answer, largest-found   what the search finds is the largest
 -- Assumes nothing.
 use Prim.Native.Nat.{ℕ, suc, _+_, _≤_}
 use mathlib.Core.Path.{_≡_, refl, sym, ap, _∙_, subst}
 use mathlib.Core.Logic.{⊎-elim}
+use mathlib.Core.Bool.{_&&_}
 use mathlib.Core.List.{List, [], _∷_}
 use native.Mathlib.Omega.{arith}
 use lib.Dec.{eqb}
@@ -20,6 +21,7 @@ use Rattle.board.proofs.Tally.{tally-ext}
 use Rattle.board.proofs.Rounds.{after, Last, struck, quiet-or-noisy, quiet-not-noisy, rounds-struck, under-after}
 use Rattle.board.proofs.Rounds.{settles, last-unique, finished-quiet, finished-noisy, finished-is, finished-strikes}
 use Rattle.words.specs.Said.{values}
+use Rattle.script.specs.Link.{linked}
 use Rattle.sheet.specs.Sheet.{Sheet, place}
 use Rattle.typing.specs.Typing.{Pairs, Sound, Below, Typing}
 use Rattle.typing.specs.Largest.{Largest, bare, bareCards}
@@ -91,7 +93,9 @@ module _ {s : Sheet} {B : Board} (rep : Represents s B) where
 
   pub bare-alike : (X Y : Pairs) → Alike s X Y → bareCards s X ≡ bareCards s Y
   unfolding bare bareCards
-  bare-alike X Y e = tally-ext (bare s X) (bare s Y) (s .cards) (λ n ln. ap (λ (x : ℕ). eqb x 0)
+  bare-alike X Y e =
+      tally-ext (λ n. linked (s .script) n (s .links) && bare s X n) (λ n. linked (s .script) n (s .links) && bare s Y n)
+      (s .cards) (λ n ln. ap (λ (shapes : ℕ). linked (s .script) n (s .links) && eqb shapes 0)
       (tally-ext (λ t. X (place s n t)) (λ t. Y (place s n t)) (s .shapes)
       (λ t lt. e (place s n t) (pair-in rep n t ln lt))))
 

@@ -2,13 +2,14 @@
 -- Round, gone   a round from one set of pairs to the next, and how many pairs it strikes
 -- Rounds        so many rounds from every pair, and the pairs struck in them, lead to a set
 -- Largest       the answer: the first round that strikes none is the last and is counted
--- bareCards     how many cards have no shape
+-- bareCards     how many cards have some link and no shape
 -- Assumes nothing.
 use Prim.Native.Nat.{ℕ, suc, _+_, _<_}
 use mathlib.Core.Path.{_≡_}
 use mathlib.Core.Bool.{Bool, false, not, _&&_}
 use lib.Dec.{eqb}
 use Rattle.board.specs.Grid.{tally}
+use Rattle.script.specs.Link.{linked}
 use Rattle.sheet.specs.Sheet.{Sheet, place, size}
 use Rattle.typing.specs.Typing.{Pairs, Has, Met, Sound}
 
@@ -39,6 +40,6 @@ pub record Largest (s : Sheet) (rounds struck : ℕ) (X : Pairs) : Type 0 where
 unfoldable pub bare : Sheet → Pairs → ℕ → Bool
 bare s X n = eqb (tally (λ t. X (place s n t)) (s .shapes)) 0
 
--- How many cards have none.
+-- How many cards have some link and no shape: a blank card, which no link touches, is not among them.
 unfoldable pub bareCards : Sheet → Pairs → ℕ
-bareCards s X = tally (bare s X) (s .cards)
+bareCards s X = tally (λ n. linked (s .script) n (s .links) && bare s X n) (s .cards)

@@ -1,4 +1,4 @@
--- `calls::count_bare` counts the cards with no shape. The invariant: `bare` of the cards below `n` have none.
+-- `calls::count_bare` counts the cards with some link and no shape. The invariant: `bare` of the cards below `n` are so.
 -- Assumes nothing.
 use mathlib.Core.Logic.{⊎-elim}
 use mathlib.Core.Path.{_∙_, _≡_, ap, sym}
@@ -7,36 +7,71 @@ use native.Mathlib.Omega.{arith}
 use lib.ListN.{length}
 use denote.Ref.{now}
 use borrow.Author.Needs.{needs}
+use borrow.Author.Tests.{eqb-true, eqb-false}
 use Rattle.board.proofs.Tally.{tally-zero}
 use Rattle.board.specs.Grid.{tally}
 use Rattle.words.proofs.Places.{card-room}
-use Rattle.calls.proofs.Rows.{isBare, bare-hit, bare-miss, row-tally, bare-counted}
+use Rattle.calls.proofs.Rows.{isBare, bare-hit, blank-miss, shaped-miss, row-tally, bare-counted}
 use Rattle.calls.proofs.count_bare.Statement.{statement}
 use Rattle.calls.proofs.count_bare.Tie as tie
 
 abbrev Inv-loop : tie.InvT-loop
-Inv-loop grid cards shapes bare₀ n₀ bare n = (n ≤ cards) × (bare ≤ n) × (bare ≡ tally (isBare grid shapes) n)
+Inv-loop script grid linked cards shapes bare₀ n₀ bare n =
+    (n ≤ cards) × (bare ≤ n) × (bare ≡ tally (isBare linked grid shapes) n)
 
 abbrev μ-loop : tie.MeasureT-loop
-μ-loop grid cards shapes bare₀ n₀ bare n = cards - n
+μ-loop script grid linked cards shapes bare₀ n₀ bare n = cards - n
+
+-- The cards marked and the start, from the loop's point.
+abbrev marked : tie.At-loop Inv-loop μ-loop → tie.After-mark-linked Inv-loop μ-loop
+marked l = l .before .before .before .before
+
+abbrev start : tie.At-loop Inv-loop μ-loop → tie.Start Inv-loop μ-loop
+start l = marked l .before .before .before .before .before
 
 -- the row of the loop's card is in the grid
-row-in : (i : tie.In-loop Inv-loop μ-loop) → let s = i .before .before .before in
-    i .before .loop .n * s .args .shapes + s .args .shapes ≤ length (now (s .args .grid))
+row-in : (i : tie.In-loop Inv-loop μ-loop) → let s = start (i .before) in
+    i .before .loop .n * s .args .e .shapes + s .args .e .shapes ≤ length (now (s .args .grid))
 row-in i =
-    let s = i .before .before .before in
-    omega (arith, card-room (s .args .cards) (s .args .shapes) (i .before .loop .n) (i .loop-test .taken), s .pre .full)
+    let s = start (i .before) in
+    let inside = card-room (s .args .e .cards) (s .args .e .shapes) (i .before .loop .n) (i .loop-test .taken) in
+    omega (arith, inside, s .pre .full)
+
+cast-mark-linked : tie.Need-cast-mark-linked Inv-loop μ-loop
+cast-mark-linked c = search needs
+
+slice-aggregate-mark-linked : tie.Need-slice-aggregate-mark-linked Inv-loop μ-loop
+slice-aggregate-mark-linked c = search needs
+
+mark-linked-requires : tie.Need-mark-linked-requires Inv-loop μ-loop
+mark-linked-requires c κs =
+    let asked = c .before .before .before .before .pre in
+    record {
+      within = asked .among .within;
+      from-in = λ i l. omega (arith, asked .among .from-in i l, asked .few-cards);
+      to-in = λ i l. omega (arith, asked .among .to-in i l, asked .few-cards);
+    }
+
+cast-cards : tie.Need-cast-cards Inv-loop μ-loop
+cast-cards c = search needs
+
+cast-shapes : tie.Need-cast-shapes Inv-loop μ-loop
+cast-shapes c = search needs
 
 loop-holds : tie.Need-loop-holds Inv-loop μ-loop
 loop-holds c =
-    let s = c .before in
-    (omega arith, omega arith, sym (tally-zero (isBare (now (s .args .grid)) (s .args .shapes))))
+    let marks = c .before .before .before .mark-linked .last .1 .1 .0 in
+    let s = c .before .before .before .before .before .before .before .before in
+    (omega arith, omega arith, sym (tally-zero (isBare marks (now (s .args .grid)) (s .args .e .shapes))))
 
 mul-base : tie.Need-mul-base Inv-loop μ-loop
 mul-base c = omega (arith, row-in c)
 
 add-end : tie.Need-add-end Inv-loop μ-loop
 add-end c = omega (arith, row-in c)
+
+array-read-if1 : tie.Need-array-read-if1 Inv-loop μ-loop
+array-read-if1 c = omega (arith, start (c .before) .pre .few-cards)
 
 sub-count-on : tie.Need-sub-count-on Inv-loop μ-loop
 sub-count-on c = search needs
@@ -45,7 +80,7 @@ part-count-on-start : tie.Need-part-count-on-start Inv-loop μ-loop
 part-count-on-start c = omega arith
 
 part-count-on-end : tie.Need-part-count-on-end Inv-loop μ-loop
-part-count-on-end c = row-in c
+part-count-on-end c = row-in (c .before)
 
 count-on-requires : tie.Need-count-on-requires Inv-loop μ-loop
 count-on-requires c κs = search needs
@@ -61,32 +96,39 @@ loop-less c = search needs
 
 loop-again : tie.Need-loop-again Inv-loop μ-loop
 loop-again c =
-    let i = c .before .before .before in
+    let i = c .before in
     let l = i .before in
-    let s = l .before .before in
-    let grid = now (s .args .grid) in
-    let shapes = s .args .shapes in
+    let marks = marked l .mark-linked .last .1 .1 .0 in
+    let grid = now (start l .args .grid) in
+    let shapes = start l .args .e .shapes in
     let n = l .loop .n in
-    let counted = c .before .count-on .ensures ∙ row-tally grid (n * shapes) shapes (row-in i) in ⊎-elim
-    (λ w. (
+    let row = row-tally grid (n * shapes) shapes (row-in i) in ⊎-elim
+    (λ w.
+    let no-shape = sym (w .2 .ensures ∙ row) ∙ eqb-true (w .2 .result) 0 (w .3 .taken) in (
       omega arith,
-      omega (arith, w .1),
-      w .1 ∙ ap (λ (x : ℕ). x + 1) (l .loop .inv .2) ∙ sym (bare-hit grid shapes n (sym counted ∙ w .0 .taken)),
+      omega (arith, w .4),
+      w .4 ∙ ap (λ (x : ℕ). x + 1) (l .loop .inv .2) ∙ sym (bare-hit marks grid shapes n (w .0 .taken) no-shape),
     ))
     (λ w. (
       omega arith,
       omega (arith, w .1),
-      w .1 ∙ l .loop .inv .2 ∙ sym (bare-miss grid shapes n (λ z. w .0 .left (counted ∙ z))),
+      w .1 ∙ l .loop .inv .2 ∙ sym (⊎-elim
+          (λ v. shaped-miss marks grid shapes n
+          (λ z. eqb-false (v .2 .result) 0 (v .3 .left) (v .2 .ensures ∙ row ∙ z)))
+          (λ v. blank-miss marks grid shapes n (v .left))
+          (w .0 .came)),
     ))
     (c .if1 .came)
 
 returns : tie.Need-returns Inv-loop μ-loop
-returns c s same-cards same-shapes =
+returns c s counted =
     let l = c .before in
-    let args = l .before .before .args in
-    let all-cards : l .loop .n ≡ args .cards = omega arith in
-    l .loop .inv .2 ∙ ap (tally (isBare (now (args .grid)) (args .shapes))) all-cards
-    ∙ bare-counted (now (args .grid)) (args .cards) (args .shapes) s same-cards same-shapes
+    let args = start l .args in
+    let marks = marked l .mark-linked .last .1 .1 .0 in
+    let all-cards : l .loop .n ≡ args .e .cards = omega arith in
+    l .loop .inv .2 ∙ ap (tally (isBare marks (now (args .grid)) (args .e .shapes))) all-cards
+    ∙ bare-counted (now (args .script)) (args .e) marks (now (args .grid)) s counted (marked l .mark-linked .ensures)
+    (start l .pre .few-cards)
 
 pub count-bare-spec : {M : Type 1} → statement M
 count-bare-spec =
@@ -94,9 +136,15 @@ count-bare-spec =
     (tie.spec
     Inv-loop
     μ-loop
+    cast-mark-linked
+    slice-aggregate-mark-linked
+    mark-linked-requires
+    cast-cards
+    cast-shapes
     loop-holds
     mul-base
     add-end
+    array-read-if1
     sub-count-on
     part-count-on-start
     part-count-on-end

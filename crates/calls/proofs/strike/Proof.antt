@@ -2,8 +2,8 @@
 use mathlib.Core.Path.{_∙_}
 use native.Mathlib.Omega.{arith}
 use borrow.Author.Needs.{needs}
-use Rattle.calls.proofs.Known.{read, ready}
-use Rattle.calls.proofs.Tested.{cards-same, shapes-same, full-words, few}
+use Rattle.calls.proofs.Known.{read, ready, among}
+use Rattle.calls.proofs.Tested.{counted-as, full-words, few}
 use Rattle.calls.proofs.Striking.{struck-found}
 use Rattle.calls.proofs.strike.Statement.{statement}
 use Rattle.calls.proofs.strike.Tie as tie
@@ -12,8 +12,8 @@ use Rattle.calls.proofs.strike.Tie as tie
 abbrev start : tie.After-strike-all-arg2 → tie.Start
 start c = c .before .before .before .before .before .before .before
 
-abbrev rounds : tie.After-struct-known3 → tie.After-strike-all
-rounds c = c .before .before .before .before
+abbrev rounds : tie.After-count-bare-arg → tie.After-strike-all
+rounds c = c .before .before .before
 
 cast-shapes : tie.Need-cast-shapes
 cast-shapes c = search needs
@@ -31,14 +31,12 @@ strike-all-requires c κs =
       room = omega (arith, few t);
     }
 
-cast-count-bare : tie.Need-cast-count-bare
-cast-count-bare c = search needs
-
 count-bare-requires : tie.Need-count-bare-requires
 count-bare-requires c κs =
     let t = start (rounds c .before) .pre .tested in
     let accepted = read (t .known) in
     record {
+      among = among (t .known);
       full = rounds c .strike-all .ensures .size ∙ t .fits .full;
       few-cards = accepted .links .cards-bound;
       few-shapes = accepted .shapes .shapes-high;
@@ -49,7 +47,7 @@ same-length c = search needs
 
 returns : tie.Need-returns
 returns c s t =
-    struck-found t (rounds (c .before) .strike-all .ensures) (c .count-bare .ensures s (cards-same t) (shapes-same t))
+    struck-found t (rounds (c .before) .strike-all .ensures) (c .count-bare .ensures s (counted-as t))
 
 pub strike-spec : {M : Type 1} → statement M
 strike-spec =
@@ -58,7 +56,6 @@ strike-spec =
     cast-shapes
     cast-strike-all
     strike-all-requires
-    cast-count-bare
     count-bare-requires
     same-length
     returns)
