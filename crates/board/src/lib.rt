@@ -1,5 +1,6 @@
 // A grid of bytes, 1 where a place is on, and a queue of places: what the searches for both typings do with them.
 ghost use mathlib.Core.Path.{_≡_};
+ghost use lib.Dec.{eqb};
 ghost use lib.ListN.{length, replicate};
 ghost use Rattle.board.specs.Grid.{on, tally};
 ghost use Rattle.board.specs.Machine.{Flipped, FirstMissing};
@@ -48,19 +49,18 @@ pub fn fill(grid: &mut [u8], value: u8)
     }
 }
 
-// Counts the places that are on.
-pub fn count_on(grid: &[u8]) -> usize
-    ensures { λ r. ⌜ r ≡ tally (on (now (grid .entry))) (length (now (grid .entry))) ⌝ }
+// Whether none of the places is on.
+pub fn all_off(grid: &[u8]) -> bool
+    ensures { λ r. ⌜ r ≡ eqb (tally (on (now (grid .entry))) (length (now (grid .entry)))) 0 ⌝ }
 {
-    let mut count = 0;
     let mut place = 0;
     while place < grid.len() {
         if grid[place] == 1 {
-            count += 1;
+            return false;
         }
         place += 1;
     }
-    count
+    true
 }
 
 // Turns every place round: 0 where it was on, else 1.

@@ -1,5 +1,5 @@
 -- The row of a card in a grid, the bytes of its shapes, and which cards are counted.
---   row-tally            a row as a list of its own has as many places on as the grid has there
+--   row-off              a row as a list of its own has no place on exactly if the grid has none there
 --   byte-on              the byte of a test is on exactly if the test passed
 --   isBare               a card is marked and has no shape
 --   bare-hit, blank-miss, shaped-miss   one card more, that is so, that isn't marked, or that has a shape
@@ -13,11 +13,10 @@ use native.Mathlib.Omega.{arith}
 use lib.Dec.{eqb}
 use lib.ListN.{length, getD, take, drop, length-take, length-drop}
 use lib.Seq.{getD-drop, getD-take}
-use borrow.Author.Tests.{eq-eqb, eqb-true}
 use Rattle.board.specs.Grid.{on, tally}
 use Rattle.board.proofs.Grids.{on-yes, on-no}
 use Rattle.board.proofs.Tally.{tally-ext, tally-hit, tally-miss}
-use Rattle.words.proofs.Bools.{is-false, and-both, and-second}
+use Rattle.words.proofs.Bools.{is-false, never-both, and-both, and-second}
 use Rattle.script.specs.Link.{linked}
 use Rattle.script.specs.Steps.{LinkedMarked}
 use Rattle.sheet.specs.Sheet.{Sheet}
@@ -43,7 +42,7 @@ module _ (grid : List ℕ) (base size : ℕ) (inside : base + size ≤ length gr
   row-length : length (part base size) ≡ size
   row-length = simp (length-take, length-drop) (omega arith)
 
-  pub row-tally : tally (on (part base (base + size - base))) (length (part base (base + size - base)))
+  row-tally : tally (on (part base (base + size - base))) (length (part base (base + size - base)))
       ≡ tally (λ t. on grid (base + t)) size
   row-tally =
       let e : base + size - base ≡ size = omega arith in
@@ -52,28 +51,34 @@ module _ (grid : List ℕ) (base size : ℕ) (inside : base + size ≤ length gr
       ∙ tally-ext (on (part base size)) (λ t. on grid (base + t)) size
       (λ t l. byte-same (part base size) grid t (base + t) (rw (getD-take, getD-drop)))
 
+  pub row-off : eqb (tally (on (part base (base + size - base))) (length (part base (base + size - base)))) 0
+      ≡ eqb (tally (λ t. on grid (base + t)) size) 0
+  row-off = ap (λ (x : ℕ). eqb x 0) row-tally
+
+-- The row of card n has no place on.
+abbrev offRow : List ℕ → ℕ → ℕ → Bool
+offRow grid shapes n = eqb (tally (λ t. on grid (n * shapes + t)) shapes) 0
+
 -- Card n is marked and has no shape.
 abbrev pub isBare : List ℕ → List ℕ → ℕ → ℕ → Bool
-isBare marks grid shapes n = on marks n && eqb (tally (λ t. on grid (n * shapes + t)) shapes) 0
+isBare marks grid shapes n = on marks n && offRow grid shapes n
 
 -- One card more: it is marked and has no shape, it isn't marked, or it has a shape.
 module _ (marks grid : List ℕ) (shapes n : ℕ) where
-  abbrev row : ℕ
-  row = tally (λ t. on grid (n * shapes + t)) shapes
-
-  pub bare-hit : getD marks n 0 ≡ 1 → row ≡ 0
+  pub bare-hit : getD marks n 0 ≡ 1 → offRow grid shapes n ≡ true
       → tally (isBare marks grid shapes) (n + 1) ≡ tally (isBare marks grid shapes) n + 1
-  bare-hit one e =
-      tally-hit (isBare marks grid shapes) n (and-both (on marks n) (eqb row 0) (on-yes marks n one) (eq-eqb row 0 e))
+  bare-hit one off =
+      tally-hit (isBare marks grid shapes) n (and-both (on marks n) (offRow grid shapes n) (on-yes marks n one) off)
 
   pub blank-miss : (getD marks n 0 ≡ 1 → ⊥)
       → tally (isBare marks grid shapes) (n + 1) ≡ tally (isBare marks grid shapes) n
   blank-miss other = tally-miss (isBare marks grid shapes) n (rw (on-no marks n other) refl)
 
-  pub shaped-miss : (row ≡ 0 → ⊥) → tally (isBare marks grid shapes) (n + 1) ≡ tally (isBare marks grid shapes) n
-  shaped-miss ne =
+  pub shaped-miss : offRow grid shapes n ≡ false
+      → tally (isBare marks grid shapes) (n + 1) ≡ tally (isBare marks grid shapes) n
+  shaped-miss some =
       tally-miss (isBare marks grid shapes) n
-      (is-false (λ both. absurd (ne (eqb-true row 0 (and-second (on marks n) (eqb row 0) both)))))
+      (is-false (λ both. never-both (and-second (on marks n) (offRow grid shapes n) both) some))
 
 -- Where the marks are those of the cards that links touch, the cards that are marked and have no shape are those that
 -- the definition counts.
@@ -84,5 +89,5 @@ unfolding bareCards bare
 bare-counted script e marks grid s {size} c marked room =
     rw (c .words, c .links, c .cards, c .shapes)
     (tally-ext (isBare marks grid (e .shapes)) _ (e .cards) (λ n l.
-    ap (λ (b : Bool). b && eqb (tally (λ t. on grid (n * e .shapes + t)) (e .shapes)) 0)
+    ap (λ (b : Bool). b && offRow grid (e .shapes) n)
     (byte-on marks n (linked script n (e .links)) (marked .exact n (omega (arith, marked .size))))))

@@ -14,7 +14,7 @@ ghost use Rattle.typing.specs.Largest.{bareCards};
 ghost use Rattle.typing.specs.Calls.{LargestFound, LargestSays, SmallestFound, SmallestSays, BothFound, BothSays};
 ghost use Rattle.calls.specs.Steps.{SheetTested, SomeTested, PairsTested, BookedAs, Sized, Lent, Settling};
 ghost use Rattle.calls.specs.Steps.{CountedAs, Rows, struckSaid, settledSaid, bothOf};
-use board::count_on;
+use board::all_off;
 use bookings::BookingRead;
 use bookings::read_bookings;
 use fits::fit_grid;
@@ -127,7 +127,7 @@ fn count_bare(script: &[u16], e: Extent, grid: &[u8]) -> usize
     while n < cards {
         let base = n * shapes;
         let end = base + shapes;
-        if linked[n] == 1 && count_on(&grid[base..end]) == 0 {
+        if linked[n] == 1 && all_off(&grid[base..end]) {
             bare += 1;
         }
         n += 1;

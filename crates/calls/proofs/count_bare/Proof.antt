@@ -7,11 +7,10 @@ use native.Mathlib.Omega.{arith}
 use lib.ListN.{length}
 use denote.Ref.{now}
 use borrow.Author.Needs.{needs}
-use borrow.Author.Tests.{eqb-true, eqb-false}
 use Rattle.board.proofs.Tally.{tally-zero}
 use Rattle.board.specs.Grid.{tally}
 use Rattle.words.proofs.Places.{card-room}
-use Rattle.calls.proofs.Rows.{isBare, bare-hit, blank-miss, shaped-miss, row-tally, bare-counted}
+use Rattle.calls.proofs.Rows.{isBare, bare-hit, blank-miss, shaped-miss, row-off, bare-counted}
 use Rattle.calls.proofs.count_bare.Statement.{statement}
 use Rattle.calls.proofs.count_bare.Tie as tie
 
@@ -73,17 +72,17 @@ add-end c = omega (arith, row-in c)
 array-read-if1 : tie.Need-array-read-if1 Inv-loop μ-loop
 array-read-if1 c = omega (arith, start (c .before) .pre .few-cards)
 
-sub-count-on : tie.Need-sub-count-on Inv-loop μ-loop
-sub-count-on c = search needs
+sub-all-off : tie.Need-sub-all-off Inv-loop μ-loop
+sub-all-off c = search needs
 
-part-count-on-start : tie.Need-part-count-on-start Inv-loop μ-loop
-part-count-on-start c = omega arith
+part-all-off-start : tie.Need-part-all-off-start Inv-loop μ-loop
+part-all-off-start c = omega arith
 
-part-count-on-end : tie.Need-part-count-on-end Inv-loop μ-loop
-part-count-on-end c = row-in (c .before)
+part-all-off-end : tie.Need-part-all-off-end Inv-loop μ-loop
+part-all-off-end c = row-in (c .before)
 
-count-on-requires : tie.Need-count-on-requires Inv-loop μ-loop
-count-on-requires c κs = search needs
+all-off-requires : tie.Need-all-off-requires Inv-loop μ-loop
+all-off-requires c κs = search needs
 
 add-bare : tie.Need-add-bare Inv-loop μ-loop
 add-bare c = search needs
@@ -102,19 +101,18 @@ loop-again c =
     let grid = now (start l .args .grid) in
     let shapes = start l .args .e .shapes in
     let n = l .loop .n in
-    let row = row-tally grid (n * shapes) shapes (row-in i) in ⊎-elim
-    (λ w.
-    let no-shape = sym (w .2 .ensures ∙ row) ∙ eqb-true (w .2 .result) 0 (w .3 .taken) in (
+    let row = row-off grid (n * shapes) shapes (row-in i) in ⊎-elim
+    (λ w. (
       omega arith,
       omega (arith, w .4),
-      w .4 ∙ ap (λ (x : ℕ). x + 1) (l .loop .inv .2) ∙ sym (bare-hit marks grid shapes n (w .0 .taken) no-shape),
+      w .4 ∙ ap (λ (x : ℕ). x + 1) (l .loop .inv .2)
+          ∙ sym (bare-hit marks grid shapes n (w .0 .taken) (sym (w .2 .ensures ∙ row) ∙ w .3 .taken)),
     ))
     (λ w. (
       omega arith,
       omega (arith, w .1),
       w .1 ∙ l .loop .inv .2 ∙ sym (⊎-elim
-          (λ v. shaped-miss marks grid shapes n
-          (λ z. eqb-false (v .2 .result) 0 (v .3 .left) (v .2 .ensures ∙ row ∙ z)))
+          (λ v. shaped-miss marks grid shapes n (sym (v .2 .ensures ∙ row) ∙ v .3 .left))
           (λ v. blank-miss marks grid shapes n (v .left))
           (w .0 .came)),
     ))
@@ -145,10 +143,10 @@ count-bare-spec =
     mul-base
     add-end
     array-read-if1
-    sub-count-on
-    part-count-on-start
-    part-count-on-end
-    count-on-requires
+    sub-all-off
+    part-all-off-start
+    part-all-off-end
+    all-off-requires
     add-bare
     add-n
     loop-less
