@@ -45,6 +45,16 @@ impl Script {
         }
         counts
     }
+
+    /// For each card, whether it is blank: no link starts at it and none leads to it. One to itself touches it too.
+    pub fn blank(&self) -> Vec<bool> {
+        let mut blank = vec![true; usize::from(self.cards)];
+        for link in &self.links {
+            blank[link.from.index()] = false;
+            blank[link.to.index()] = false;
+        }
+        blank
+    }
 }
 
 /// Reads a script with its template, or tells the first fault.

@@ -44,7 +44,7 @@ pub struct Largest {
     pub rounds: usize,
     /// Pairs struck.
     pub struck: usize,
-    /// Cards with no shape.
+    /// Cards with some link and no shape.
     pub bare: usize,
 }
 
@@ -98,10 +98,11 @@ impl Setting {
             .flat_map(move |card| (0..shapes).map(move |shape| (card, Shape(shape))))
     }
 
-    /// How many cards have no shape in a grid.
+    /// How many cards with some link have no shape in a grid.
     fn bare(&self, grid: &[u8]) -> usize {
-        grid.chunks(usize::from(self.template.shapes()))
-            .filter(|row| row.iter().all(|byte| *byte == 0))
+        let rows = grid.chunks(usize::from(self.template.shapes()));
+        rows.zip(self.script.blank())
+            .filter(|(row, blank)| !blank && row.iter().all(|byte| *byte == 0))
             .count()
     }
 }
