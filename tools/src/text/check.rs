@@ -19,6 +19,8 @@ pub struct Sheet {
     pub booked: Vec<Pair>,
     /// Its typings.
     pub both: Both,
+    /// For each card, whether it is blank: no link starts at it and none leads to it.
+    pub blank: Vec<bool>,
     /// What it was loaded from.
     pub form: Form,
 }
@@ -43,10 +45,15 @@ impl Sheet {
     }
 
     /// Whether a card has no shape in the largest typing.
-    pub fn bare(&self, card: usize) -> bool {
+    pub fn shapeless(&self, card: usize) -> bool {
         let shapes = usize::from(self.both.shapes);
         let row = &self.both.largest.1[card * shapes..(card + 1) * shapes];
         row.iter().all(|byte| *byte == 0)
+    }
+
+    /// Whether a card has some link and no shape in the largest typing.
+    pub fn bare(&self, card: usize) -> bool {
+        !self.blank[card] && self.shapeless(card)
     }
 
     /// Where the card is introduced; nowhere in a sheet of words.

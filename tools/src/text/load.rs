@@ -126,6 +126,7 @@ impl Read {
         Sheet {
             text,
             compiled,
+            blank: self.setting.script.blank(),
             setting: self.setting,
             booked: self.booked,
             both: self.both,

@@ -159,7 +159,7 @@ fn unmet_fields(sheet: &Sheet, reason: &Reason) -> Vec<(&'static str, Json)> {
     fields
 }
 
-/// A card with no shape, and for each shape why it hasn't that one.
+/// A card with links and no shape, and for each shape why it hasn't that one.
 fn bare_card(sheet: &Sheet, (number, reasons): (usize, Vec<Reason>)) -> Json {
     let mut fields = vec![
         ("card", Json::count(number)),

@@ -1,5 +1,5 @@
-//! The outcome of a sheet in words: first what bookings ask for and can't be met, then the cards with no shape, those
-//! that are to blame themselves before those that only lead there.
+//! The outcome of a sheet in words: first what bookings ask for and can't be met, then the cards with links and no
+//! shape, those that are to blame themselves before those that only lead there.
 
 use super::check::Sheet;
 use super::reasons::{all_not_met, reason, reasons, way, Reason};
@@ -11,10 +11,10 @@ use crate::typing::{Pair, Smallest};
 /// The outcome in words.
 pub fn report(sheet: &Sheet, file: &str) -> String {
     let roots = Roots::new(&sheet.setting);
-    let cards = counted(sheet.text.cards.len(), "card");
-    let links = counted(sheet.text.links.len(), "link");
     let mut report = format!(
-        "{file}: {cards}, {links}, {}\n",
+        "{file}: {}, {}, {}\n",
+        counted(sheet.text.cards.len(), "card"),
+        counted(sheet.text.links.len(), "link"),
         counted(sheet.booked.len(), "booking")
     );
     if let Smallest::Pairs(pairs) = sheet.both.smallest.0 {
@@ -28,17 +28,24 @@ pub fn report(sheet: &Sheet, file: &str) -> String {
             report += &format!("{start}: {}\n", cannot(&sheet.text, reason));
         }
     }
-    let (largest, _) = &sheet.both.largest;
-    report += &format!(
-        "largest: {}, {} struck, {} of {cards} without a shape\n",
-        counted(largest.rounds, "round"),
-        counted(largest.struck, "pair"),
-        largest.bare
-    );
+    report += &largest(sheet);
     for (card, reasons) in bare(sheet, &roots) {
         report += &no_shape(sheet, file, card, &reasons);
     }
     report
+}
+
+/// The answer for the largest typing. Blank cards aren't among those that it counts.
+fn largest(sheet: &Sheet) -> String {
+    let (largest, _) = &sheet.both.largest;
+    let linked = sheet.blank.iter().filter(|blank| !**blank).count();
+    format!(
+        "largest: {}, {} struck; of the cards with links, {} of {linked} {} no shape\n",
+        counted(largest.rounds, "round"),
+        counted(largest.struck, "pair"),
+        largest.bare,
+        if largest.bare == 1 { "has" } else { "have" }
+    )
 }
 
 /// A count of things.
@@ -47,7 +54,7 @@ fn counted(count: usize, thing: &str) -> String {
     format!("{count} {thing}{end}")
 }
 
-/// The cards with no shape, each with its reasons; the nearer to the card that is to blame, the earlier.
+/// The cards with links and no shape, each with its reasons; the nearer to the card that is to blame, the earlier.
 pub fn bare(sheet: &Sheet, roots: &Roots) -> Vec<(usize, Vec<Reason>)> {
     let cards = (0..sheet.text.cards.len()).filter(|card| sheet.bare(*card));
     let mut bare: Vec<_> = cards.map(|card| (card, reasons(sheet, roots, card))).collect();
