@@ -12,14 +12,18 @@ pub const INK: &str = "#26313f";
 pub const PALE: &str = "#8a93a0";
 /// The colour of faults.
 pub const FAULT: &str = "#c01f1f";
+/// The colour of a blank card.
+const BLANK: &str = "#f3f0e6";
 /// The colour of the page.
 pub const PAPER: &str = "#fcfaf4";
 
 /// How a card as a whole is marked.
-#[derive(Clone, Copy, PartialEq, Eq, Debug)]
+#[derive(Clone, Copy, PartialEq, Eq, Default, Debug)]
 pub struct CardMark {
-    /// It has no shape at all.
+    /// It has links and no shape at all.
     pub bare: bool,
+    /// It is blank and has no shape.
+    pub blank: bool,
     /// It has the unmet pair of 50.
     pub not_met: bool,
     /// The smallest typing gives it a shape.
@@ -69,6 +73,7 @@ pub fn body(svg: &mut Svg, place: &Rect, mark: CardMark) {
     );
     let (fill, band) = match mark {
         CardMark { bare: true, .. } => ("url(#hatch)", None),
+        CardMark { blank: true, .. } => (BLANK, None),
         CardMark { needed: true, .. } => ("#ffffff", Some(INK)),
         _ => ("#ffffff", Some("#cfd5dc")),
     };
@@ -86,14 +91,19 @@ pub fn body(svg: &mut Svg, place: &Rect, mark: CardMark) {
         svg.rect(corner, size, 1.4, "fill=\"#ffffff\"");
         svg.rect(corner, size, 1.4, &format!("fill=\"{fill}\""));
     }
-    let border = match mark {
+    svg.rect(corner, size, 1.4, &format!("fill=\"none\" {}", edge(mark)));
+}
+
+/// The edge of a card.
+fn edge(mark: CardMark) -> String {
+    let dashed =
+        |colour: &str| format!("stroke=\"{colour}\" stroke-width=\"0.45\" stroke-dasharray=\"1.6 1.1\"");
+    match mark {
         CardMark { not_met: true, .. } => format!("stroke=\"{FAULT}\" stroke-width=\"1\""),
-        CardMark { bare: true, .. } => {
-            format!("stroke=\"{FAULT}\" stroke-width=\"0.45\" stroke-dasharray=\"1.6 1.1\"")
-        }
+        CardMark { bare: true, .. } => dashed(FAULT),
+        CardMark { blank: true, .. } => dashed(PALE),
         _ => format!("stroke=\"{INK}\" stroke-width=\"0.35\""),
-    };
-    svg.rect(corner, size, 1.4, &format!("fill=\"none\" {border}"));
+    }
 }
 
 /// A chip.

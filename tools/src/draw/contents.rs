@@ -10,6 +10,8 @@ use super::plan::Plan;
 pub struct Content {
     /// Its title, in lines.
     pub title: Vec<String>,
+    /// Whether it is a blank card with no shape.
+    pub blank: bool,
     /// Its chips.
     pub chips: Vec<Chip>,
     /// The lines below the chips.
@@ -40,6 +42,7 @@ pub fn contents(whole: &Whole, plan: &Plan, card_width: f64) -> (Vec<Content>, L
     let lines = std::mem::take(&mut lists.lines);
     let content = |(card, lines): (&usize, Vec<Line>)| Content {
         title: title_lines(whole.sheet, *card, card_width),
+        blank: whole.sheet.blank_and_shapeless(*card),
         chips: chips(whole.sheet, *card, card_width),
         lines,
     };

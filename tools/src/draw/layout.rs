@@ -43,6 +43,8 @@ pub struct Block {
     pub body: Rect,
     /// Its title, in lines.
     pub title: Vec<String>,
+    /// Whether it is a blank card with no shape.
+    pub blank: bool,
     /// Its chips.
     pub chips: Vec<(Chip, Rect)>,
     /// The lines of links that aren't arrows.
@@ -166,6 +168,7 @@ fn block(card: usize, body: Rect, content: &Content) -> Block {
         card,
         body,
         title: content.title.clone(),
+        blank: content.blank,
         chips,
         lines: content.lines.iter().enumerate().map(line).collect(),
     }

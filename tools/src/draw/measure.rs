@@ -68,7 +68,7 @@ pub enum Mark {
     Booked,
     /// Only the largest typing has it.
     Largest,
-    /// The card has no shape at all.
+    /// The card has links and no shape at all.
     None,
 }
 

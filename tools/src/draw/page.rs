@@ -192,12 +192,12 @@ fn answers(svg: &mut Svg, sheet: &Sheet, y: f64) -> f64 {
 fn largest(sheet: &Sheet) -> String {
     let largest = sheet.both.largest.0;
     format!(
-        "{}, {}.  Largest typing: {}, {} struck, {} without a shape.",
+        "{}, {}.  Largest typing: {}, {} struck, {} with links and no shape.",
         counted(sheet.text.cards.len(), "card"),
         counted(sheet.text.links.len(), "link"),
         counted(largest.rounds, "round"),
         counted(largest.struck, "pair"),
-        largest.bare
+        counted(largest.bare, "card")
     )
 }
 

@@ -64,6 +64,7 @@ fn mark(block: &Block) -> CardMark {
     let has = |mark: Mark| block.chips.iter().any(|(chip, _)| chip.mark == mark);
     CardMark {
         bare: has(Mark::None),
+        blank: block.blank,
         not_met: has(Mark::NotMet),
         needed: has(Mark::Smallest),
     }

@@ -17,6 +17,8 @@ const MEANING: f64 = 34.0;
 pub enum Sign {
     /// A chip, and what a card with it looks like.
     Chip(Mark, bool, &'static str),
+    /// A blank card.
+    Blank,
     /// The broad line below arrows.
     Blame,
     /// A line below a card.
@@ -30,7 +32,7 @@ const CHIPS: [(Mark, bool, &str); 7] = [
     (Mark::Smallest, true, "booked"),
     (Mark::Largest, true, "booked, only in the largest"),
     (Mark::Booked, true, "booked, but in no typing"),
-    (Mark::None, false, "a card with no shape"),
+    (Mark::None, false, "a card with links and no shape"),
     (Mark::NotMet, false, "the unmet pair of 50"),
 ];
 
@@ -44,6 +46,9 @@ pub fn signs(contents: &[Content], blames: bool) -> Vec<Sign> {
     let mut signs: Vec<Sign> = chips
         .map(|(mark, booked, meaning)| Sign::Chip(*mark, *booked, meaning))
         .collect();
+    if contents.iter().any(|content| content.blank) {
+        signs.push(Sign::Blank);
+    }
     if blames {
         signs.push(Sign::Blame);
     }
@@ -74,6 +79,7 @@ impl Sign {
     fn meaning(&self) -> &'static str {
         match self {
             Sign::Chip(_, _, meaning) | Sign::Line(_, meaning) => meaning,
+            Sign::Blank => "a blank card with no shape",
             Sign::Blame => "how a booking asks for it",
         }
     }
@@ -87,6 +93,13 @@ impl Sign {
     pub fn draw(&self, svg: &mut Svg, (x, y): (f64, f64)) {
         match self {
             Sign::Chip(mark, booked, _) => chip(svg, *mark, *booked, (x, y)),
+            Sign::Blank => {
+                let mark = CardMark {
+                    blank: true,
+                    ..CardMark::default()
+                };
+                small_card(svg, mark, (x, y));
+            }
             Sign::Blame => svg.path(&round_path(&[(x, y), (x + 28.0, y)], 0.0), BLAME),
             Sign::Line(text, _) => {
                 svg.text((x, y), LIST, Anchor::Start, &format!("fill=\"{INK}\""), text);
@@ -113,16 +126,22 @@ fn chip(svg: &mut Svg, mark: Mark, booked: bool, (x, y): (f64, f64)) {
         width: letters + sign_width(mark, booked),
     };
     chip_at(svg, &chip, (x + 13.0, y - 1.9));
+    let mark = CardMark {
+        bare: mark == Mark::None,
+        blank: false,
+        not_met: mark == Mark::NotMet,
+        needed: mark == Mark::Smallest,
+    };
+    small_card(svg, mark, (x, y));
+}
+
+/// A small card whose left side has its middle here.
+fn small_card(svg: &mut Svg, mark: CardMark, (x, y): (f64, f64)) {
     let place = Rect {
         x,
         y: y - 1.7,
         width: 10.0,
         height: 3.4,
-    };
-    let mark = CardMark {
-        bare: mark == Mark::None || mark == Mark::Booked,
-        not_met: mark == Mark::NotMet,
-        needed: mark == Mark::Smallest,
     };
     body(svg, &place, mark);
     if mark.not_met {

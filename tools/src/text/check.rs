@@ -45,7 +45,7 @@ impl Sheet {
     }
 
     /// Whether a card has no shape in the largest typing.
-    pub fn shapeless(&self, card: usize) -> bool {
+    fn shapeless(&self, card: usize) -> bool {
         let shapes = usize::from(self.both.shapes);
         let row = &self.both.largest.1[card * shapes..(card + 1) * shapes];
         row.iter().all(|byte| *byte == 0)
@@ -53,7 +53,12 @@ impl Sheet {
 
     /// Whether a card has some link and no shape in the largest typing.
     pub fn bare(&self, card: usize) -> bool {
-        !self.blank[card] && self.shapeless(card)
+        self.shapeless(card) && !self.blank[card]
+    }
+
+    /// Whether a card is blank and has no shape in the largest typing.
+    pub fn blank_and_shapeless(&self, card: usize) -> bool {
+        self.shapeless(card) && self.blank[card]
     }
 
     /// Where the card is introduced; nowhere in a sheet of words.
