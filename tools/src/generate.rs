@@ -4,14 +4,17 @@
 //! |------------|-------------------------------------------------------------------|
 //! | `parts`    | random parts and templates, and random bags of a part             |
 //! | `scripts`  | scripts derived from the shapes, and loose ones                   |
+//! | `sparse`   | cards that few links touch or none, with and without a shape      |
 //! | `bookings` | bookings that are met, and others                                 |
 //! | `heavy`    | the sheets that take longest, for timing                          |
-//! | `special`  | the worked sheet, long chains       , everything at its limit   |
+//! | `special`  | the worked sheet, long chains, everything at its limit            |
 //! | `layout`   | where the parts, links and groups of a template stand             |
 //! | `damage`   | faults aimed at one refusal, or several at once                   |
 //! | `knots`    | faults that meet at one place                                     |
 //! | `edges`    | each limit from both sides, the same in every run                 |
+//! | `blanks`   | blank cards and cards beside them, the same in every run          |
 
+pub mod blanks;
 pub mod bookings;
 pub mod damage;
 pub mod edges;
@@ -20,6 +23,7 @@ pub mod knots;
 pub mod layout;
 pub mod parts;
 pub mod scripts;
+pub mod sparse;
 pub mod special;
 
 use crate::random::Random;
@@ -98,15 +102,19 @@ pub const FULL: Scale = Scale {
 
 /// How many inputs are the same for every seed.
 pub fn fixed() -> usize {
-    special::fixed().len() + edges::edges().len()
+    fixed_cases().count()
+}
+
+/// The inputs that are the same for every seed.
+fn fixed_cases() -> impl Iterator<Item = Case> {
+    let special = special::fixed().into_iter();
+    special.chain(edges::edges()).chain(blanks::blanks())
 }
 
 /// The inputs of one seed: the fixed ones first, then as many random ones as are asked for.
 pub fn cases(seed: u64, count: usize) -> impl Iterator<Item = Case> {
     let mut random = Random::new(seed);
-    special::fixed()
-        .into_iter()
-        .chain(edges::edges())
+    fixed_cases()
         .chain(std::iter::repeat_with(move || case(&mut random)))
         .take(count)
 }
@@ -154,19 +162,28 @@ pub fn scale(random: &mut Random) -> Scale {
 
 /// A sheet whose script is derived from its shapes, so that many pairs survive.
 pub fn derived(random: &mut Random, scale: Scale) -> Files {
-    let template = parts::template(random, scale);
-    let script = scripts::derived(random, &template, scale);
-    with_bookings(random, template, script, scale)
+    sheet_with(random, scale, scripts::derived)
 }
 
 /// A sheet whose script knows nothing of the shapes.
 pub fn loose(random: &mut Random, scale: Scale) -> Files {
-    let template = parts::template(random, scale);
-    let script = scripts::loose(random, &template, scale);
-    with_bookings(random, template, script, scale)
+    sheet_with(random, scale, scripts::loose)
 }
 
-fn with_bookings(random: &mut Random, template: Template, script: Vec<u16>, scale: Scale) -> Files {
+/// A sheet with a script that is made in this way. Many have cards that few links touch or none.
+fn sheet_with(
+    random: &mut Random,
+    scale: Scale,
+    make_script: fn(&mut Random, &Template, Scale) -> Vec<u16>,
+) -> Files {
+    let mut template = parts::template(random, scale);
+    if random.chance(1, 3) {
+        sparse::demand(random, &mut template);
+    }
+    let mut script = make_script(random, &template, scale);
+    if random.chance(1, 2) {
+        script = sparse::thin(random, &script, template.kinds, scale.links);
+    }
     let template = template::write(&template);
     let bookings = match Setting::read(&template, &script) {
         Ok(setting) => bookings::bookings(random, &setting, scale.bookings),

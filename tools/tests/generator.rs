@@ -2,11 +2,12 @@
 //! every refusal comes up.
 
 use prep_tools::generate::{self, damage, derived, loose, special, FULL, MIDDLE, SMALL, TINY};
+use prep_tools::numbers::Card;
 use prep_tools::random::Random;
 use prep_tools::sheet;
 use prep_tools::template;
-use prep_tools::typing::Smallest;
-use std::collections::BTreeMap;
+use prep_tools::typing::{links, Setting, Smallest};
+use std::collections::{BTreeMap, BTreeSet};
 
 #[test]
 fn the_same_seed_gives_the_same_inputs() {
@@ -89,4 +90,55 @@ fn every_refusal_and_every_kind_of_answer_comes_up() {
         met > 400 && not_met > 200 && many_rounds > 200,
         "{met} met, {not_met} not, {many_rounds} long"
     );
+}
+
+/// How often a sheet has a card of some kind without a shape, and with one.
+type Tally = [usize; 2];
+
+#[test]
+fn cards_that_few_links_touch_come_up_with_and_without_a_shape() {
+    let mut tallies: BTreeMap<&str, Tally> = BTreeMap::new();
+    let mut random = Random::new(34);
+    for number in 0..600 {
+        let make = if number % 3 == 0 { loose } else { derived };
+        let scale = generate::scale(&mut random);
+        let files = make(&mut random, scale);
+        let setting =
+            Setting::read(&files.template, &files.script).expect("a generated sheet is well-formed");
+        let (_, grid) = links::largest(&setting);
+        let rows = grid.chunks(usize::from(setting.template.shapes()));
+        let kinds = setting.cards().map(|card| links_of(&setting, card));
+        let found: BTreeSet<(&str, usize)> = kinds
+            .zip(rows)
+            .filter_map(|(kind, row)| Some((kind?, usize::from(row.contains(&1)))))
+            .collect();
+        for (kind, has_shape) in found {
+            tallies.entry(kind).or_default()[has_shape] += 1;
+        }
+    }
+    assert_eq!(tallies.len(), 7, "{tallies:?}");
+    for (kind, tally) in &tallies {
+        assert!(tally.iter().all(|count| *count >= 10), "{kind}: {tally:?}");
+    }
+}
+
+/// Which links a card has, if they are few: none, and then where it stands, or only some of one sort.
+fn links_of(setting: &Setting, card: Card) -> Option<&'static str> {
+    let links = &setting.script.links;
+    let itself = links.iter().any(|link| link.from == card && link.to == card);
+    let leaving = links.iter().any(|link| link.from == card && link.to != card);
+    let arriving = links.iter().any(|link| link.from != card && link.to == card);
+    let (first, last) = (card.0 == 0, card.0 + 1 == setting.script.cards);
+    match (itself, leaving, arriving) {
+        (true, false, false) => Some("only to itself"),
+        (false, true, false) => Some("only leaving"),
+        (false, false, true) => Some("only arriving"),
+        (false, false, false) => Some(match (first, last) {
+            (true, true) => "blank, alone",
+            (true, false) => "blank, first",
+            (false, true) => "blank, last",
+            (false, false) => "blank, between",
+        }),
+        _ => None,
+    }
 }

@@ -17,6 +17,12 @@ pub fn words(cards: u16, links: &Links) -> Vec<u16> {
     words
 }
 
+/// The links of a script that is well-formed.
+pub fn links(words: &[u16]) -> Links {
+    let links = words[2..].chunks(3);
+    links.map(|link| (link[0], link[1], link[2])).collect()
+}
+
 /// A script derived from the shapes; in half of the cases a few links are changed afterwards.
 pub fn derived(random: &mut Random, template: &Template, scale: Scale) -> Vec<u16> {
     let cards = card_count(random, scale.cards);

@@ -178,10 +178,7 @@ fn full_template(random: &mut Random) -> Template {
 
 /// The script with all its cards and random links up to the limit.
 fn fill_script(random: &mut Random, script: &[u16]) -> Vec<u16> {
-    let mut links: scripts::Links = script[2..]
-        .chunks(3)
-        .map(|link| (link[0], link[1], link[2]))
-        .collect();
+    let mut links = scripts::links(script);
     while links.len() < usize::from(MOST_LINKS) {
         let (from, to) = (random.word(0, MOST_CARDS - 1), random.word(0, MOST_CARDS - 1));
         links.insert((from, random.word(0, MOST_KINDS - 1), to));
