@@ -158,12 +158,13 @@ fn random_sheets_of_all_sizes_are_sound() {
 }
 
 #[test]
-fn rows_stars_and_loose_cards_are_sound() {
+fn rows_stars_loose_and_blank_cards_are_sound() {
     for count in [2, 41, 160, 400, 1024] {
         for (name, source) in [
             ("row", sheets::row(count)),
             ("star", sheets::star(count)),
             ("loose", sheets::loose(count)),
+            ("blanks", sheets::blanks(count)),
         ] {
             is_sound(&format!("{name} of {count}"), &sheet(&source));
         }

@@ -112,12 +112,13 @@ fn a_pair_is_met_if_and_only_if_some_choice_of_shapes_is_a_bag() {
 
 #[test]
 fn a_chain_loses_one_card_a_round() {
-    for cards in [1, 2, 50] {
+    // The one card of the shortest chain is blank.
+    for (cards, bare) in [(1, 0), (2, 2), (50, 50)] {
         let count = usize::from(cards);
         let expected = Largest {
             rounds: count + 1,
             struck: count,
-            bare: count,
+            bare,
         };
         let setting = setting(&chain(cards, false));
         assert_eq!(rounds::largest(&setting).0, expected);

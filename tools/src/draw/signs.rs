@@ -32,7 +32,7 @@ const CHIPS: [(Mark, bool, &str); 7] = [
     (Mark::Smallest, true, "booked"),
     (Mark::Largest, true, "booked, only in the largest"),
     (Mark::Booked, true, "booked, but in no typing"),
-    (Mark::None, false, "a card with links and no shape"),
+    (Mark::None, false, "with links and no shape"),
     (Mark::NotMet, false, "the unmet pair of 50"),
 ];
 
@@ -79,7 +79,7 @@ impl Sign {
     fn meaning(&self) -> &'static str {
         match self {
             Sign::Chip(_, _, meaning) | Sign::Line(_, meaning) => meaning,
-            Sign::Blank => "a blank card with no shape",
+            Sign::Blank => "a blank card, no shape",
             Sign::Blame => "how a booking asks for it",
         }
     }

@@ -139,6 +139,13 @@ pub fn hub(count: usize, kinds: usize) -> String {
     text
 }
 
+/// Cards every other of which is blank, the others in a row; none has a shape.
+pub fn blanks(count: usize) -> String {
+    let link = |card: usize| format!("link c{} a c{}\n", card - 1, card + 1);
+    let links: String = (2..count - 1).step_by(2).map(link).collect();
+    format!("kinds: a\nshape A = a[1;1]@A\n{}{links}", cards(count))
+}
+
 /// Cards without links.
 pub fn loose(count: usize) -> String {
     TWO_KINDS.to_string() + &cards(count)
