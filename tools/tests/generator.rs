@@ -11,7 +11,7 @@ use std::collections::{BTreeMap, BTreeSet};
 
 #[test]
 fn the_same_seed_gives_the_same_inputs() {
-    let all = |seed| generate::cases(seed, 180).collect::<Vec<_>>();
+    let all = |seed| generate::cases(seed, 220).collect::<Vec<_>>();
     assert_eq!(all(5), all(5));
     assert_ne!(all(5), all(6));
 }

@@ -71,27 +71,27 @@ pub fn body(svg: &mut Svg, place: &Rect, mark: CardMark) {
         1.4,
         "fill=\"#3b2f1e\" opacity=\"0.10\"",
     );
-    let (fill, band) = match mark {
-        CardMark { bare: true, .. } => ("url(#hatch)", None),
-        CardMark { blank: true, .. } => (BLANK, None),
-        CardMark { needed: true, .. } => ("#ffffff", Some(INK)),
-        _ => ("#ffffff", Some("#cfd5dc")),
-    };
-    if let Some(band) = band {
-        svg.rect(corner, size, 1.4, &format!("fill=\"{fill}\""));
-        let (x, y, h) = (short(corner.0), short(corner.1), short(size.1));
-        svg.path(
-            &format!(
-                "M{x} {y}m1.4 0h1.2v{h}h-1.2a1.4 1.4 0 0 1 -1.4 -1.4v-{}a1.4 1.4 0 0 1 1.4 -1.4z",
-                short(size.1 - 2.8)
-            ),
-            &format!("fill=\"{band}\""),
-        );
-    } else {
-        svg.rect(corner, size, 1.4, "fill=\"#ffffff\"");
-        svg.rect(corner, size, 1.4, &format!("fill=\"{fill}\""));
+    let mut fill = |colour: &str| svg.rect(corner, size, 1.4, &format!("fill=\"{colour}\""));
+    fill("#ffffff");
+    match mark {
+        CardMark { bare: true, .. } => fill("url(#hatch)"),
+        CardMark { blank: true, .. } => fill(BLANK),
+        CardMark { needed: true, .. } => band(svg, place, INK),
+        _ => band(svg, place, "#cfd5dc"),
     }
     svg.rect(corner, size, 1.4, &format!("fill=\"none\" {}", edge(mark)));
+}
+
+/// The band along the left side of a card.
+fn band(svg: &mut Svg, place: &Rect, colour: &str) {
+    let (x, y, h) = (short(place.x), short(place.y), short(place.height));
+    svg.path(
+        &format!(
+            "M{x} {y}m1.4 0h1.2v{h}h-1.2a1.4 1.4 0 0 1 -1.4 -1.4v-{}a1.4 1.4 0 0 1 1.4 -1.4z",
+            short(place.height - 2.8)
+        ),
+        &format!("fill=\"{colour}\""),
+    );
 }
 
 /// The edge of a card.

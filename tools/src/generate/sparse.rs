@@ -64,11 +64,9 @@ fn chosen(random: &mut Random, cards: usize) -> Vec<usize> {
 
 /// Whether a link stays for the sake of both its ends.
 fn stays(stay: &[Stay], (from, _, to): (u16, u16, u16)) -> bool {
-    let [start, end] = [from, to].map(|card| stay[usize::from(card)]);
-    let whole = start == Stay::All && end == Stay::All;
-    let leaves = matches!(start, Stay::All | Stay::Leaving);
-    let arrives = matches!(end, Stay::All | Stay::Arriving);
-    whole || from != to && leaves && arrives
+    let leaves = matches!(stay[usize::from(from)], Stay::All | Stay::Leaving);
+    let arrives = matches!(stay[usize::from(to)], Stay::All | Stay::Arriving);
+    leaves && arrives
 }
 
 /// Puts a link that must be there in the place of each part that takes the empty bag, as long as the words suffice.
