@@ -42,8 +42,8 @@
 #include <stdint.h>
 
 /* The version of this header; prep_version gives the library's. */
-#define PREP_VERSION_MAJOR 0
-#define PREP_VERSION_MINOR 1
+#define PREP_VERSION_MAJOR 1
+#define PREP_VERSION_MINOR 0
 #define PREP_VERSION_PATCH 0
 #define PREP_VERSION (PREP_VERSION_MAJOR * 10000 + PREP_VERSION_MINOR * 100 + PREP_VERSION_PATCH)
 
@@ -115,7 +115,7 @@ struct prep_script_answer {
     size_t place;
 };
 
-/* Of the largest typing: its rounds, the pairs struck, and the cards with no shape. */
+/* Of the largest typing: its rounds, the pairs struck, and the cards with some link and no shape. */
 struct prep_largest_answer {
     uint16_t number;
     size_t place;

@@ -25,7 +25,7 @@ import os
 from typing import Iterable, List, NamedTuple, Sequence, Tuple
 
 # The major version that this file is for, and the one refusal with a card and a shape.
-MAJOR = 0
+MAJOR = 1
 NOT_MET = 50
 
 _SIZE = ctypes.c_size_t
@@ -209,7 +209,7 @@ class Link(NamedTuple):
 
 
 class Largest(NamedTuple):
-    """The largest typing, its rounds, the pairs struck and the cards with no shape."""
+    """The largest typing, its rounds, the pairs struck and the cards with some link and no shape."""
 
     typing: Typing
     rounds: int

@@ -109,11 +109,11 @@ fn sheet(source: &str) -> Sheet {
 fn check_speaks_of_the_cards_with_links() {
     let report = sheet(TEXT).report("x.txt");
     let lines: Vec<&str> = report.lines().collect();
-    assert_eq!(lines[0], "x.txt: 4 cards, 1 link, 0 bookings");
     assert_eq!(
-        lines[2],
-        "largest: 3 rounds, 4 pairs struck; of the cards with links, 2 of 2 have no shape"
+        lines[0],
+        "x.txt: 4 cards, 1 link, 0 bookings; of the cards with links, 2 of 2 have no shape"
     );
+    assert_eq!(lines[2], "largest: 3 rounds, 4 pairs struck");
     assert_eq!(report.matches("has no shape").count(), 2);
     assert!(!report.contains("A pause") && !report.contains("between"));
     let itself = TEXT
@@ -121,7 +121,7 @@ fn check_speaks_of_the_cards_with_links() {
         .replace("card ann\n", "");
     let report = sheet(&itself).report("x.txt");
     assert!(
-        report.ends_with("of the cards with links, 0 of 1 have no shape\n"),
+        report.contains("of the cards with links, 0 of 1 have no shape\n"),
         "{report}"
     );
     let two = TEXT.replace("guest[1;1]@Item", "nothing");

@@ -77,7 +77,7 @@ abbrev pub scriptNumbers : PrepScript → Numbers
 scriptNumbers r =
     record { number = r .number; place = r .place; card = 0; shape = 0; found = r .cards ∷ r .links ∷ [] }
 
--- Rounds, pairs struck, cards with no shape.
+-- Rounds, pairs struck, cards with some link and no shape.
 abbrev pub largestNumbers : PrepLargest → Numbers
 largestNumbers r =
     record { number = r .number; place = r .place; card = 0; shape = 0; found = r .rounds ∷ r .struck ∷ r .bare ∷ [] }

@@ -50,7 +50,7 @@ pub struct PrepScript {
     pub place: usize,
 }
 
-// The largest typing's rounds, pairs struck and cards with no shape; or a refusal's number and place.
+// The largest typing's rounds, pairs struck and cards with some link and no shape; or a refusal's number and place.
 #[repr(C)]
 pub struct PrepLargest {
     pub number: u16,

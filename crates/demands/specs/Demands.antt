@@ -17,7 +17,8 @@
 --   Typing, SoundTyping   a grid of zeros and ones of the right length; a sound one
 --   Booked, Holds, Below  some booking is of the card and the shape; a set has every booking; a set is in another
 --   Largest, bareCards    docs/FORMAT.md, "Largest": from every pair, r rounds of which the last strikes nothing and no
---                         other, with m pairs struck in all, lead to the set X; how many cards have no shape
+--                         other, with m pairs struck in all, lead to the set X; how many cards have some link and
+--                         no shape
 --   IsClosure, tally      "Smallest": a set is the closure of the bookings; how many pairs a set has
 --   Bag, Bags, total      2.1: a bag of (label, shape), the bags of a part, how many of a label a bag has
 --   WellFormed, writeTemplate, writeScript, InputFormed, writeInput   the limits and layout rules, and the words or
@@ -236,7 +237,8 @@ pub record LargestTyping (s : Sheet) (large : List ℕ) (said : Said) : Type 0 w
   pub shapeless : (n : ℕ) → n < s .cards
       → ((t : ℕ) → t < s .shapes → on large (place s n t) ≡ false)
       ↔ ((h : List ℕ) → SoundTyping s h → (t : ℕ) → t < s .shapes → on h (place s n t) ≡ false)
-  -- rounds, strikes and cards with no shape are those that the definition by rounds counts, and it counts some
+  -- rounds, strikes and cards with some link and no shape are those that the definition by rounds counts, and it does
+  -- count some
   pub numbers : (r m : ℕ) (X : Pairs) → Largest s r m X → said ≡ values (r ∷ m ∷ bareCards s X ∷ [])
   pub some-numbers : (r : ℕ) × (m : ℕ) × (X : Pairs) × Largest s r m X
   -- there is at most one round more than there are strikes

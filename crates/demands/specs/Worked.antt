@@ -33,7 +33,7 @@ lastShape = 0 ∷ 0 ∷ 0 ∷ 0 ∷ 0 ∷ 1 ∷ []
 abbrev pub noShapes : List ℕ
 noShapes = 0 ∷ 0 ∷ 0 ∷ 0 ∷ 0 ∷ 0 ∷ []
 
--- Four rounds, five pairs struck, two cards with no shape.
+-- Four rounds, five pairs struck, two cards with some link and no shape.
 abbrev pub largestAnswer : Said
 largestAnswer = values (4 ∷ 5 ∷ 2 ∷ [])
 

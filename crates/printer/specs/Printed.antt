@@ -18,7 +18,8 @@ use Rattle.typing.specs.Answer.{BothSaid}
 use Rattle.typing.specs.Demand3.{Outcome, pairs, notMet}
 use Rattle.typing.specs.Calls.{withBookings, BothFound}
 
--- The line of the largest typing: rounds, pairs struck, cards with no shape. Then a line for each card.
+-- The line of the largest typing: rounds, pairs struck, cards with some link and no shape. Then a line for each
+-- card.
 abbrev pub largestText : ℕ → ℕ → ℕ → List ℕ → ℕ → ℕ → List ℕ
 largestText rounds struck bare grid shapes cards = largestLine rounds struck bare ++ cardLines grid shapes cards
 

@@ -28,18 +28,18 @@ or-none true = refl
 or-none false = refl
 
 module _ (script : List ℕ) (card : ℕ) where
-  -- one link more: it starts at the card, leads to it, or does neither
-  linked-from : (m : ℕ) → fromAt script m ≡ card → linked script card (suc m) ≡ true
-  unfolding linked
-  linked-from m e =
-      or-left (linked script card m || eqb (fromAt script m) card) (eqb (toAt script m) card)
-      (or-right (linked script card m) (eqb (fromAt script m) card) (eq-eqb (fromAt script m) card e))
-
+  -- one link more: it leads to the card, starts at it, or does neither
   linked-to : (m : ℕ) → toAt script m ≡ card → linked script card (suc m) ≡ true
   unfolding linked
   linked-to m e =
       or-right (linked script card m || eqb (fromAt script m) card) (eqb (toAt script m) card)
       (eq-eqb (toAt script m) card e)
+
+  linked-from : (m : ℕ) → fromAt script m ≡ card → linked script card (suc m) ≡ true
+  unfolding linked
+  linked-from m e =
+      or-left (linked script card m || eqb (fromAt script m) card) (eqb (toAt script m) card)
+      (or-right (linked script card m) (eqb (fromAt script m) card) (eq-eqb (fromAt script m) card e))
 
   linked-other : (m : ℕ) → (fromAt script m ≡ card → ⊥) → (toAt script m ≡ card → ⊥)
       → linked script card (suc m) ≡ linked script card m

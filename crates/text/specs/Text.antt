@@ -57,7 +57,7 @@ refusedWord = 114 ∷ 101 ∷ 102 ∷ 117 ∷ 115 ∷ 101 ∷ 100 ∷ 32 ∷ []
 unfoldable pub twoNumbers : ℕ → ℕ → List ℕ
 twoNumbers a b = digits a ++ (space ∷ (digits b ++ (newline ∷ [])))
 
--- The line of the largest typing: rounds, pairs struck, cards with no shape.
+-- The line of the largest typing: rounds, pairs struck, cards with some link and no shape.
 unfoldable pub largestLine : ℕ → ℕ → ℕ → List ℕ
 largestLine rounds struck bare = largestWord ++ (digits rounds ++ (space ∷ twoNumbers struck bare))
 

@@ -104,7 +104,7 @@ fn put_two(out: &mut [u8], at: usize, a: usize, b: usize) -> usize
     put_byte(out, second, b'\n')
 }
 
-// Writes the line of the largest typing: rounds, struck, cards with no shape.
+// Writes the line of the largest typing: rounds, struck, cards with some link and no shape.
 pub fn put_largest(out: &mut [u8], at: usize, rounds: usize, struck: usize, bare: usize) -> usize
     requires { ⌜ Room (now out) at (largestLine rounds struck bare) ⌝ }
     ensures { λ r. ⌜ Wrote (now (out .entry)) at (largestLine rounds struck bare) (now (out .exit)) r ⌝ }

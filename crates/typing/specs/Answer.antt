@@ -9,7 +9,8 @@ use Rattle.typing.specs.declared.SmallestAnswer.the-variants as small
 use Rattle.typing.specs.declared.BothAnswer.{BothAnswer}
 use Rattle.typing.specs.declared.BothAnswer.the-variants as both
 
--- Typed: rounds, pairs struck, cards with no shape. Refused: a template's or a script's number and place, or 40.
+-- Typed: rounds, pairs struck, cards with some link and no shape. Refused: a template's or a script's number and place,
+-- or 40.
 abbrev pub largestSaid : LargestAnswer → Said
 largestSaid (large.Typed rounds struck bare) = values (rounds ∷ struck ∷ bare ∷ [])
 largestSaid (large.Refused number place) = refusal number (place ∷ [])

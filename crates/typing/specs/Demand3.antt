@@ -38,8 +38,8 @@ pub record Demand3 (s : Sheet) (Booked : ℕ → ℕ → Type 0) (large : List �
   pub shapeless : (n : ℕ) → n < s .cards
       → ((t : ℕ) → t < s .shapes → on large (place s n t) ≡ false)
       ↔ ((h : List ℕ) → SoundTyping s h → (t : ℕ) → t < s .shapes → on h (place s n t) ≡ false)
-  -- rounds, strikes, cards with no shape and pairs are those that the definitions count: whatever numbers these count
-  -- are the answer's, and they do count some
+  -- rounds, strikes, cards with some link and no shape, and pairs are those that the definitions count: whatever
+  -- numbers these count are the answer's, and they do count some
   pub numbers : (r m : ℕ) (X : Pairs) → Largest s r m X → (rounds ≡ r) × (struck ≡ m) × (bare ≡ bareCards s X)
   pub counts-some : (r : ℕ) × (m : ℕ) × (X : Pairs) × Largest s r m X
   pub pairs-counted : (m : ℕ) (X : Pairs) → outcome ≡ pairs m → IsClosure s Booked X → m ≡ tally X (size s)

@@ -3,7 +3,7 @@
 use script::Card;
 use template::Shape;
 
-// Rounds, pairs struck and cards with no shape; or what is refused: number and place.
+// Rounds, pairs struck and cards with some link and no shape; or what is refused: number and place.
 pub enum LargestAnswer {
     Typed(usize, usize, usize),
     Refused(u16, usize),
@@ -16,8 +16,8 @@ pub enum SmallestAnswer {
     Refused(u16, usize),
 }
 
-// Rounds, pairs struck, cards with no shape, and the number of pairs of the smallest or the pair that is not met; or
-// what else is refused: number and place.
+// Rounds, pairs struck, cards with some link and no shape, and the number of pairs of the smallest or the pair that is
+// not met; or what else is refused: number and place.
 pub enum BothAnswer {
     Typed(usize, usize, usize, usize),
     NotMet(usize, usize, usize, Card, Shape),

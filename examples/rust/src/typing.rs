@@ -47,7 +47,7 @@ pub struct Largest {
     pub rounds: usize,
     /// How many pairs are struck.
     pub struck: usize,
-    /// How many cards have no shape.
+    /// How many cards have some link and no shape.
     pub bare: usize,
 }
 

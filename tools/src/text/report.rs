@@ -11,12 +11,7 @@ use crate::typing::{Pair, Smallest};
 /// The outcome in words.
 pub fn report(sheet: &Sheet, file: &str) -> String {
     let roots = Roots::new(&sheet.setting);
-    let mut report = format!(
-        "{file}: {}, {}, {}\n",
-        counted(sheet.text.cards.len(), "card"),
-        counted(sheet.text.links.len(), "link"),
-        counted(sheet.booked.len(), "booking")
-    );
+    let mut report = head(sheet, file);
     if let Smallest::Pairs(pairs) = sheet.both.smallest.0 {
         report += &format!("smallest: {}, each of them met\n", counted(pairs, "pair"));
     }
@@ -28,23 +23,25 @@ pub fn report(sheet: &Sheet, file: &str) -> String {
             report += &format!("{start}: {}\n", cannot(&sheet.text, reason));
         }
     }
-    report += &largest(sheet);
+    let (largest, _) = &sheet.both.largest;
+    let (rounds, struck) = (counted(largest.rounds, "round"), counted(largest.struck, "pair"));
+    report += &format!("largest: {rounds}, {struck} struck\n");
     for (card, reasons) in bare(sheet, &roots) {
         report += &no_shape(sheet, file, card, &reasons);
     }
     report
 }
 
-/// The answer for the largest typing. Blank cards aren't among those that it counts.
-fn largest(sheet: &Sheet) -> String {
-    let (largest, _) = &sheet.both.largest;
+/// What there is, and how many of the cards that aren't blank have no shape.
+fn head(sheet: &Sheet, file: &str) -> String {
+    let bare = sheet.both.largest.0.bare;
     let linked = sheet.blank.iter().filter(|blank| !**blank).count();
     format!(
-        "largest: {}, {} struck; of the cards with links, {} of {linked} {} no shape\n",
-        counted(largest.rounds, "round"),
-        counted(largest.struck, "pair"),
-        largest.bare,
-        if largest.bare == 1 { "has" } else { "have" }
+        "{file}: {}, {}, {}; of the cards with links, {bare} of {linked} {} no shape\n",
+        counted(sheet.text.cards.len(), "card"),
+        counted(sheet.text.links.len(), "link"),
+        counted(sheet.booked.len(), "booking"),
+        if bare == 1 { "has" } else { "have" }
     )
 }
 
