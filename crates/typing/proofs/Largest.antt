@@ -11,7 +11,7 @@
 use Prim.Native.Nat.{ℕ, suc, _+_, _≤_}
 use mathlib.Core.Path.{_≡_, refl, sym, ap, _∙_, subst}
 use mathlib.Core.Logic.{⊎-elim}
-use mathlib.Core.Bool.{_&&_}
+use mathlib.Core.Bool.{Bool, _&&_}
 use mathlib.Core.List.{List, [], _∷_}
 use native.Mathlib.Omega.{arith}
 use lib.Dec.{eqb}
@@ -94,8 +94,9 @@ module _ {s : Sheet} {B : Board} (rep : Represents s B) where
   pub bare-alike : (X Y : Pairs) → Alike s X Y → bareCards s X ≡ bareCards s Y
   unfolding bare bareCards
   bare-alike X Y e =
-      tally-ext (λ n. linked (s .script) n (s .links) && bare s X n) (λ n. linked (s .script) n (s .links) && bare s Y n)
-      (s .cards) (λ n ln. ap (λ (shapes : ℕ). linked (s .script) n (s .links) && eqb shapes 0)
+      let touched : ℕ → Bool = λ n. linked (s .script) n (s .links) in
+      tally-ext (λ n. touched n && bare s X n) (λ n. touched n && bare s Y n) (s .cards)
+      (λ n ln. ap (λ (shapes : ℕ). touched n && eqb shapes 0)
       (tally-ext (λ t. X (place s n t)) (λ t. Y (place s n t)) (s .shapes)
       (λ t lt. e (place s n t) (pair-in rep n t ln lt))))
 

@@ -1,5 +1,5 @@
--- `calls::count_bare` counts the cards with some link and no shape. The invariant: `bare` of the cards below `n` are so.
--- Assumes nothing.
+-- `calls::count_bare` counts the cards with some link and no shape. The invariant: `bare` of the cards below `n` are
+-- marked and have no shape. Assumes nothing.
 use mathlib.Core.Logic.{⊎-elim}
 use mathlib.Core.Path.{_∙_, _≡_, ap, sym}
 use Prim.Native.Nat.{_*_, _+_, _-_, _≤_, ℕ}

@@ -109,10 +109,11 @@ loop-less c = search needs
 loop-again : tie.Need-loop-again Inv-loop μ-loop
 loop-again c =
     let a = c .before .before in
-    let l = turn a in (
+    let l = turn a in
+    let marked = l .loop .inv .1 in (
       omega arith,
-      marks-more _ (l .loop .linked) (l .loop .i) _ (a .wide .result) (c .wide2 .result) (from-is a) (to-is c) (from-in a)
-          (to-in c) (l .loop .inv .1),
+      marks-more _ (l .loop .linked) (l .loop .i) _ (a .wide .result) (c .wide2 .result) (from-is a) (to-is c)
+          (from-in a) (to-in c) marked,
     )
 
 same-length : tie.Need-same-length Inv-loop μ-loop
