@@ -5,7 +5,7 @@
 --   bare-hit, blank-miss, shaped-miss   one card more, that is so, that isn't marked, or that has a shape
 --   bare-counted         a sheet's cards with some link and no shape
 -- Assumes nothing.
-use mathlib.Core.Path.{_≡_, refl, sym, ap, _∙_}
+use mathlib.Core.Path.{_≡_, refl, ap, _∙_}
 use mathlib.Core.List.{List}
 use mathlib.Core.Bool.{Bool, true, false, cond, _&&_}
 use Prim.Native.Nat.{ℕ, _+_, _-_, _*_, _≤_}

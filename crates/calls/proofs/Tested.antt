@@ -18,7 +18,6 @@ use Rattle.bags.specs.Interval.{fits}
 use Rattle.words.specs.Sizes.{maxGrid}
 use Rattle.words.specs.Reading.{accepted}
 use Rattle.words.proofs.Places.{card-in, shape-in, place-of}
-use Rattle.board.specs.Grid.{on}
 use Rattle.board.specs.Machine.{Marks}
 use Rattle.template.specs.Template.{readTemplate}
 use Rattle.script.specs.Steps.{StartsOf}

@@ -1,8 +1,9 @@
--- Wrong answers are not allowed by the contracts: shown on the worked sheet of docs/FORMAT.md, so that each of these
--- promises is seen to say something.
+-- Wrong answers are not allowed by the contracts: shown on the worked sheet of docs/FORMAT.md, and of blank cards on
+-- every script without links, so that each of these promises is seen to say something.
 --   only-largest, only-met, only-not-met   the right answers are the only ones
 --   grid-untouched, sevens-untouched       an accepting call that leaves the grid as it was
 --   three-rounds             3 rounds instead of 4
+--   blanks-counted           a third number above 0 where no card has a link
 --   closure-left             50 that leaves the closure in the grid instead of zeros
 --   booking-named            50 that names the booked pair instead of the pair that is not met
 --   met-turned-down          50 for bookings that can be met
@@ -13,21 +14,31 @@
 --   links-elsewhere          a part for a card that is not there, which is empty, at another place of the script
 --   all-refused              a reader that refuses this template
 -- Assumes nothing.
-use Prim.Native.Nat.{ℕ, _+_}
+use Prim.Native.Nat.{ℕ, _+_, _<_}
 use mathlib.Core.Path.{_≡_, refl, ap, _∙_}
+use mathlib.Core.Bool.{_&&_}
 use mathlib.Core.List.{List, [], _∷_}
 use native.Mathlib.Omega.{arith}
 use denote.Ref.{RefT, now}
 use lib.ListN.{length, getD}
 use Rattle.words.specs.Said.{Said, values, refusal}
+use Rattle.words.specs.Reading.{Reading, accepted, turnedDown}
+use Rattle.board.specs.Grid.{on}
+use Rattle.board.proofs.Tally.{tally-none}
 use Rattle.template.specs.Reading.{readLink, readRun, readPart}
 use Rattle.template.specs.Template.{readShape, readShapes, readTemplate, templateSays}
 use Rattle.bookings.specs.Bookings.{readBookings}
+use Rattle.script.specs.Link.{linked}
 use Rattle.script.specs.Script.{linksStart}
 use Rattle.script.proofs.Answers.{LinksPart}
+use Rattle.sheet.specs.Sheet.{Sheet, readSheet}
+use Rattle.sheet.proofs.Accepted.{sheet-read}
 use Rattle.counts.specs.Fit.{FitSays}
 use Rattle.counts.proofs.Fitting.{fit-one-answer}
-use Rattle.typing.specs.Calls.{LargestSays, SmallestSays}
+use Rattle.typing.specs.Typing.{Pairs}
+use Rattle.typing.specs.Largest.{bare, bareCards}
+use Rattle.typing.specs.Calls.{largestReading, LargestFound, LargestAnswered, LargestSays, SmallestSays}
+use Rattle.typing.proofs.Booked.{grid-asked}
 use Rattle.typing.proofs.Existence.{largest-one-answer, smallest-one-answer}
 use Rattle.demands.specs.Worked.{template, script, metBookings, unmetBookings, lastShape, noShapes}
 use Rattle.demands.specs.Worked.{largestAnswer, smallestAnswer, notMetAnswer}
@@ -69,6 +80,29 @@ pub three-rounds : (before after : List ℕ) (struck bare : ℕ) → length befo
 three-rounds before after struck bare six x =
     let e = only-largest before six after _ x .0 in
     let z : _≡_ {A = ℕ} 3 4 = cc in omega arith
+
+-- Where the script has no links, no card is counted, whatever the template and the set.
+no-links : (s : Sheet) (X : Pairs) → s .links ≡ 0 → bareCards s X ≡ 0
+unfolding bareCards linked
+no-links s X none =
+    tally-none (λ n. linked (s .script) n (s .links) && bare s X n) (s .cards) (λ n l. rw none refl)
+
+-- Values are said of a sheet that is read.
+not-refused : (r : Reading Sheet) (before after found : List ℕ) → LargestAnswered r before after (values found)
+    → (s : Sheet) × (r ≡ accepted s) × LargestFound s after (values found)
+not-refused (accepted s) before after found x = (s, refl, x)
+not-refused (turnedDown number place) before after found x = let z : _≡_ {A = ℕ} 0 1 = cc in absurd (omega arith)
+
+-- A third number above 0 where the script has no links, so that every card is blank.
+pub blanks-counted : (words list before after : List ℕ) (rounds struck counted : ℕ) → getD list 1 0 ≡ 0
+    → 0 < counted → LargestSays words list before after (values (rounds ∷ struck ∷ counted ∷ [])) → ⊥
+blanks-counted words list before after rounds struck counted none some x =
+    let (s, asked, found) = not-refused (largestReading words list before) before after _ x in
+    let (kinds, read, same) = sheet-read words list s (grid-asked before (readSheet words list) s asked .0) in
+    let few : s .links ≡ 0 = read .links .links ∙ ap (λ (w : List ℕ). getD w 1 0) same ∙ none in
+    let said = found .says in
+    let e : counted ≡ found .bare = cc in
+    omega (arith, e, found .counted, no-links s (on after) few)
 
 -- 50 with the closure of the booking left in the grid.
 pub closure-left : (before : List ℕ) → length before ≡ 6
