@@ -22,7 +22,7 @@ use Rattle.sheet.proofs.Accepted.{mapped-accepted, sheet-asked}
 use Rattle.bookings.specs.Bookings.{cardAt, shapeAt, readPairs, readBookings}
 use Rattle.bookings.proofs.Accepted.{bookings-size, bookings-in}
 use Rattle.typing.specs.Calls.{withBookings, withGrid, largestReading, smallestReading, Grids, bothReading}
-use Rattle.typing.proofs.Booked.{grid-asked}
+use Rattle.typing.proofs.Booked.{grid-asked, grid-taken}
 use Rattle.demands.specs.Demands.{Formed, BookingsFormed}
 
 module _ (words list : List ℕ) (s : Sheet) where
@@ -104,10 +104,7 @@ module _ (cards shapes : ℕ) (list : List ℕ) where
 -- ---- what the calls take
 grid-takes : (grid : List ℕ) (r : Reading Sheet) (s : Sheet)
     → (then r (withGrid grid) ≡ accepted s) ↔ ((r ≡ accepted s) × (length grid ≡ size s))
-grid-takes grid r s = (
-  grid-asked grid r s,
-  λ h. rw (h .0, eq-eqb (length grid) (size s) (h .1)) refl,
-)
+grid-takes grid r s = (grid-asked grid r s, λ h. grid-taken grid r s (h .0) (h .1))
 
 listed-takes : (words list booked : List ℕ) (s : Sheet)
     → (then (readSheet words list) (withBookings booked) ≡ accepted s)

@@ -7,10 +7,10 @@ use Prim.Native.Nat.{ℕ}
 use mathlib.Core.Path.{_≡_, refl, sym, ap, _∙_, subst}
 use mathlib.Core.Logic.{_⊎_, inl, inr}
 use mathlib.Core.List.{List, [], _∷_}
-use native.Mathlib.Omega.{arith}
 use lib.ListN.{length, replicate}
 use Rattle.words.specs.Said.{values, refusal}
 use Rattle.words.specs.Reading.{Reading, accepted, turnedDown, saidOf}
+use Rattle.words.proofs.Said.{values-refusal, refusal-number}
 use Rattle.words.proofs.Readings.{Numbered, then-numbered, numbered-map}
 use Rattle.template.specs.Template.{readTemplate}
 use Rattle.template.proofs.Numbers.{TemplateNumber, template-numbers}
@@ -24,29 +24,26 @@ use Rattle.typing.specs.Calls.{Grids, Leaves, outcomeSaid, LargestAnswered, Sma
 use Rattle.demands.specs.Demands.{ScriptListed}
 
 pub no-values : {B : Type 0} {xs at : List ℕ} {number : ℕ} → refusal number at ≡ values xs → B
-no-values e = let z : _≡_ {A = ℕ} 0 1 = cc in absurd (omega arith)
-
-same-number : {n m : ℕ} {xs ys : List ℕ} → refusal n xs ≡ refusal m ys → n ≡ m
-same-number e = cc
+no-values e = values-refusal (sym e)
 
 module _ (Number : ℕ → Type 0) where
   -- what a reading says is refused with one of its numbers
   pub said-listed : {A : Type 0} (found : A → List ℕ) (r : Reading A) (number : ℕ) (at : List ℕ)
       → Numbered Number r → saidOf found r ≡ refusal number at → Number number
   said-listed found (accepted a) number at h e = no-values (sym e)
-  said-listed found (turnedDown n p) number at h e = subst Number (same-number e) h
+  said-listed found (turnedDown n p) number at h e = subst Number (refusal-number e) h
 
   pub largest-refused : (r : Reading Sheet) → Numbered Number r → (before after : List ℕ) (number : ℕ) (at : List ℕ)
       → LargestAnswered r before after (refusal number at) → Number number × (after ≡ before)
   largest-refused (accepted s) h before after number at x = no-values (x .says)
   largest-refused (turnedDown n p) h before after number at x =
-      (subst Number (sym (same-number (x .0))) h, x .1)
+      (subst Number (sym (refusal-number (x .0))) h, x .1)
 
   pub fit-refused : (r : Reading Question) → Numbered Number r → (number : ℕ) (at : List ℕ)
       → Answers r (refusal number at) → Number number
   fit-refused (accepted q) h number at (inl x) = no-values (x .1)
   fit-refused (accepted q) h number at (inr x) = no-values (x .1)
-  fit-refused (turnedDown n p) h number at x = subst Number (sym (same-number x)) h
+  fit-refused (turnedDown n p) h number at x = subst Number (sym (refusal-number x)) h
 
   -- a refusal of the smallest: a listed one, or 50, which leaves zeros
   abbrev pub SmallestRefused : ℕ → (List ℕ) → List ℕ → Type 0
@@ -58,7 +55,7 @@ module _ (Number : ℕ → Type 0) where
       → (number ≡ 50) × (after ≡ replicate (length before) 0)
   found-refused s Wanted before after number at full (pairs m) e l = no-values e
   found-refused s Wanted before after number at full (notMet n t) e l =
-      (same-number e, l .zeros ∙ ap (λ (k : ℕ). replicate k 0) (sym full))
+      (refusal-number e, l .zeros ∙ ap (λ (k : ℕ). replicate k 0) (sym full))
 
   pub smallest-refused : (r : Reading Sheet) → Numbered Number r → (Wanted : ℕ → ℕ → Type 0) (before after : List ℕ)
       → ((s : Sheet) → r ≡ accepted s → length before ≡ size s) → (number : ℕ) (at : List ℕ)
@@ -66,7 +63,7 @@ module _ (Number : ℕ → Type 0) where
   smallest-refused (accepted s) h Wanted before after full number at x =
       inr (found-refused s Wanted before after number at (full s refl) (x .outcome) (x .says) (x .leaves))
   smallest-refused (turnedDown n p) h Wanted before after full number at x =
-      inl (subst Number (sym (same-number (x .0))) h, x .1)
+      inl (subst Number (sym (refusal-number (x .0))) h, x .1)
 
   pub both-refused : (r : Reading Sheet) → Numbered Number r → (Wanted : ℕ → ℕ → Type 0) (before after : Grids)
       → ((s : Sheet) → r ≡ accepted s → length (before .small) ≡ size s) → (said : BothSaid)
@@ -82,8 +79,8 @@ module _ (Number : ℕ → Type 0) where
   both-refused (turnedDown n p) h Wanted before after full said x number at =
       let large : said .largest ≡ refusal n (p ∷ []) = ap (λ (z : BothSaid). z .largest) (x .0) in
       let small : said .smallest ≡ refusal n (p ∷ []) = ap (λ (z : BothSaid). z .smallest) (x .0) in (
-        λ e. (subst Number (same-number (sym large ∙ e)) h, x .1),
-        λ e. inl (subst Number (same-number (sym small ∙ e)) h, x .1),
+        λ e. (subst Number (refusal-number (sym large ∙ e)) h, x .1),
+        λ e. inl (subst Number (refusal-number (sym small ∙ e)) h, x .1),
       )
 
 -- A script is refused with a template's number or one of its own.

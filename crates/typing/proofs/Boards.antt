@@ -1,7 +1,9 @@
 -- The board of a script, a table of names and a grid of fits.
+--   named-of       a set has the pair that an entry asks for
 --   pairs-bound    it has no more places than the greatest grid
 --   entries-bound  an entry of the table is at most the greatest number of shapes
 --   entry-shape    the shape that an entry names is a shape
+--   led-in         the pair that a link leads to is on the board
 --   needs-in       what a pair needs is on the board
 --   board-lawful   its test is Proposition 8.1: the counts fit and the set has all that is needed
 -- Assumes nothing.
@@ -27,7 +29,7 @@ use Rattle.typing.specs.Needs.{entryAt, Needs, hasNamed, linkTest, metTe
 use Rattle.words.proofs.Places.{place-in, card-in, shape-in, place-of}
 
 -- ---- an entry of the table
-named-of : (X : ℕ → Bool) (base entry : ℕ) → ((u : ℕ) → entry ≡ suc u → X (base + u) ≡ true)
+pub named-of : (X : ℕ → Bool) (base entry : ℕ) → ((u : ℕ) → entry ≡ suc u → X (base + u) ≡ true)
     → hasNamed X base entry ≡ true
 named-of X base zero f = refl
 named-of X base (suc u) f = f u refl
@@ -117,10 +119,16 @@ module _ {script names : List ℕ} {shapes : ℕ} (ready : Ready script names sh
       → u < shapes
   entry-shape t i u lt li e = omega (arith, ready .entry-in t (label script i) lt (ready .label-in i li), e)
 
+  -- m is the card that link i leads to, and u the shape that t names for its label
+  pub led-in : (t i m u : ℕ) → t < shapes → i < getD script 1 0 → m ≡ far script i
+      → entryAt names t (label script i) ≡ suc u → m * shapes + u < getD script 0 0 * shapes
+  led-in t i m u lt li to e =
+      place-in (getD script 0 0) shapes m u (omega (arith, ready .far-in i li)) (entry-shape t i u lt li e)
+
   pub needs-in : (p q : ℕ) → Needs script names shapes p q → q < getD script 0 0 * shapes
   needs-in p q d = subst (λ (x : ℕ). x < getD script 0 0 * shapes) (sym (d .leads))
-      (place-in (getD script 0 0) shapes (far script (d .link)) (d .shape) (ready .far-in (d .link) (d .below))
-      (entry-shape (p % shapes) (d .link) (d .shape) (shape-in shapes (ready .one-shape) p) (d .below) (d .names-it)))
+      (led-in (p % shapes) (d .link) (far script (d .link)) (d .shape) (shape-in shapes (ready .one-shape) p)
+      (d .below) refl (d .names-it))
 
   module _ (fits : List ℕ) where
     -- the tests of all links

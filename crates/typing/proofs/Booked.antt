@@ -1,14 +1,15 @@
 -- The bookings of a list that is read are in the sheet.
 --   grid-asked      a sheet that passes the grid's refusal is the sheet before it, and the grid has its size
+--   grid-taken      a grid that has it passes
 --   bookings-asked  one that passes the bookings' refusals is the sheet before them, and the bookings are in it
 -- Assumes nothing.
 use Prim.Native.Nat.{ℕ}
-use mathlib.Core.Path.{_≡_, subst, ap, _∙_}
+use mathlib.Core.Path.{_≡_, refl, subst, ap, _∙_}
 use mathlib.Core.Bool.{not}
 use mathlib.Core.List.{List}
 use lib.ListN.{length}
 use lib.Dec.{eqb}
-use borrow.Author.Tests.{eqb-true, not-false}
+use borrow.Author.Tests.{eqb-true, eq-eqb, not-false}
 use Rattle.words.specs.Reading.{Reading, accepted, then}
 use Rattle.words.proofs.Readings.{accepted-same, passed, then-accepted}
 use Rattle.sheet.specs.Sheet.{Sheet, size}
@@ -25,6 +26,10 @@ grid-asked grid r s e =
     let (other, last) = passed 40 0 (not (eqb (length grid) (size q))) (accepted q) s rest in
     let full = eqb-true (length grid) (size q) (not-false _ other) in
     (read ∙ last, subst (λ (x : Sheet). length grid ≡ size x) (accepted-same last) full)
+
+pub grid-taken : (grid : List ℕ) (r : Reading Sheet) (s : Sheet) → r ≡ accepted s → length grid ≡ size s
+    → then r (withGrid grid) ≡ accepted s
+grid-taken grid r s read full = rw (read, eq-eqb (length grid) (size s) full) refl
 
 pub bookings-asked : (bookings : List ℕ) (r : Reading Sheet) (s : Sheet) → then r (withBookings bookings) ≡ accepted s
     → (r ≡ accepted s) × BookedIn s (Booked bookings)

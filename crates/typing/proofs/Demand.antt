@@ -14,15 +14,16 @@ use Rattle.words.proofs.Bools.{never-both, is-false}
 use Rattle.board.proofs.Tally.{tally-ext}
 use Rattle.words.specs.Said.{Said}
 use Rattle.sheet.specs.Sheet.{Sheet, place, size}
-use Rattle.typing.specs.Typing.{Pairs, Holds, SoundTyping}
+use Rattle.typing.specs.Typing.{Pairs, SoundTyping}
 use Rattle.typing.specs.Largest.{Largest, bareCards}
-use Rattle.typing.specs.Smallest.{booked, Accepted, TurnedDown}
+use Rattle.typing.specs.Smallest.{Accepted, TurnedDown}
 use Rattle.typing.specs.Demand3.{Outcome, pairs, notMet, Demand3}
 use Rattle.typing.specs.Answer.{BothSaid}
 use Rattle.typing.specs.Calls.{LargestFound, SmallestFound, BothFound, Leaves}
 use Rattle.typing.proofs.Represents.{Represents}
 use Rattle.typing.proofs.Largest.{largest-over, largest-bound, largest-unique, some-largest, bare-alike}
-use Rattle.typing.proofs.Smallest.{BookedIn, closure-in, sound-over, closure-unique, met-again}
+use Rattle.typing.proofs.Smallest.{BookedIn, accepted-sound, accepted-holds, turned-down-never, sound-over}
+use Rattle.typing.proofs.Smallest.{closure-unique}
 
 module _ {s : Sheet} {B : Board} (rep : Represents s B) {large : List ℕ} {said : Said}
     (found : LargestFound s large said) where
@@ -48,13 +49,13 @@ module _ {s : Sheet} {B : Board} (rep : Represents s B) {large : List ℕ} {said
     accepted-demand : (m : ℕ) → Accepted s Booked small m
         → Demand3 s Booked large (found .rounds) (found .struck) (found .bare) small (pairs m)
     accepted-demand m a = record {
-      turned-down = (λ never. absurd never, λ none. none small small-typing small-holds);
-      small-sound = λ _. (small-typing, small-holds);
+      turned-down = (λ never. absurd never, λ none. none small (accepted-sound a) (accepted-holds a));
+      small-sound = λ _. (accepted-sound a, accepted-holds a);
       large-sound = λ _. (
         large-typing,
         λ n t b.
             let (ln, lt) = inside n t b in
-            largest-over rep (found .largest) (on small) (small-typing .sound) n t ln lt (small-holds n t b),
+            largest-over rep (found .largest) (on small) (accepted-sound a .sound) n t ln lt (accepted-holds a n t b),
       );
       between = λ _ h w holds. (
         λ n t ln lt e. sound-over rep inside (on h) (w .sound) holds (a .closure .only n t ln lt e),
@@ -69,26 +70,13 @@ module _ {s : Sheet} {B : Board} (rep : Represents s B) {large : List ℕ} {said
       bound = largest-bound rep (found .largest);
     }
       where
-        small-typing : SoundTyping s small
-        small-typing =
-            record { typing = a .typing; sound = λ n t ln lt e. a .met n t (a .closure .only n t ln lt e) }
-
-        small-holds : Holds s Booked (on small)
-        small-holds n t b = a .closure .has n t (booked b)
-
         same-pairs : {k : ℕ} → pairs m ≡ pairs k → k ≡ m
         same-pairs e = cc
 
     turned-down-demand : (n t : ℕ) → TurnedDown s Booked small n t
         → Demand3 s Booked large (found .rounds) (found .struck) (found .bare) small (notMet n t)
     turned-down-demand n t a = record {
-      turned-down = (
-        λ _ h w holds.
-            let (ln, lt) = closure-in rep inside (a .inside) in
-            a .unmet (met-again rep inside (a .set) (a .closure) (a .inside) (on h)
-            (w .sound n t ln lt (sound-over rep inside (on h) (w .sound) holds (a .inside)))),
-        λ _. tt,
-      );
+      turned-down = (λ _ h w holds. turned-down-never rep inside a (on h) (w .sound) holds, λ _. tt);
       small-sound = λ accepted. absurd (accepted tt);
       large-sound = λ accepted. absurd (accepted tt);
       between = λ accepted. absurd (accepted tt);

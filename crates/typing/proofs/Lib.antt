@@ -18,3 +18,6 @@ pub mod Existence
 pub mod Numbers
 pub mod Adequate
 pub mod Apart
+pub mod Verdicts
+pub mod Values
+pub mod Judging

@@ -1,27 +1,35 @@
--- Which numbers the calls refuse with at one place: the template's, the script's, the bookings' and 40.
+-- Which numbers the calls refuse with at one place: the template's, the script's, the bookings', 40, and of a grid that
+-- is judged 61 and 63.
 --   LargestNumber, largest-numbers      of the call for the largest
 --   SmallestNumber, smallest-numbers, both-numbers   of the calls for the smallest and for both
+--   JudgeNumber, judge-numbers          of the judge; its other number, 62, has two words for its place
 -- Assumes nothing.
 use Prim.Native.Nat.{ℕ}
-use mathlib.Core.Path.{_≡_, refl}
+use mathlib.Core.Path.{_≡_, refl, sym, ap, subst}
 use mathlib.Core.Logic.{_⊎_, inl, inr}
 use mathlib.Core.Bool.{not}
 use mathlib.Core.List.{List}
 use lib.ListN.{length}
 use lib.Dec.{eqb}
-use Rattle.words.specs.Reading.{Reading, accepted, then}
+use Rattle.words.specs.Said.{refusal}
+use Rattle.words.specs.Reading.{Reading, accepted, turnedDown, then}
+use Rattle.words.proofs.Said.{values-refusal, refusal-number, refusal-place}
 use Rattle.words.proofs.Readings.{Numbered, refuse-numbered, then-numbered, mapped-numbered, numbered-map}
 use Rattle.sheet.specs.Sheet.{Sheet, size, readSheet}
 use Rattle.sheet.proofs.Accepted.{SheetNumber, sheet-numbers}
 use Rattle.bookings.specs.Bookings.{readBookings}
 use Rattle.bookings.proofs.Reading.{BookingNumber, bookings-numbers}
 use Rattle.typing.specs.Calls.{withBookings, withGrid, largestReading, smallestReading, Grids, bothReading}
+use Rattle.typing.specs.Judge.{Verdict, over, unmet, unheld, passes, verdictSaid, JudgeAnswered, JudgeSays}
 
 abbrev pub LargestNumber : ℕ → Type 0
 LargestNumber n = SheetNumber n ⊎ (n ≡ 40)
 
 abbrev pub SmallestNumber : ℕ → Type 0
 SmallestNumber n = LargestNumber n ⊎ BookingNumber n
+
+abbrev pub JudgeNumber : ℕ → Type 0
+JudgeNumber n = SmallestNumber n ⊎ (n ≡ 61) ⊎ (n ≡ 63)
 
 -- The refusal of a grid.
 module _ (Number : ℕ → Type 0) (forty : Number 40) where
@@ -56,3 +64,26 @@ module _ (template script : List ℕ) where
     both-numbers grids =
         grid-numbers SmallestNumber (inl (inr refl)) (grids .large)
         (smallestReading template script bookings (grids .small)) (smallest-numbers (grids .small))
+
+-- ---- the judge
+-- A number with one place, or 62 with a card and a shape.
+abbrev JudgeRefusal : ℕ → List ℕ → Type 0
+JudgeRefusal number at = JudgeNumber number ⊎ ((number ≡ 62) × (length at ≡ 2))
+
+verdict-numbers : (v : Verdict) (number : ℕ) (at : List ℕ) → refusal number at ≡ verdictSaid v → JudgeRefusal number at
+verdict-numbers (over p) number at e = inl (inr (inl (refusal-number e)))
+verdict-numbers (unmet n t) number at e = inr (refusal-number e, ap length (refusal-place e))
+verdict-numbers (unheld i) number at e = inl (inr (inr (refusal-number e)))
+verdict-numbers passes number at e = values-refusal (sym e)
+
+judge-by : (r : Reading Sheet) (bookings grid : List ℕ) (number : ℕ) (at : List ℕ) → Numbered SmallestNumber r
+    → JudgeAnswered r bookings grid (refusal number at) → JudgeRefusal number at
+judge-by (turnedDown n p) bookings grid number at h x = inl (inl (subst SmallestNumber (sym (refusal-number x)) h))
+judge-by (accepted s) bookings grid number at h x = verdict-numbers (x .verdict) number at (x .says)
+
+pub judge-numbers : (template script bookings grid : List ℕ) (number : ℕ) (at : List ℕ)
+    → JudgeSays template script bookings grid (refusal number at)
+    → JudgeNumber number ⊎ ((number ≡ 62) × (length at ≡ 2))
+judge-numbers template script bookings grid number at =
+    judge-by (smallestReading template script bookings grid) bookings grid number at
+    (smallest-numbers template script bookings grid)

@@ -5,6 +5,8 @@
 --   closure-unique, closure-alike   two sets that are the closure agree, and sets that agree are both or neither
 --   closure-met     a pair of the closure is met under it exactly if it is ok on the board
 --   met-again       what is met under some set is met under the closure
+--   accepted-sound, accepted-holds   a grid that is accepted is a sound typing and holds the bookings
+--   turned-down-never                no sound set holds bookings that are turned down
 --   PlaceOf, booked-in, flooded-closure   what the search finds from the bookings' places is the closure
 --   smallest-accepted, smallest-turned-down   and the answer by its places that are not ok
 --   pairs-found, not-met-found                and what the call says
@@ -24,7 +26,7 @@ use Rattle.board.proofs.Tally.{tally-ext}
 use Rattle.script.specs.Link.{near, label, far}
 use Rattle.words.specs.Said.{values, refusal}
 use Rattle.sheet.specs.Sheet.{Sheet, partOf, place, size}
-use Rattle.typing.specs.Typing.{Pairs, Has, Met, Sound, Holds, Typing}
+use Rattle.typing.specs.Typing.{Pairs, Has, Met, Sound, Holds, Typing, SoundTyping}
 use Rattle.typing.specs.Smallest.{Closure, booked, follow, IsClosure, Accepted, TurnedDown}
 use Rattle.typing.specs.Demand3.{pairs, notMet}
 use Rattle.typing.specs.Calls.{SmallestFound}
@@ -41,6 +43,14 @@ pub record PlaceOf (s : Sheet) (Pair : ℕ → ℕ → Type 0) (p : ℕ) : Type 
 -- Every booking is of a card and a shape of the sheet.
 abbrev pub BookedIn : Sheet → (ℕ → ℕ → Type 0) → Type 0
 BookedIn s Booked = (n t : ℕ) → Booked n t → (n < s .cards) × (t < s .shapes)
+
+-- What is accepted is the closure, and each pair of it is met.
+module _ {s : Sheet} {Booked : ℕ → ℕ → Type 0} {grid : List ℕ} {m : ℕ} (a : Accepted s Booked grid m) where
+  pub accepted-sound : SoundTyping s grid
+  accepted-sound = record { typing = a .typing; sound = λ n t ln lt e. a .met n t (a .closure .only n t ln lt e) }
+
+  pub accepted-holds : Holds s Booked (on grid)
+  accepted-holds n t b = a .closure .has n t (booked b)
 
 module _ {s : Sheet} {B : Board} (rep : Represents s B) {Booked : ℕ → ℕ → Type 0} (inside : BookedIn s Booked) where
   pub closure-in : {n t : ℕ} → Closure s Booked n t → (n < s .cards) × (t < s .shapes)
@@ -102,6 +112,13 @@ module _ {s : Sheet} {B : Board} (rep : Represents s B) {Booked : ℕ → ℕ �
     met-again X m =
         let (ln, lt) = closure-in c in
         closure-met .0 (rep .lawful .met-ok X (place s n t) (rep .met-exact X n t ln lt .1 m))
+
+  pub turned-down-never : {grid : List ℕ} {n t : ℕ} → TurnedDown s Booked grid n t
+      → (X : Pairs) → Sound s X → Holds s Booked X → ⊥
+  turned-down-never {grid} {n} {t} a X sound holds =
+      let (ln, lt) = closure-in (a .inside) in
+      a .unmet (met-again (a .set) (a .closure) (a .inside) X
+      (sound n t ln lt (sound-over X sound holds (a .inside))))
 
   -- ---- the closure on the board
   pub booked-in : (p : ℕ) → PlaceOf s Booked p → p < B .size

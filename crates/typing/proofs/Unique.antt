@@ -1,19 +1,20 @@
 -- The contracts of the calls for the typings leave no choice: two answers to one call are the same.
 --   typing-unique           a typing is its pairs
 --   largest-found-unique, smallest-found-unique, both-found-unique   of one sheet there is one answer
+--   card-unique, shape-unique   a card, and a shape, is its number
 --   largest-said-unique, smallest-said-unique, both-said-unique      of one saying one case of the enum
 --   largest-says-unique, smallest-says-unique, both-says-unique      of one input one answer and one grid
 -- Assumes nothing.
 use Prim.Native.Nat.{ℕ, _<_}
 use mathlib.Core.Path.{_≡_, refl, sym, ap, _∙_}
-use mathlib.Core.Logic.{_⊎_, inl, inr, ⊎-elim}
+use mathlib.Core.Logic.{_⊎_, inl, inr}
 use mathlib.Core.List.{List}
 use native.Mathlib.Omega.{arith}
 use lib.ListN.{getD}
 use lib.Seq.{ext-getD}
 use Rattle.board.specs.Grid.{on}
 use Rattle.board.specs.Board.{Board}
-use Rattle.words.proofs.Bools.{le-or-lt}
+use Rattle.words.proofs.Bools.{neither-below}
 use Rattle.board.proofs.Grids.{on-yes, on-byte}
 use Rattle.board.proofs.Tally.{tally-ext}
 use Rattle.words.specs.Said.{Said}
@@ -77,10 +78,8 @@ module _ {s : Sheet} {B : Board} (rep : Represents s B) where
     turned-down-unique {g} {h} {n} {t} {m} {u} x y =
         let (ln, lt) = closure-in rep inside (x .inside) in
         let (lm, lu) = closure-in rep inside (y .inside) in
-        place-unique (s .shapes) (rep .one-shape) n t m u lt lu (⊎-elim
-        (λ a. ⊎-elim (λ b. omega arith) (λ b. absurd (not-below x y b)) (le-or-lt (place s m u) (place s n t)))
-        (λ a. absurd (not-below y x a))
-        (le-or-lt (place s n t) (place s m u)))
+        place-unique (s .shapes) (rep .one-shape) n t m u lt lu
+        (neither-below (place s n t) (place s m u) (not-below x y) (not-below y x))
 
     pub outcome-unique : {g h : List ℕ} (o q : Outcome) → Leaves s Wanted g o → Leaves s Wanted h q → (o ≡ q) × (g ≡ h)
     outcome-unique {g} {h} (pairs m) (pairs k) x y =
@@ -109,10 +108,10 @@ module _ {s : Sheet} {B : Board} (rep : Represents s B) where
         (l, m, em, el)
 
 -- ---- of one saying one case of the enum
-card-unique : {n m : Card} → n .0 ≡ m .0 → n ≡ m
+pub card-unique : {n m : Card} → n .0 ≡ m .0 → n ≡ m
 card-unique e = ap (λ (x : ℕ). record { 0 = x }) e
 
-shape-unique : {t u : Shape} → t .0 ≡ u .0 → t ≡ u
+pub shape-unique : {t u : Shape} → t .0 ≡ u .0 → t ≡ u
 shape-unique e = ap (λ (x : ℕ). record { 0 = x }) e
 
 pub largest-said-unique : (a b : LargestAnswer) → largestSaid a ≡ largestSaid b → a ≡ b

@@ -1,4 +1,5 @@
--- What each case of the enums `LargestAnswer`, `SmallestAnswer` and `BothAnswer` says (docs/FORMAT.md, "Operations").
+-- What each case of the enums `LargestAnswer`, `SmallestAnswer`, `BothAnswer` and `JudgeAnswer` says (docs/FORMAT.md,
+-- "Operations").
 -- Assumes nothing.
 use mathlib.Core.List.{[], _∷_}
 use Rattle.words.specs.Said.{Said, values, refusal}
@@ -8,6 +9,8 @@ use Rattle.typing.specs.declared.SmallestAnswer.{SmallestAnswer}
 use Rattle.typing.specs.declared.SmallestAnswer.the-variants as small
 use Rattle.typing.specs.declared.BothAnswer.{BothAnswer}
 use Rattle.typing.specs.declared.BothAnswer.the-variants as both
+use Rattle.typing.specs.declared.JudgeAnswer.{JudgeAnswer}
+use Rattle.typing.specs.declared.JudgeAnswer.the-variants as judge
 
 -- Typed: rounds, pairs struck, cards with some link and no shape. Refused: a template's or a script's number and place,
 -- or 40.
@@ -34,3 +37,9 @@ bothSaid (both.NotMet rounds struck bare card shape) =
     record { largest = values (rounds ∷ struck ∷ bare ∷ []); smallest = refusal 50 (card .0 ∷ shape .0 ∷ []) }
 bothSaid (both.Refused number place) =
     record { largest = refusal number (place ∷ []); smallest = refusal number (place ∷ []) }
+
+-- Accepted: there is no number to say. NotMet: 62, with a card and a shape for its place. Refused: the others.
+abbrev pub judgeSaid : JudgeAnswer → Said
+judgeSaid judge.Accepted = values []
+judgeSaid (judge.NotMet card shape) = refusal 62 (card .0 ∷ shape .0 ∷ [])
+judgeSaid (judge.Refused number place) = refusal number (place ∷ [])

@@ -1,4 +1,5 @@
--- The promise: Typing, Largest, Smallest, Demand3, what the typings are; Answer and Calls, what the calls answer.
+-- The promise: Typing, Largest, Smallest, Demand3, what the typings are; Answer, Calls and Judge, what the
+-- calls answer.
 -- Needs: the board of a sheet; no part of a promise.
 pub mod Needs
 pub mod Typing
@@ -7,3 +8,4 @@ pub mod Smallest
 pub mod Demand3
 pub mod Answer
 pub mod Calls
+pub mod Judge

@@ -1,5 +1,5 @@
-// The two typings of a script: the largest that it allows, and the smallest that holds the bookings. Here are the
-// answers of the calls; the definitions are in specs/, the theory in proofs/.
+// The two typings of a script: the largest that it allows, and the smallest that holds the bookings; and grids of other
+// makers, which are judged. Here are the answers of the calls; the definitions are in specs/, the theory in proofs/.
 use script::Card;
 use template::Shape;
 
@@ -21,5 +21,12 @@ pub enum SmallestAnswer {
 pub enum BothAnswer {
     Typed(usize, usize, usize, usize),
     NotMet(usize, usize, usize, Card, Shape),
+    Refused(u16, usize),
+}
+
+// The grid is accepted; the lowest pair of it that is not met; or what else is refused: number and place.
+pub enum JudgeAnswer {
+    Accepted,
+    NotMet(Card, Shape),
     Refused(u16, usize),
 }

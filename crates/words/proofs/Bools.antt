@@ -8,6 +8,7 @@
 --   or-cases, or-left, or-right, same-true   a disjunction and its sides; tests that are the same
 --   cond-case, bool-case                     both ways of a test
 --   le-or-lt, eq-or-ne, last-or-below        how two numbers stand
+--   neither-below            two numbers of which neither is below the other are one
 -- Assumes nothing.
 use mathlib.Core.Path.{_≡_, refl, sym, _∙_, subst}
 use mathlib.Core.Logic.{_⊎_, inl, inr, ⊎-elim, _≢_}
@@ -62,6 +63,12 @@ le-or-lt a b = decided (decLe a b)
     decided : Dec (a ≤ b) → (a ≤ b) ⊎ (b < a)
     decided (yes h) = inl h
     decided (no h) = inr (omega arith)
+
+pub neither-below : (a b : ℕ) → (a < b → ⊥) → (b < a → ⊥) → a ≡ b
+neither-below a b f g = ⊎-elim
+    (λ l. ⊎-elim (λ m. omega arith) (λ m. absurd (f m)) (le-or-lt b a))
+    (λ l. absurd (g l))
+    (le-or-lt a b)
 
 pub eq-or-ne : (a b : ℕ) → (a ≡ b) ⊎ (a ≢ b)
 eq-or-ne a b = decided (ℕ-discrete a b)

@@ -1,5 +1,6 @@
 -- What is said tells itself apart.
 --   values-refusal   values are no refusal
+--   refusal-number, refusal-place   a refusal has one number and one place
 -- Assumes nothing.
 use mathlib.Core.Path.{_≡_}
 use mathlib.Core.List.{List}
@@ -9,3 +10,9 @@ use Rattle.words.specs.Said.{values, refusal}
 
 pub values-refusal : {A : Type 0} {xs places : List ℕ} {number : ℕ} → values xs ≡ refusal number places → A
 values-refusal e = let z : _≡_ {A = ℕ} 0 1 = cc in absurd (omega arith)
+
+pub refusal-number : {n m : ℕ} {at to : List ℕ} → refusal n at ≡ refusal m to → n ≡ m
+refusal-number e = cc
+
+pub refusal-place : {n m : ℕ} {at to : List ℕ} → refusal n at ≡ refusal m to → at ≡ to
+refusal-place e = cc

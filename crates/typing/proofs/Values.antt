@@ -1,0 +1,59 @@
+-- Values are said only of a sheet that is read.
+--   largest-values, both-values     of the calls for the largest and for both: the sheet, and what was found of it
+--   smallest-values, judge-values   of the others: the sheet, and that the grid is a sound typing with the bookings
+-- Assumes nothing.
+use Prim.Native.Nat.{ℕ}
+use mathlib.Core.Path.{_≡_, refl, sym, ap, _∙_}
+use mathlib.Core.List.{List, []}
+use Rattle.words.specs.Said.{Said, values}
+use Rattle.words.specs.Reading.{Reading, accepted, turnedDown}
+use Rattle.words.proofs.Said.{values-refusal}
+use Rattle.sheet.specs.Sheet.{Sheet}
+use Rattle.bookings.specs.Bookings.{Booked}
+use Rattle.typing.specs.Demand3.{Outcome, pairs, notMet}
+use Rattle.typing.specs.Answer.{BothSaid}
+use Rattle.typing.specs.Calls.{Grids, Leaves, outcomeSaid, LargestFound, LargestAnswered, SmallestFound}
+use Rattle.typing.specs.Calls.{SmallestAnswered, BothFound, BothAnswered}
+use Rattle.typing.specs.Judge.{Verdict, over, unmet, unheld, passes, verdictSaid, Passes, Judged, JudgeAnswered}
+use Rattle.typing.proofs.Smallest.{accepted-sound, accepted-holds}
+
+pub largest-values : (r : Reading Sheet) (before after found : List ℕ)
+    → LargestAnswered r before after (values found)
+    → (s : Sheet) × (r ≡ accepted s) × LargestFound s after (values found)
+largest-values (accepted s) before after found x = (s, refl, x)
+largest-values (turnedDown number place) before after found x = values-refusal (x .0)
+
+module _ (Wanted : ℕ → ℕ → Type 0) where
+  -- a number of pairs is said of bookings that are accepted
+  pairs-by : (s : Sheet) (grid found : List ℕ) (o : Outcome) → values found ≡ outcomeSaid o → Leaves s Wanted grid o
+      → Passes s Wanted grid
+  pairs-by s grid found (pairs m) e a = record { sound = accepted-sound a; holds = accepted-holds a }
+  pairs-by s grid found (notMet n t) e a = values-refusal e
+
+  pub smallest-values : (r : Reading Sheet) (before after found : List ℕ)
+      → SmallestAnswered r Wanted before after (values found)
+      → (s : Sheet) × (r ≡ accepted s) × Passes s Wanted after
+  smallest-values (accepted s) before after found x =
+      (s, refl, pairs-by s after found (x .outcome) (x .says) (x .leaves))
+  smallest-values (turnedDown number place) before after found x = values-refusal (x .0)
+
+  pub both-values : (r : Reading Sheet) (before after : Grids) (said : BothSaid) (found : List ℕ)
+      → said .smallest ≡ values found → BothAnswered r Wanted before after said
+      → (s : Sheet) × (r ≡ accepted s) × BothFound s Wanted (after .small) (after .large) said
+  both-values (accepted s) before after said found e x = (s, refl, x)
+  both-values (turnedDown number place) before after said found e x =
+      values-refusal (sym e ∙ ap (λ (z : BothSaid). z .smallest) (x .0))
+
+-- the verdict of which there is nothing to say
+passes-by : (s : Sheet) (bookings grid : List ℕ) (v : Verdict) → values [] ≡ verdictSaid v → Judged s bookings grid v
+    → Passes s (Booked bookings) grid
+passes-by s bookings grid (over p) e x = values-refusal e
+passes-by s bookings grid (unmet n t) e x = values-refusal e
+passes-by s bookings grid (unheld i) e x = values-refusal e
+passes-by s bookings grid passes e x = x
+
+pub judge-values : (r : Reading Sheet) (bookings grid : List ℕ) → JudgeAnswered r bookings grid (values [])
+    → (s : Sheet) × (r ≡ accepted s) × Passes s (Booked bookings) grid
+judge-values (accepted s) bookings grid x =
+    (s, refl, passes-by s bookings grid (x .verdict) (x .says) (x .right))
+judge-values (turnedDown number place) bookings grid x = values-refusal x
