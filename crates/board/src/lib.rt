@@ -1,7 +1,9 @@
 // A grid of bytes, 1 where a place is on, and a queue of places: what the searches for both typings do with them.
 ghost use mathlib.Core.Path.{_≡_};
 ghost use lib.Dec.{eqb};
-ghost use lib.ListN.{length, replicate};
+ghost use lib.ListN.{length, getD, replicate};
+ghost use Prim.Native.Nat.{_<_};
+ghost use Rattle.words.specs.First.{First};
 ghost use Rattle.board.specs.Grid.{on, tally};
 ghost use Rattle.board.specs.Machine.{Flipped, FirstMissing};
 ghost use Rattle.board.specs.Work.{work, strikeOne, Lent, Strikable};
@@ -86,6 +88,20 @@ pub fn first_missing(wanted: &[u8], had: &[u8]) -> usize
     let mut place = 0;
     while place < wanted.len() {
         if wanted[place] == 1 && had[place] != 1 {
+            return place;
+        }
+        place += 1;
+    }
+    place
+}
+
+// Finds the first byte that is over 1: the length where there is none.
+pub fn first_over(grid: &[u8]) -> usize
+    ensures { λ r. ⌜ First (λ p. 1 < getD (now (grid .entry)) p 0) (length (now (grid .entry))) r ⌝ }
+{
+    let mut place = 0;
+    while place < grid.len() {
+        if 1 < grid[place] {
             return place;
         }
         place += 1;

@@ -10,7 +10,7 @@
 use mathlib.Core.Path.{_≡_, refl, sym, ap, _∙_, subst}
 use mathlib.Core.Logic.{_⊎_, inl, inr, ⊎-elim, _↔_}
 use mathlib.Core.List.{List}
-use Prim.Native.Nat.{ℕ, suc, _+_, _-_, _*_, _/_, _%_, _≤_, _<_}
+use Prim.Native.Nat.{ℕ, suc, _+_, _*_, _/_, _%_, _≤_, _<_}
 use native.Mathlib.Nat.{eq-or-lt-of-le}
 use native.Mathlib.Omega.{arith}
 use lib.ListN.{length, getD}
@@ -23,7 +23,7 @@ use Rattle.search.specs.Strikes.{NamedGood, TargetGood}
 use Rattle.search.specs.Follows.{CardGood}
 use Rattle.words.proofs.Places.{place-in, place-from, card-in, shape-in, place-of, card-of, shape-of}
 use Rattle.search.proofs.Walks.{Later}
-use Rattle.typing.proofs.Boards.{entry-shape}
+use Rattle.typing.proofs.Boards.{entry-shape, led-in}
 
 -- ---- the words of a link
 pub near-word : (script : List ℕ) (i : ℕ) → getD script (2 + 3 * i) 0 ≡ near script i
@@ -122,11 +122,8 @@ module _ {script names : List ℕ} {shapes : ℕ} (ready : Ready script names sh
 
   pub card-in-grid : {lo hi t : ℕ} → t < shapes → hi ≤ getD script 1 0
       → (p : ℕ) → CardGood script names shapes lo hi t p → p < getD script 0 0 * shapes
-  card-in-grid {t = t} lt lh p g =
-      let li : g .link < getD script 1 0 = omega (arith, g .high) in
-      subst (λ (x : ℕ). x < getD script 0 0 * shapes) (sym (g .at))
-      (place-in (getD script 0 0) shapes (far script (g .link)) (g .shape) (ready .far-in (g .link) li)
-      (entry-shape ready t (g .link) (g .shape) lt li (g .names-it)))
+  card-in-grid {t = t} lt lh p g = subst (λ (x : ℕ). x < getD script 0 0 * shapes) (sym (g .at))
+      (led-in ready t (g .link) (far script (g .link)) (g .shape) lt (omega (arith, g .high)) refl (g .names-it))
 
 -- ---- the links to a card, by their chain
 -- Link i makes good the pairs of its card whose shape names u for its label.

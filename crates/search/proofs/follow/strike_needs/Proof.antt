@@ -1,6 +1,6 @@
 -- `search::strike_needs` strikes what a card's links lead to. The invariant: what those below i lead to is struck.
 -- Assumes nothing.
-use mathlib.Core.Path.{subst, _≡_, sym, _∙_, ap}
+use mathlib.Core.Path.{subst, _≡_, refl, sym, _∙_, ap}
 use mathlib.Core.Logic.{⊎-elim}
 use Prim.Native.Nat.{ℕ, suc, _<_, _≤_, _+_, _*_, _-_}
 use native.Mathlib.Omega.{arith}
@@ -13,8 +13,7 @@ use Rattle.board.specs.Work.{Work, work, strikeOne, Swept}
 use Rattle.board.proofs.Worklist.{swept-grid, swept-queue, swept-room}
 use Rattle.typing.specs.Needs.{entryAt}
 use Rattle.search.specs.Follows.{CardGood}
-use Rattle.words.proofs.Places.{place-in}
-use Rattle.typing.proofs.Boards.{pairs-bound, entry-shape}
+use Rattle.typing.proofs.Boards.{pairs-bound, led-in}
 use Rattle.search.proofs.Needs.{label-word, far-word, card-in-grid, card-none, card-hit, card-miss}
 use Rattle.search.proofs.follow.strike_needs.Statement.{statement}
 use Rattle.search.proofs.follow.strike_needs.Tie as tie
@@ -101,16 +100,10 @@ pair-in a h =
     let i = Turn a in
     let l = i .before in
     let s = Start l in
-    let ready = s .pre .ready in
-    let u = a .byte .result - 1 in
     let to = far (now (s .args .script)) (l .loop .i) in
-    let is-shape = entry-shape ready (s .args .t) (l .loop .i) u (s .pre .shape-in) (link-in i) (entry-suc a h) in
-    omega (
-      arith,
-      s .pre .full,
-      place-in (getD (now (s .args .script)) 0 0) (s .args .shapes) to u
-          (ready .far-in (l .loop .i) (link-in i)) is-shape,
-    )
+    let on-board = led-in (s .pre .ready) (s .args .t) (l .loop .i) to (a .byte .result - 1) (s .pre .shape-in)
+    (link-in i) refl (entry-suc a h) in
+    omega (arith, on-board, s .pre .full)
 
 -- as the code computes its place
 place-is : (a : tie.After-byte Inv-loop μ-loop) → let l = Turn a .before in

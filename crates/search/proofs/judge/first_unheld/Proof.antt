@@ -1,0 +1,147 @@
+-- `search::first_unheld` finds the first booking that the grid does not hold. The invariant: none of the first `i` is
+-- such a booking. Assumes nothing.
+use Prim.Native.Nat.{ℕ, _*_, _+_, _-_, _<_, _≤_}
+use native.Mathlib.Omega.{arith}
+use lib.ListN.{length}
+use denote.Ref.{now}
+use borrow.Author.Count.{below-more}
+use borrow.Author.Needs.{needs}
+use Rattle.board.proofs.Grids.{on-yes, on-no}
+use Rattle.search.specs.Judging.{Missing}
+use Rattle.search.proofs.Judging.{booked-in-grid, missing-here, held-here}
+use Rattle.search.proofs.judge.first_unheld.Statement.{statement}
+use Rattle.search.proofs.judge.first_unheld.Tie as tie
+
+abbrev Inv-loop : tie.InvT-loop
+Inv-loop bookings count shapes grid pairs i₀ i =
+    ((q : ℕ) → q < i → Missing bookings shapes grid q → ⊥) × (i ≤ count)
+
+abbrev μ-loop : tie.MeasureT-loop
+μ-loop bookings count shapes grid pairs i₀ i = count - i
+
+-- the function's entry, from the loop
+abbrev Start : tie.At-loop Inv-loop μ-loop → tie.Start Inv-loop μ-loop
+Start l = l .before .before .before .before
+
+-- a turn: the booking's card is read, and its shape
+abbrev Card : tie.After-wide3 Inv-loop μ-loop → tie.After-wide2 Inv-loop μ-loop
+Card a = a .before .before
+
+abbrev Turn : tie.After-wide3 Inv-loop μ-loop → tie.In-loop Inv-loop μ-loop
+Turn a = Card a .before .before
+
+-- the place that is read
+abbrev Place : tie.After-wide3 Inv-loop μ-loop → ℕ
+Place a = Card a .wide2 .result * Start (Turn a .before) .args .shapes + a .wide3 .result
+
+place-in-grid : (a : tie.After-wide3 Inv-loop μ-loop) → Place a < length (now (Start (Turn a .before) .args .grid))
+place-in-grid a =
+    let s = Start (Turn a .before) in
+    booked-in-grid (s .pre) (omega arith) (Card a .wide2 .ensures .same) (a .wide3 .ensures .same)
+
+wide-requires : tie.Need-wide-requires Inv-loop μ-loop
+wide-requires c κs = search needs
+
+loop-holds : tie.Need-loop-holds Inv-loop μ-loop
+loop-holds c = (λ q l. absurd (omega arith), omega arith)
+
+mul-wide : tie.Need-mul-wide Inv-loop μ-loop
+mul-wide c = search needs
+
+add-wide : tie.Need-add-wide Inv-loop μ-loop
+add-wide c = search needs
+
+mul-wide-2 : tie.Need-mul-wide-2 Inv-loop μ-loop
+mul-wide-2 c = search needs
+
+shared-slice-read-wide : tie.Need-shared-slice-read-wide Inv-loop μ-loop
+shared-slice-read-wide c = search needs
+
+wide-requires-2 : tie.Need-wide-requires-2 Inv-loop μ-loop
+wide-requires-2 c κs = search needs
+
+mul-wide-3 : tie.Need-mul-wide-3 Inv-loop μ-loop
+mul-wide-3 c = search needs
+
+add-wide-2 : tie.Need-add-wide-2 Inv-loop μ-loop
+add-wide-2 c = search needs
+
+mul-wide-4 : tie.Need-mul-wide-4 Inv-loop μ-loop
+mul-wide-4 c = search needs
+
+shared-slice-read-wide-2 : tie.Need-shared-slice-read-wide-2 Inv-loop μ-loop
+shared-slice-read-wide-2 c = search needs
+
+wide-requires-3 : tie.Need-wide-requires-3 Inv-loop μ-loop
+wide-requires-3 c κs = search needs
+
+mul-if1 : tie.Need-mul-if1 Inv-loop μ-loop
+mul-if1 c = omega (arith, place-in-grid c)
+
+add-if1 : tie.Need-add-if1 Inv-loop μ-loop
+add-if1 c = omega (arith, place-in-grid c)
+
+shared-slice-read-if1 : tie.Need-shared-slice-read-if1 Inv-loop μ-loop
+shared-slice-read-if1 c = omega (arith, place-in-grid (c .before))
+
+returns : tie.Need-returns Inv-loop μ-loop
+returns c =
+    let a = c .before .before in
+    let l = Turn a .before in
+    let s = Start l in
+    record {
+      within = l .loop .inv .1;
+      before = l .loop .inv .0;
+      here = λ below. missing-here (s .pre) below (Card a .wide2 .ensures .same) (a .wide3 .ensures .same)
+          (on-no (now (s .args .grid)) (Place a) (c .if1 .taken));
+    }
+
+add-i : tie.Need-add-i Inv-loop μ-loop
+add-i c = search needs
+
+loop-less : tie.Need-loop-less Inv-loop μ-loop
+loop-less c = search needs
+
+loop-again : tie.Need-loop-again Inv-loop μ-loop
+loop-again c =
+    let a = c .before .before in
+    let l = Turn a .before in
+    let s = Start l in (
+      below-more (λ q. Missing (now (s .args .bookings)) (s .args .shapes) (now (s .args .grid)) q → ⊥)
+          (l .loop .i) (l .loop .inv .0)
+          (held-here (s .pre) (omega arith) (Card a .wide2 .ensures .same) (a .wide3 .ensures .same)
+          (on-yes (now (s .args .grid)) (Place a) (c .if1 .left))),
+      omega arith,
+    )
+
+returns-2 : tie.Need-returns-2 Inv-loop μ-loop
+returns-2 c =
+    let l = c .before in
+    record { within = l .loop .inv .1; before = l .loop .inv .0; here = λ below. absurd (omega arith) }
+
+pub first-unheld-spec : {M : Type 1} → statement M
+first-unheld-spec =
+    tie.close
+    (tie.spec
+    Inv-loop
+    μ-loop
+    wide-requires
+    loop-holds
+    mul-wide
+    add-wide
+    mul-wide-2
+    shared-slice-read-wide
+    wide-requires-2
+    mul-wide-3
+    add-wide-2
+    mul-wide-4
+    shared-slice-read-wide-2
+    wide-requires-3
+    mul-if1
+    add-if1
+    shared-slice-read-if1
+    returns
+    add-i
+    loop-less
+    loop-again
+    returns-2)
