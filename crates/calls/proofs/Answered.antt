@@ -2,6 +2,7 @@
 --   largest-refused, largest-size, largest-done             of the call for the largest
 --   smallest-refused, smallest-size, smallest-done          of the call for the smallest
 --   both-refused, both-small, both-large, both-done         of the call for both
+--   judge-refused, judge-size, judge-done                   of the call that judges a grid
 -- Assumes nothing.
 use Prim.Native.Nat.{ℕ}
 use mathlib.Core.Path.{_≡_, refl}
@@ -15,6 +16,7 @@ use Rattle.bookings.specs.Bookings.{Booked}
 use Rattle.typing.specs.Answer.{BothSaid}
 use Rattle.typing.specs.Calls.{withBookings, LargestFound, LargestSays, SmallestFound, SmallestSays, BothFound, Grids}
 use Rattle.typing.specs.Calls.{BothSays}
+use Rattle.typing.specs.Judge.{JudgeFound, JudgeSays}
 
 -- One refusal for both calls.
 abbrev twice : ℕ → ℕ → BothSaid
@@ -45,6 +47,9 @@ module _ (template script : List ℕ) where
       pub both-refused : (grids : Grids) → BothSays template script bookings grids grids (twice number place)
       both-refused grids = rw h (refl, refl)
 
+      pub judge-refused : (grid : List ℕ) → JudgeSays template script bookings grid (refusal number (place ∷ []))
+      judge-refused grid = rw h refl
+
     module _ (s : Sheet) (h : then (readSheet template script) (withBookings bookings) ≡ accepted s) where
       pub smallest-size : (grid : List ℕ) → (length grid ≡ size s → ⊥)
           → SmallestSays template script bookings grid grid (refusal 40 (0 ∷ []))
@@ -70,3 +75,11 @@ module _ (template script : List ℕ) where
           → BothSays template script bookings before after said
       both-done before after said e f same found =
           rw (same, h, eq-eqb (length (before .small)) (size s) e, eq-eqb (length (before .large)) (size s) f) found
+
+      pub judge-size : (grid : List ℕ) → (length grid ≡ size s → ⊥)
+          → JudgeSays template script bookings grid (refusal 40 (0 ∷ []))
+      judge-size grid ne = rw (h, ne-eqb (length grid) (size s) ne) refl
+
+      pub judge-done : (grid : List ℕ) (said : Said) → length grid ≡ size s → JudgeFound s bookings grid said
+          → JudgeSays template script bookings grid said
+      judge-done grid said e found = rw (h, eq-eqb (length grid) (size s) e) found

@@ -5,6 +5,7 @@
 -- Listed        a sheet with its table of names and a booking list, all read; BookedAs: what reading them finds
 -- Sized, Lent   what is read, with a grid or two grids of the sheet's size
 -- Settling      what settling the bookings asks for
+-- Judging       what is read, with a grid that is judged; JudgingTested: its pairs tested, and one of zeros and ones
 -- CountedAs     a sheet has these words of its script and these counts
 -- Rows          a grid has a row of shapes for each card, and links are among the cards
 -- struckSaid, settledSaid, bothOf   what the two searches say, and both
@@ -16,6 +17,7 @@ use lib.ListN.{length}
 use Rattle.words.specs.Said.{Said, values, refusal}
 use Rattle.words.specs.Limits.{maxCards, maxShapes}
 use Rattle.words.specs.Reading.{accepted, turnedDown, then}
+use Rattle.board.specs.Machine.{Marks}
 use Rattle.script.specs.Steps.{StartsOf, LinksAmong}
 use Rattle.sheet.specs.Sheet.{Sheet, readSheet}
 use Rattle.sheet.specs.Opened.{Known}
@@ -79,6 +81,18 @@ pub record Settling (script names : List ℕ) (e : Extent) (fitting bookings : L
   pub list : readBookings (e .cards) (e .shapes) bookings ≡ accepted count
   pub links : StartsOf script starts (e .cards) (e .links)
   pub size : length grid ≡ e .cards * e .shapes
+
+-- A sheet with a booking list, and a grid of its size.
+pub record Judging (template script names : List ℕ) (e : Extent) (bookings : List ℕ) (count : ℕ) (grid : List ℕ)
+    : Type 0 where
+  pub listed : Listed template script names e bookings count
+  pub size : length grid ≡ e .cards * e .shapes
+
+-- The same with the sheet's pairs tested, as settling the bookings asks for; the grid is one of zeros and ones.
+pub record JudgingTested (script names : List ℕ) (e : Extent) (fitting bookings : List ℕ) (count : ℕ)
+    (starts grid : List ℕ) : Type 0 where
+  pub settling : Settling script names e fitting bookings count starts grid
+  pub marks : Marks grid
 
 -- The sheet's script has these words, and its counts are these.
 pub record CountedAs (s : Sheet) (script : List ℕ) (e : Extent) : Type 0 where

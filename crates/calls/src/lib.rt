@@ -1,6 +1,9 @@
 // The calls for the two typings of a script: the largest that it allows, and the smallest that holds the bookings.
 // A call reads what it is lent, and takes a few steps on the sheet that is read: test the pairs, strike rounds, settle
 // the bookings.
+//   verdict   the call that judges a grid
+mod verdict;
+
 ghost use mathlib.Core.Path.{_≡_};
 ghost use Prim.Native.Nat.{_*_};
 ghost use lib.ListN.{replicate};
@@ -32,6 +35,8 @@ use template::Shape;
 use typing::BothAnswer;
 use typing::LargestAnswer;
 use typing::SmallestAnswer;
+pub use verdict::judge;
+pub use verdict::judge_of;
 use words::MAX_CARDS;
 use words::MAX_GRID;
 use words::TABLE_SIZE;

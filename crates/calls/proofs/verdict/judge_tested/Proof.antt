@@ -1,0 +1,121 @@
+-- `calls::judge_tested` gives the verdict on a grid of zeros and ones, of each sheet whose pairs that fit it was lent.
+-- Assumes nothing.
+use mathlib.Core.Path.{sym, _∙_, ap}
+use Prim.Native.Nat.{ℕ, _*_}
+use native.Mathlib.Nat.{div-le-self}
+use native.Mathlib.Omega.{arith}
+use denote.Ref.{now}
+use borrow.Author.Needs.{needs}
+use Rattle.words.proofs.Places.{shape-in}
+use Rattle.bookings.proofs.Accepted.{bookings-count}
+use Rattle.calls.proofs.Known.{read, ready, few-pairs, card-starts}
+use Rattle.calls.proofs.Settling.{listed-room, listed-in}
+use Rattle.calls.proofs.Judging.{unmet-tested, unheld-tested, passes-tested}
+use Rattle.calls.proofs.verdict.judge_tested.Statement.{statement}
+use Rattle.calls.proofs.verdict.judge_tested.Tie as tie
+
+-- The start, from where the pairs are looked at.
+abbrev start : tie.After-first-unmet-arg → tie.Start
+start c = c .before .before .before .before .before .before .before
+
+cast-shapes : tie.Need-cast-shapes
+cast-shapes c = search needs
+
+first-unmet-requires : tie.Need-first-unmet-requires
+first-unmet-requires c κs =
+    let asked = start c .pre .settling in
+    let k = asked .tested .known in
+    record {
+      ready = ready k;
+      starting = card-starts k _ (asked .links);
+      full = asked .size ∙ ap (λ (n : ℕ). n * start c .args .e .shapes) (read k .links .cards);
+      tested = asked .tested .fits .full ∙ sym (asked .size);
+    }
+
+div-t16 : tie.Need-div-t16
+div-t16 c = read (start (c .before .before) .pre .settling .tested .known) .shapes .shapes-low
+
+cast-t17 : tie.Need-cast-t17
+cast-t17 c =
+    let s = start (c .before .before) in
+    let asked = s .pre .settling in
+    omega (
+      arith,
+      div-le-self (c .before .first-unmet .result) (s .args .e .shapes),
+      asked .size,
+      few-pairs (asked .tested .known),
+    )
+
+rem-t19 : tie.Need-rem-t19
+rem-t19 c = read (start (c .before .before) .pre .settling .tested .known) .shapes .shapes-low
+
+cast-t20 : tie.Need-cast-t20
+cast-t20 c =
+    let s = start (c .before .before) in
+    let accepted = read (s .pre .settling .tested .known) in
+    omega (
+      arith,
+      shape-in (s .args .e .shapes) (accepted .shapes .shapes-low) (c .before .first-unmet .result),
+      accepted .shapes .shapes-high,
+    )
+
+returns : tie.Need-returns
+returns c sheet t =
+    let s = start (c .before .before) in
+    unmet-tested t (now (s .args .bookings)) (now (s .args .grid)) (s .pre .marks) (s .pre .settling .size)
+    (c .before .first-unmet .ensures) (c .if1 .taken)
+
+first-unheld-requires : tie.Need-first-unheld-requires
+first-unheld-requires c κs =
+    let s = start (c .before .before) in
+    let asked = s .pre .settling in
+    let e = s .args .e in
+    record {
+      cards = e .cards;
+      words = listed-room (e .cards) (e .shapes) (now (s .args .bookings)) (asked .list);
+      full = asked .size;
+      booked-in = listed-in (e .cards) (e .shapes) (now (s .args .bookings)) (asked .list);
+    }
+
+mul-t22 : tie.Need-mul-t22
+mul-t22 c = search needs
+
+add-t23 : tie.Need-add-t23
+add-t23 c = search needs
+
+returns-2 : tie.Need-returns-2
+returns-2 c sheet t =
+    let held = c .before in
+    let met = held .before in
+    let s = start (met .before .before) in
+    let counted = bookings-count (s .args .e .cards) (s .args .e .shapes) (now (s .args .bookings)) _
+    (s .pre .settling .list) in
+    unheld-tested t (now (s .args .bookings)) (now (s .args .grid)) (s .pre .marks) (s .pre .settling .size)
+    (met .before .first-unmet .ensures) (met .if1 .left) counted (held .first-unheld .ensures) (c .if2 .taken)
+
+returns-3 : tie.Need-returns-3
+returns-3 c sheet t =
+    let held = c .before in
+    let met = held .before in
+    let s = start (met .before .before) in
+    let counted = bookings-count (s .args .e .cards) (s .args .e .shapes) (now (s .args .bookings)) _
+    (s .pre .settling .list) in
+    passes-tested t (now (s .args .bookings)) (now (s .args .grid)) (s .pre .marks) (s .pre .settling .size)
+    (met .before .first-unmet .ensures) (met .if1 .left) counted (held .first-unheld .ensures) (c .if2 .left)
+
+pub judge-tested-spec : {M : Type 1} → statement M
+judge-tested-spec =
+    tie.close
+    (tie.spec
+    cast-shapes
+    first-unmet-requires
+    div-t16
+    cast-t17
+    rem-t19
+    cast-t20
+    returns
+    first-unheld-requires
+    mul-t22
+    add-t23
+    returns-2
+    returns-3)

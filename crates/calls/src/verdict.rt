@@ -1,0 +1,95 @@
+// The verdict on a grid that another maker made: whether it is a sound typing that holds the bookings. The grid is only
+// read.
+ghost use mathlib.Core.Path.{_≡_};
+ghost use Rattle.words.specs.Reading.{accepted};
+ghost use Rattle.sheet.specs.Sheet.{Sheet, readSheet};
+ghost use Rattle.typing.specs.Answer.{judgeSaid};
+ghost use Rattle.typing.specs.Judge.{JudgeFound, JudgeSays};
+ghost use Rattle.calls.specs.Steps.{SheetTested, Judging, JudgingTested};
+use crate::BookedRead;
+use crate::STARTS;
+use crate::grid_size;
+use crate::read_booked;
+use crate::test_pairs;
+use board::first_over;
+use script::Card;
+use search::first_unheld;
+use search::first_unmet;
+use sheet::Extent;
+use template::Shape;
+use typing::JudgeAnswer;
+use words::MAX_GRID;
+use words::TABLE_SIZE;
+
+// The verdict on a grid of zeros and ones whose sheet's pairs are tested: its lowest pair that is not met under it, then
+// the first booking that it does not hold.
+fn judge_tested(
+    script: &[u16],
+    bookings: &[u16],
+    count: u16,
+    names: &[u8],
+    starts: &[u16; STARTS],
+    e: Extent,
+    fitting: &[u8],
+    grid: &[u8],
+) -> JudgeAnswer
+    requires { ⌜ JudgingTested (now script) (now names) e (now fitting) (now bookings) count (now starts) (now grid) ⌝ }
+    ensures { λ r. ⌜ ((s : Sheet) → SheetTested s (now (script .entry)) (now (names .entry)) e (now (fitting .entry))
+        → JudgeFound s (now (bookings .entry)) (now (grid .entry)) (judgeSaid r)) ⌝ }
+{
+    let shapes = e.shapes as usize;
+    let p = first_unmet(script, starts, names, shapes, fitting, grid);
+    if p < grid.len() {
+        return JudgeAnswer::NotMet(Card((p / shapes) as u16), Shape((p % shapes) as u16));
+    }
+    let i = first_unheld(bookings, count, shapes, grid);
+    if i < count as usize {
+        return JudgeAnswer::Refused(63, 1 + 2 * i);
+    }
+    JudgeAnswer::Accepted
+}
+
+// The verdict on a grid of the size of a sheet that is read, with a booking list that is read.
+pub fn judge_of(
+    template: &[u16],
+    script: &[u16],
+    bookings: &[u16],
+    count: u16,
+    names: &[u8],
+    e: Extent,
+    grid: &[u8],
+) -> JudgeAnswer
+    requires { ⌜ Judging (now template) (now script) (now names) e (now bookings) count (now grid) ⌝ }
+    ensures { λ r. ⌜ ((s : Sheet) → readSheet (now (template .entry)) (now (script .entry)) ≡ accepted s
+        → JudgeFound s (now (bookings .entry)) (now (grid .entry)) (judgeSaid r)) ⌝ }
+{
+    let size = grid.len();
+    let over = first_over(grid);
+    if over < size {
+        return JudgeAnswer::Refused(61, over);
+    }
+    let mut starts = [0u16; STARTS];
+    let mut fitting = [0u8; MAX_GRID];
+    let pairs = &mut fitting[0..size];
+    test_pairs(template, script, names, e, &mut starts, pairs);
+    judge_tested(script, bookings, count, names, &starts, e, pairs, grid)
+}
+
+// Judge: accepted where the grid is a sound typing that holds the bookings; or 62 and the lowest pair of it that is not
+// met; or what else is refused.
+pub fn judge(template: &[u16], script: &[u16], bookings: &[u16], grid: &[u8]) -> JudgeAnswer
+    ensures { λ r. ⌜ JudgeSays (now (template .entry)) (now (script .entry)) (now (bookings .entry))
+        (now (grid .entry)) (judgeSaid r) ⌝ }
+{
+    let mut names = [0u8; TABLE_SIZE];
+    let read = read_booked(template, script, bookings, &mut names);
+    match read {
+        BookedRead::Refused(number, place) => JudgeAnswer::Refused(number, place),
+        BookedRead::Sheet(e, count) => {
+            if grid.len() != grid_size(e) {
+                return JudgeAnswer::Refused(40, 0);
+            }
+            judge_of(template, script, bookings, count, &names, e, grid)
+        }
+    }
+}
