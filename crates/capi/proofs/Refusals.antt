@@ -1,10 +1,10 @@
 -- The number of a refusal at one place is neither 0 nor one of those with a card and a shape: so the number of an
 -- answer tells what the answer says. Each law composes what the readers refuse with.
---   template-plain, fit-plain, script-plain, largest-plain, smallest-plain, both-plain   of each operation
+--   template-plain, fit-plain, script-plain, largest-plain, smallest-plain, both-plain, judge-plain   of each operation
 -- Assumes nothing.
 use Prim.Native.Nat.{ℕ, _≤_, _<_}
 use mathlib.Core.Path.{_≡_, sym, ap, subst}
-use mathlib.Core.Logic.{⊎-elim}
+use mathlib.Core.Logic.{_⊎_, ⊎-elim}
 use mathlib.Core.List.{List, [], _∷_}
 use native.Mathlib.Omega.{arith}
 use Rattle.words.specs.Said.{refusal}
@@ -19,7 +19,9 @@ use Rattle.sheet.specs.Sheet.{Sheet}
 use Rattle.typing.specs.Demand3.{Outcome, pairs, notMet}
 use Rattle.typing.specs.Calls.{LargestAnswered, LargestSays, SmallestAnswered, SmallestSays, outcomeSaid}
 use Rattle.typing.specs.Calls.{largestReading, smallestReading, Grids, bothReading, BothAnswered, BothSays}
+use Rattle.typing.specs.Judge.{JudgeSays}
 use Rattle.typing.proofs.Numbers.{LargestNumber, largest-numbers, SmallestNumber, smallest-numbers, both-numbers}
+use Rattle.typing.proofs.Numbers.{JudgeNumber, judge-numbers}
 use Rattle.capi.proofs.Told.{Plain, plain-number}
 use Rattle.counts.specs.Fit.{Question, fitQuestion, Answers, FitSays}
 use Rattle.counts.proofs.Numbers.{FitNumber, fit-numbers}
@@ -28,7 +30,7 @@ use Rattle.typing.specs.Answer.{BothSaid}
 
 -- ---- the numbers of the readers are plain
 low-plain : (n : ℕ) → 1 ≤ n → n < 50 → Plain n
-low-plain n a b = plain-number n (λ e. absurd (omega arith)) (λ e. absurd (omega arith))
+low-plain n a b = plain-number n (λ e. absurd (omega arith)) (λ e. absurd (omega arith)) (λ e. absurd (omega arith))
 
 template-number : (n : ℕ) → TemplateNumber n → Plain n
 template-number n h = low-plain n (h .0) (omega (arith, h .1))
@@ -44,6 +46,15 @@ largest-number n h =
 smallest-number : (n : ℕ) → SmallestNumber n → Plain n
 smallest-number n h =
     ⊎-elim (largest-number n) (λ b. low-plain n (omega (arith, b .0)) (omega (arith, b .1))) h
+
+-- 61 or 63
+grid-plain : (n : ℕ) → (n ≡ 61) ⊎ (n ≡ 63) → Plain n
+grid-plain n h = ⊎-elim
+    (λ e. plain-number n (λ z. omega arith) (λ z. omega arith) (λ z. omega arith))
+    (λ e. plain-number n (λ z. omega arith) (λ z. omega arith) (λ z. omega arith)) h
+
+judge-number : (n : ℕ) → JudgeNumber n → Plain n
+judge-number n h = ⊎-elim (smallest-number n) (grid-plain n) h
 
 fit-number : (n : ℕ) → FitNumber n → Plain n
 fit-number n h = ⊎-elim (template-number n) (λ b. low-plain n (omega (arith, b .0)) (omega (arith, b .1))) h
@@ -123,3 +134,9 @@ module _ (number place : ℕ) where
   both-plain template script bookings before after e =
       both-by (bothReading template script bookings before) (Booked bookings) before after
       (both-numbers template script bookings before) e
+
+  pub judge-plain : (template script bookings grid : List ℕ)
+      → JudgeSays template script bookings grid (refusal number (place ∷ [])) → Plain number
+  judge-plain template script bookings grid e = ⊎-elim
+      (judge-number number) (λ (two : (number ≡ 62) × _≡_ {A = ℕ} 1 2). absurd (omega (arith, two .1)))
+      (judge-numbers template script bookings grid number (place ∷ []) e)

@@ -1,6 +1,6 @@
 -- One law for all answers: what the numbers of a struct say tells the numbers.
 --   Plain            a number that is neither 0 nor one of the refusals with a card and a shape
---   plain-number     enough that it is neither 0 nor 50
+--   plain-number     enough that it is none of 0, 50 and 62
 --   tells-found, tells-refused, tells-paired   the numbers of values, of a refusal at a place, at a card and a shape
 --   equals-refused, both-refused   the numbers of a refusal where one thing is said, and of a refusal of both typings
 --   said-by          what holds of what an answer says holds by the case that it is
@@ -26,8 +26,9 @@ said-by Allowed saying e h = subst (λ x. Allowed (saying x)) e h
 abbrev pub Plain : ℕ → Type 0
 Plain number = (eqb number 0 ≡ false) × (isPaired number ≡ false)
 
-pub plain-number : (number : ℕ) → (number ≡ 0 → ⊥) → (number ≡ 50 → ⊥) → Plain number
-plain-number number some other = (ne-eqb number 0 some, rw (ne-eqb number 50 other) refl)
+pub plain-number : (number : ℕ) → (number ≡ 0 → ⊥) → (number ≡ 50 → ⊥) → (number ≡ 62 → ⊥) → Plain number
+plain-number number some unmet failing =
+    (ne-eqb number 0 some, rw (ne-eqb number 50 unmet, ne-eqb number 62 failing) refl)
 
 -- The numbers of values, and of a refusal at one place.
 abbrev valued : List ℕ → Numbers

@@ -1,7 +1,7 @@
 -- No choice at the C boundary: two answers that the contract of a C function allows for the same input are equal, and
 -- so is the memory that they leave.
 --   template-no-choice, fit-no-choice, script-no-choice, links-no-choice, largest-no-choice, smallest-no-choice,
---   both-no-choice   of each function
+--   both-no-choice, judge-no-choice   of each function
 -- Assumes nothing.
 use Prim.Native.Nat.{ℕ}
 use mathlib.Core.Path.{_≡_, refl, sym, ap, ap₂, _∙_}
@@ -13,15 +13,18 @@ use Rattle.counts.proofs.Fitting.{fit-one-answer}
 use Rattle.script.specs.Script.{scriptSays, cardLinks}
 use Rattle.typing.specs.Answer.{BothSaid}
 use Rattle.typing.specs.Calls.{LargestSays, SmallestSays, Grids, BothSays}
+use Rattle.typing.specs.Judge.{JudgeSays}
 use Rattle.typing.proofs.Existence.{largest-one-answer, smallest-one-answer, both-one-answer}
+use Rattle.typing.proofs.Judging.{judge-one-answer}
 use Rattle.capi.specs.declared.PrepTemplate.{PrepTemplate}
 use Rattle.capi.specs.declared.PrepFit.{PrepFit}
 use Rattle.capi.specs.declared.PrepScript.{PrepScript}
 use Rattle.capi.specs.declared.PrepLargest.{PrepLargest}
 use Rattle.capi.specs.declared.PrepSmallest.{PrepSmallest}
 use Rattle.capi.specs.declared.PrepBoth.{PrepBoth}
+use Rattle.capi.specs.declared.PrepJudge.{PrepJudge}
 use Rattle.capi.specs.Numbers.{Numbers, said, Tells, TellsBoth, copied, templateNumbers, fitNumbers}
-use Rattle.capi.specs.Numbers.{scriptNumbers, largestNumbers, smallestNumbers, largePart, smallPart}
+use Rattle.capi.specs.Numbers.{scriptNumbers, largestNumbers, smallestNumbers, largePart, smallPart, judgeNumbers}
 use Rattle.capi.proofs.Told.{numbers-unique}
 
 -- ---- a struct, from its numbers
@@ -67,6 +70,9 @@ bothOf large small =
       bare = getD (large .found) 2 0;
       pairs = getD (small .found) 0 0;
     }
+
+abbrev judgeOf : Numbers → PrepJudge
+judgeOf n = record { number = n .number; card = n .card; shape = n .shape; place = n .place }
 
 -- ---- the functions
 pub template-no-choice : (words : List ℕ) (a b : PrepTemplate) → Tells (λ x. x ≡ templateSays words) (templateNumbers a)
@@ -118,3 +124,10 @@ module _ (template script : List ℕ) where
       let large = numbers-unique (largePart a) (largePart b) refl (ap (λ (z : BothSaid). z .largest) same) p q in
       let small = numbers-unique (smallPart a) (smallPart b) refl (ap (λ (z : BothSaid). z .smallest) same) r s in
       (ap₂ bothOf large small, grids)
+
+  pub judge-no-choice : (bookings grid : List ℕ) (a b : PrepJudge)
+      → Tells (JudgeSays template script bookings grid) (judgeNumbers a)
+      → Tells (JudgeSays template script bookings grid) (judgeNumbers b) → a ≡ b
+  judge-no-choice bookings grid a b (x, p) (y, q) =
+      let same = judge-one-answer template script bookings grid (said (judgeNumbers a)) (said (judgeNumbers b)) x y in
+      ap judgeOf (numbers-unique (judgeNumbers a) (judgeNumbers b) refl same p q)

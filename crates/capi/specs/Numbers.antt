@@ -21,6 +21,7 @@ use Rattle.capi.specs.declared.PrepScript.{PrepScript}
 use Rattle.capi.specs.declared.PrepLargest.{PrepLargest}
 use Rattle.capi.specs.declared.PrepSmallest.{PrepSmallest}
 use Rattle.capi.specs.declared.PrepBoth.{PrepBoth}
+use Rattle.capi.specs.declared.PrepJudge.{PrepJudge}
 
 -- The numbers of an answer; a struct without a card and a shape has 0 for them.
 pub record Numbers : Type 0 where
@@ -32,7 +33,7 @@ pub record Numbers : Type 0 where
 
 -- The refusals whose place is a card and a shape.
 abbrev pub paired : List ℕ
-paired = 50 ∷ []
+paired = 50 ∷ 62 ∷ []
 
 -- Whether a number is one of a list's.
 abbrev pub isIn : ℕ → List ℕ → Bool
@@ -107,6 +108,10 @@ TellsBoth Allowed r =
     Allowed (record { largest = said (largePart r); smallest = said (smallPart r) })
     × Zeros (unsaid (largePart r))
     × Zeros (unsaid (smallPart r))
+
+-- Nothing where the grid is accepted, or the card and shape of its pair that is not met.
+abbrev pub judgeNumbers : PrepJudge → Numbers
+judgeNumbers r = record { number = r .number; place = r .place; card = r .card; shape = r .shape; found = [] }
 
 -- The buffer's own words stay where there are no words for them.
 abbrev pub copied : List ℕ → List ℕ → List ℕ

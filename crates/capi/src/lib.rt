@@ -6,9 +6,11 @@ ghost use Rattle.template.specs.Template.{templateSays};
 ghost use Rattle.counts.specs.Fit.{FitSays};
 ghost use Rattle.script.specs.Script.{scriptSays, cardLinks};
 ghost use Rattle.typing.specs.Calls.{LargestSays, SmallestSays, BothSays};
+ghost use Rattle.typing.specs.Judge.{JudgeSays};
 ghost use Rattle.capi.specs.Numbers.{Tells, TellsBoth, templateNumbers, fitNumbers, scriptNumbers};
-ghost use Rattle.capi.specs.Numbers.{largestNumbers, smallestNumbers, copied};
+ghost use Rattle.capi.specs.Numbers.{largestNumbers, smallestNumbers, judgeNumbers, copied};
 use calls::both_typings;
+use calls::judge;
 use calls::largest;
 use calls::smallest;
 use counts::FitAnswer;
@@ -21,6 +23,7 @@ use template::Shape;
 use template::TemplateAnswer;
 use template::read_template;
 use typing::BothAnswer;
+use typing::JudgeAnswer;
 use typing::LargestAnswer;
 use typing::SmallestAnswer;
 
@@ -81,6 +84,15 @@ pub struct PrepBoth {
     pub struck: usize,
     pub bare: usize,
     pub pairs: usize,
+}
+
+// Nothing where a grid is accepted; or 62 with a card and a shape; or another refusal's number and place.
+#[repr(C)]
+pub struct PrepJudge {
+    pub number: u16,
+    pub card: u16,
+    pub shape: u16,
+    pub place: usize,
 }
 
 // Read a template.
@@ -290,6 +302,40 @@ pub extern "C" fn prep_both_typings(
             struck: 0,
             bare: 0,
             pairs: 0,
+        },
+    }
+}
+
+// Judge a grid.
+#[no_mangle]
+pub extern "C" fn prep_judge(
+    template: &[u16],
+    script: &[u16],
+    bookings: &[u16],
+    grid: &[u8],
+) -> PrepJudge
+    ensures { λ r. ⌜ Tells (JudgeSays (now (template .entry)) (now (script .entry)) (now (bookings .entry))
+        (now (grid .entry))) (judgeNumbers r) ⌝ }
+{
+    let answer = judge(template, script, bookings, grid);
+    match answer {
+        JudgeAnswer::Accepted => PrepJudge {
+            number: 0,
+            card: 0,
+            shape: 0,
+            place: 0,
+        },
+        JudgeAnswer::NotMet(card, shape) => PrepJudge {
+            number: 62,
+            card: card.0,
+            shape: shape.0,
+            place: 0,
+        },
+        JudgeAnswer::Refused(number, place) => PrepJudge {
+            number,
+            card: 0,
+            shape: 0,
+            place,
         },
     }
 }
