@@ -2,19 +2,20 @@
 --   first-demand    faults get their refusals, and nothing else is refused
 --   second-demand   counts and sound typings are the paper's
 --   third-demand    the smallest and the largest typing
+--   judge-demand    grids of other makers
 -- Assumes nothing.
 use Prim.Native.Nat.{ℕ, suc, _≤_, _<_}
-use mathlib.Core.Path.{_≡_, refl, sym, ap, _∙_}
-use mathlib.Core.Logic.{_⊎_, inl, inr, _↔_}
+use mathlib.Core.Path.{_≡_, refl, sym, ap, _∙_, subst}
+use mathlib.Core.Logic.{_⊎_, inl, inr, ⊎-elim, _↔_}
 use mathlib.Core.List.{List, [], _∷_}
 use native.Mathlib.Omega.{arith}
 use lib.ListN.{length, getD}
 use borrow.Author.Tests.{lt-leb, le-ltb, eq-eqb}
 use Rattle.words.specs.Limits.{maxCount}
-use Rattle.words.specs.Said.{Said, values}
+use Rattle.words.specs.Said.{Said, values, refusal}
 use Rattle.words.specs.Reading.{accepted, turnedDown, saidOf}
 use Rattle.words.proofs.Bools.{never-both, is-false}
-use Rattle.words.proofs.Readings.{numbered-turned}
+use Rattle.words.proofs.Readings.{accepted-same, numbered-turned}
 use Rattle.template.specs.Template.{Template, readTemplate, templateValues, templateSays}
 use Rattle.template.proofs.Numbers.{template-numbers}
 use Rattle.template.proofs.RoundTrip.{templates-are}
@@ -25,26 +26,29 @@ use Rattle.bags.proofs.Adequate.{met-is}
 use Rattle.board.specs.Grid.{on, tally}
 use Rattle.board.specs.Board.{Board}
 use Rattle.sheet.specs.Sheet.{Sheet, partOf, neighboursOf, size}
-use Rattle.bookings.specs.Bookings.{Booked}
+use Rattle.bookings.specs.Bookings.{cardIndex, Booked}
 use Rattle.counts.specs.Fit.{firstOver, fitQuestion, FitSays}
 use Rattle.counts.proofs.Numbers.{fit-numbers}
 use Rattle.input.specs.Input.{readInput}
 use Rattle.input.proofs.Inputs.{input-numbers}
 use Rattle.input.proofs.RoundTrip.{inputs-are}
-use Rattle.typing.specs.Typing.{Pairs, Has, Met, Typing, SoundTyping}
+use Rattle.typing.specs.Typing.{Pairs, Has, Met, Holds, Typing, SoundTyping}
 use Rattle.typing.specs.Smallest.{IsClosure}
 use Rattle.typing.specs.Demand3.{Outcome, pairs, notMet, Refused, Demand3}
 use Rattle.typing.specs.Answer.{BothSaid}
 use Rattle.typing.specs.Calls.{largestReading, smallestReading, bothReading, outcomeSaid, BothAnswered, BothFound}
-use Rattle.typing.specs.Calls.{LargestFound, SmallestFound}
-use Rattle.typing.proofs.Numbers.{largest-numbers, smallest-numbers, both-numbers}
+use Rattle.typing.specs.Calls.{LargestFound, LargestSays, SmallestFound, SmallestSays}
+use Rattle.typing.specs.Judge.{Verdict, over, unmet, unheld, passes, verdictSaid, Passes, JudgeFound, JudgeSays}
+use Rattle.typing.proofs.Numbers.{largest-numbers, smallest-numbers, both-numbers, JudgeNumber, judge-numbers}
 use Rattle.typing.proofs.Represents.{Represents}
 use Rattle.typing.proofs.Largest.{largest-over, largest-bound, largest-unique, some-largest, bare-alike}
 use Rattle.typing.proofs.Existence.{represented}
 use Rattle.typing.proofs.Apart.{apart}
+use Rattle.typing.proofs.Judging.{judge-exact, judge-takes-smallest, judge-takes-largest, judge-between, judge-some}
 use Rattle.demands.specs.Demands.{TemplateListed, ScriptListed, FitListed, LargestListed, SmallestListed}
-use Rattle.demands.specs.Demands.{PrinterListed, FirstDemand, Formed, Neighbourhood, RuleTwo, SecondDemand}
-use Rattle.demands.specs.Demands.{TurnedDown, LargestTyping, TwoTypings, ThirdDemand}
+use Rattle.demands.specs.Demands.{FromTo, JudgeListed, PrinterListed, FirstDemand, Formed, Neighbourhood, RuleTwo, SecondDemand}
+use Rattle.demands.specs.Demands.{TurnedDown, LargestTyping, TwoTypings, ThirdDemand, BookingsFormed}
+use Rattle.demands.specs.Demands.{JudgedGrids, JudgeDemand}
 use Rattle.demands.proofs.Formed.{formed-sheet, sheets-are, bookings-are, largest-taken, smallest-taken}
 use Rattle.demands.proofs.Formed.{both-taken}
 use Rattle.demands.proofs.Listed.{no-values, said-listed, fit-refused, largest-refused, smallest-refused}
@@ -56,6 +60,22 @@ pairs-or-down : (said : Said) (o : Outcome) → said ≡ outcomeSaid o
     → ((m : ℕ) × (said ≡ values (m ∷ []))) ⊎ TurnedDown said
 pairs-or-down said (pairs m) e = inl (m, e)
 pairs-or-down said (notMet n t) e = inr (n, t, e)
+
+-- A verdict is that the grid is accepted, or one of its three faults.
+accepted-or-faulty : (said : Said) (v : Verdict) → said ≡ verdictSaid v
+    → (said ≡ values []) ⊎ ((number : ℕ) × (at : List ℕ) × FromTo 61 63 number × (said ≡ refusal number at))
+accepted-or-faulty said (over p) e = inr (61, p ∷ [], (omega arith, omega arith), e)
+accepted-or-faulty said (unmet n t) e = inr (62, n ∷ t ∷ [], (omega arith, omega arith), e)
+accepted-or-faulty said (unheld i) e = inr (63, cardIndex i ∷ [], (omega arith, omega arith), e)
+accepted-or-faulty said passes e = inl e
+
+-- A number of the judge is a listed one.
+judge-number : (number : ℕ) (at : List ℕ) → JudgeNumber number ⊎ ((number ≡ 62) × (length at ≡ 2))
+    → JudgeListed number
+judge-number number at (inl (inl h)) = inl h
+judge-number number at (inl (inr (inl e))) = inr (omega arith, omega arith)
+judge-number number at (inl (inr (inr e))) = inr (omega arith, omega arith)
+judge-number number at (inr (e, two)) = inr (omega arith, omega arith)
 
 pub first-demand : FirstDemand
 unfolding templateSays scriptSays
@@ -75,6 +95,7 @@ first-demand = record {
         ap (λ (z : BothSaid). z .smallest) (y .0),
         y .1,
       );
+  judge-first = λ template script bookings grid said number at e x. rw e at x;
   fit-first = λ template shape counts said number at e x. rw e at x;
   template-first = λ template number at e. ap (saidOf templateValues) e;
   script-first = λ template script number at e. ap (saidOf scriptValues) e;
@@ -102,6 +123,12 @@ first-demand = record {
       let found : SmallestFound s (Booked bookings) after said =
       rw (smallest-taken template script bookings before s .1 (f, b, full)) at x in
       pairs-or-down said (found .outcome) (found .says);
+  judge-accepts = λ template script bookings grid said s f b full x.
+      let found : JudgeFound s bookings grid said =
+      rw (smallest-taken template script bookings grid s .1 (f, b, full)) at x in
+      accepted-or-faulty said (found .verdict) (found .says);
+  judge-listed = λ template script bookings grid number at x.
+      judge-number number at (judge-numbers template script bookings grid number at x);
   printer-listed = λ bytes number at e.
       numbered-turned PrinterListed (readInput bytes) number at (input-numbers bytes) e;
 }
@@ -244,3 +271,59 @@ third-demand = record {
         two-typings s bookings (after .large) (after .small) said found,
       );
 }
+
+-- ---- grids of other makers
+module _ (template script bookings : List ℕ) (s : Sheet) (f : Formed template script s)
+    (b : BookingsFormed (s .cards) (s .shapes) bookings) where
+  -- the judge and the call for the smallest take each grid of the right size
+  takes : (grid : List ℕ) → length grid ≡ size s → smallestReading template script bookings grid ≡ accepted s
+  takes grid full = smallest-taken template script bookings grid s .1 (f, b, full)
+
+  exactly : (grid : List ℕ) → length grid ≡ size s → (said : Said) → JudgeSays template script bookings grid said
+      → (said ≡ values []) ↔ (SoundTyping s grid × Holds s (Booked bookings) (on grid))
+  exactly grid full said x =
+      let exact = judge-exact template script bookings grid said x in (
+        λ e.
+            let (q, asked, p) = exact .0 e in
+            let same : q ≡ s = accepted-same (sym asked ∙ takes grid full) in
+            let w = subst (λ (z : Sheet). Passes z (Booked bookings) grid) same p in
+            (w .sound, w .holds),
+        λ (w, holds). exact .1 (s, takes grid full, record { sound = w; holds = holds }),
+      )
+
+  -- bookings that are not turned down have a number of pairs
+  pairs-said : (before small : List ℕ) (said : Said) → length before ≡ size s
+      → SmallestSays template script bookings before small said → (TurnedDown said → ⊥)
+      → (m : ℕ) × (said ≡ values (m ∷ []))
+  pairs-said before small said full x taken =
+      let found : SmallestFound s (Booked bookings) small said = rw (takes before full) at x in
+      ⊎-elim (λ h. h) (λ d. absurd (taken d)) (pairs-or-down said (found .outcome) (found .says))
+
+  judged : JudgedGrids template script bookings s
+  judged = record {
+    exact = exactly;
+    takes-ours = λ large-before small-before large small of-large of-small fl fs x y taken said.
+        let (m, e) = pairs-said small-before small of-small fs y taken in
+        let y′ : SmallestSays template script bookings small-before small (values (m ∷ [])) = rw e at y in
+        let found : LargestFound s large of-large = rw (largest-taken template script large-before s .1 (f, fl)) at x in
+        let x′ = subst (λ (a : Said). LargestSays template script large-before large a) (found .says) x in (
+          judge-takes-smallest template script bookings small-before small m y′ said,
+          judge-takes-largest template script bookings small-before small m y′ large-before large (found .rounds)
+              (found .struck) (found .bare) x′ said,
+        );
+    between = λ large-before small-before large small of-large of-small fl fs x y grid z.
+        let (q, asked, p) = judge-exact template script bookings grid (values []) z .0 refl in
+        let (g, c, full) = smallest-taken template script bookings grid q .0 asked in
+        let same : q ≡ s = accepted-same (sym (formed-sheet template script q g) ∙ formed-sheet template script s f) in
+        let sized : length grid ≡ size s = full ∙ ap size same in
+        judge-between template script bookings grid z small-before large-before small large of-small of-large
+        (fs ∙ sym sized) (fl ∙ sym sized) y x s (formed-sheet template script s f);
+    some = λ before small said full x.
+        let some = judge-some template script bookings before small said s (takes before full) x in (
+          λ g (n, t, e). some .0 g n t e,
+          λ taken. some .1 (λ n t e. taken (n, t, e)),
+        );
+  }
+
+pub judge-demand : JudgeDemand
+judge-demand = judged

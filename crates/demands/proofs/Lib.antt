@@ -1,7 +1,8 @@
--- Worked: the right answers of the worked sheet are allowed; Printed: and its text. Refusals: every refusal happens.
--- Refuted: wrong answers are not allowed. Formed, Listed: what is well-formed is read, and what is refused is listed.
--- Demands: the demands.
+-- Worked: the right answers of the worked sheet are allowed; Printed: and its text; Judged: and of grids of it.
+-- Refusals: every refusal happens. Refuted: wrong answers are not allowed. Formed, Listed: what is well-formed is read,
+-- and what is refused is listed. Demands: the demands.
 pub mod Worked
+pub mod Judged
 pub mod Refusals
 pub mod Refuted
 pub mod Formed

@@ -1,9 +1,12 @@
 -- Every refusal happens.
---   every-number-happens   each row of the table gets its number at its place; 50 is the worked sheet's
+--   every-number-happens   each row of the table gets its number at its place; 50, 62 and 63 are the worked sheet's
 --   other-faults-happen    and so does each row of the further faults
 --   all-listed             the table has the numbers of docs/FORMAT.md, no more and no less
 -- Assumes nothing.
 use mathlib.Core.Path.{_≡_, refl}
+use mathlib.Core.List.{[], _∷_}
+use native.Mathlib.Omega.{arith}
+use Rattle.words.specs.Said.{refusal}
 use Rattle.template.specs.Reading.{readLink, readRun, readPart}
 use Rattle.template.specs.Template.{readShape, readShapes, readTemplate, templateSays}
 use Rattle.script.specs.Link.{fromAt, kindAt, toAt, above, greater}
@@ -13,16 +16,23 @@ use Rattle.sheet.specs.Sheet.{readSheet}
 use Rattle.bookings.specs.Bookings.{cardAt, shapeAt, readPairs, readBookings}
 use Rattle.input.specs.Input.{wordAt, sectionEnd, scriptStart, bookingsStart, inputEnd, readInput}
 use Rattle.demands.specs.Worked.{lastShape}
-use Rattle.demands.specs.Refusals.{AllGet, refusals, others, listed, numbersOf}
+use Rattle.typing.specs.Judge.{over, JudgeSays}
+use Rattle.demands.specs.Refusals.{plain, alone, AllGet, refusals, others, listed, numbersOf}
 use Rattle.demands.proofs.Worked.{worked-not-met}
-
--- One row, and then the others.
-infixr 5 _&_
-abbrev _&_ : {A B : Type 0} → A → B → A × B
-_&_ a b = (a, b)
+use Rattle.demands.proofs.Judged.{_&_, unmet-sample, unheld-sample}
 
 pub all-listed : numbersOf refusals ≡ listed
 all-listed = refl
+
+-- The byte of one card and one shape is 2.
+over-alone : JudgeSays plain alone (0 ∷ []) (2 ∷ []) (refusal 61 (0 ∷ []))
+unfolding readSheet readTemplate readShape readShapes readPart readRun readLink readScript readLinks fromAt kindAt toAt
+    above greater readBookings readPairs
+over-alone = record {
+  verdict = over 0;
+  says = refl;
+  right = record { inside = omega arith; over-one = omega arith; first = λ q l. absurd (omega arith) };
+}
 
 pub every-number-happens : AllGet refusals
 unfolding readTemplate readShape readShapes readPart readRun readLink templateSays readScript readLinks fromAt kindAt
@@ -31,7 +41,7 @@ unfolding readTemplate readShape readShapes readPart readRun readLink templateSa
 every-number-happens =
     refl & refl & refl & refl & refl & refl & refl & refl & refl & refl & refl & refl & refl & refl & refl &
     refl & refl & refl & (refl, refl) & (refl, refl) & (refl, refl) & (refl, refl) & (refl, refl) & refl & refl
-    & refl & worked-not-met lastShape refl & refl & tt
+    & refl & worked-not-met lastShape refl & refl & over-alone & unmet-sample & unheld-sample & tt
 
 pub other-faults-happen : AllGet others
 unfolding readTemplate readShape readShapes readPart readRun readLink templateSays readScript readLinks fromAt kindAt
@@ -39,4 +49,4 @@ unfolding readTemplate readShape readShapes readPart readRun readLink templateSa
     sectionEnd scriptStart bookingsStart inputEnd readInput
 other-faults-happen =
     refl & refl & refl & refl & refl & refl & refl & refl & refl & refl & refl & refl & refl & (refl, refl) &
-    (refl, refl) & refl & refl & tt
+    (refl, refl) & refl & refl & refl & tt

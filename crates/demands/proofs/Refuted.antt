@@ -10,6 +10,10 @@
 --   unmet-accepted           a number of pairs for bookings that cannot
 --   five-refused, refusal-changes          a refusal that changes a byte of the grid
 --   list-first, size-first   the list of bookings is looked at before the grid: 30 is allowed, 40 is not
+--   unsound-accepted, unheld-accepted   a grid is accepted that is not sound, or has not a booking
+--   sound-refused            a grid is refused that is sound and has the bookings
+--   higher-pair              62 that names a pair above the lowest that is not met
+--   shape-named              63 at the booking's shape instead of its card
 --   wrong-fit                "no" to counts that fit
 --   links-elsewhere          a part for a card that is not there, which is empty, at another place of the script
 --   all-refused              a reader that refuses this template
@@ -22,7 +26,7 @@ use native.Mathlib.Omega.{arith}
 use denote.Ref.{RefT, now}
 use lib.ListN.{length, getD}
 use Rattle.words.specs.Said.{Said, values, refusal}
-use Rattle.words.specs.Reading.{Reading, accepted, turnedDown}
+use Rattle.words.proofs.Said.{values-refusal}
 use Rattle.board.specs.Grid.{on}
 use Rattle.board.proofs.Tally.{tally-none}
 use Rattle.template.specs.Reading.{readLink, readRun, readPart}
@@ -37,13 +41,18 @@ use Rattle.counts.specs.Fit.{FitSays}
 use Rattle.counts.proofs.Fitting.{fit-one-answer}
 use Rattle.typing.specs.Typing.{Pairs}
 use Rattle.typing.specs.Largest.{bare, bareCards}
-use Rattle.typing.specs.Calls.{largestReading, LargestFound, LargestAnswered, LargestSays, SmallestSays}
+use Rattle.typing.specs.Calls.{largestReading, LargestSays, SmallestSays}
 use Rattle.typing.proofs.Booked.{grid-asked}
+use Rattle.typing.specs.Judge.{JudgeSays}
 use Rattle.typing.proofs.Existence.{largest-one-answer, smallest-one-answer}
+use Rattle.typing.proofs.Judging.{judge-one-answer}
+use Rattle.typing.proofs.Values.{largest-values}
 use Rattle.demands.specs.Worked.{template, script, metBookings, unmetBookings, lastShape, noShapes}
 use Rattle.demands.specs.Worked.{largestAnswer, smallestAnswer, notMetAnswer}
 use Rattle.demands.proofs.Worked.{worked-read, worked-links, worked-fit, worked-largest, worked-smallest}
+use Rattle.demands.specs.Judged.{unmetGrid}
 use Rattle.demands.proofs.Worked.{worked-not-met}
+use Rattle.demands.proofs.Judged.{accepted-sample, unmet-sample, unheld-sample}
 
 -- ---- the right answers are the only ones
 module _ (before : List ℕ) (six : length before ≡ 6) (after : List ℕ) (said : Said) where
@@ -87,17 +96,11 @@ unfolding bareCards linked
 no-links s X none =
     tally-none (λ n. linked (s .script) n (s .links) && bare s X n) (s .cards) (λ n l. rw none refl)
 
--- Values are said of a sheet that is read.
-not-refused : (r : Reading Sheet) (before after found : List ℕ) → LargestAnswered r before after (values found)
-    → (s : Sheet) × (r ≡ accepted s) × LargestFound s after (values found)
-not-refused (accepted s) before after found x = (s, refl, x)
-not-refused (turnedDown number place) before after found x = let z : _≡_ {A = ℕ} 0 1 = cc in absurd (omega arith)
-
 -- A third number above 0 where the script has no links, so that every card is blank.
 pub blanks-counted : (words list before after : List ℕ) (rounds struck counted : ℕ) → getD list 1 0 ≡ 0
     → 0 < counted → LargestSays words list before after (values (rounds ∷ struck ∷ counted ∷ [])) → ⊥
 blanks-counted words list before after rounds struck counted none some x =
-    let (s, asked, found) = not-refused (largestReading words list before) before after _ x in
+    let (s, asked, found) = largest-values (largestReading words list before) before after _ x in
     let (kinds, read, same) = sheet-read words list s (grid-asked before (readSheet words list) s asked .0) in
     let few : s .links ≡ 0 = read .links .links ∙ ap (λ (w : List ℕ). getD w 1 0) same ∙ none in
     let said = found .says in
@@ -150,6 +153,36 @@ pub size-first : (before after : List ℕ) → SmallestSays template script [] b
 size-first before after x =
     let e = smallest-one-answer template script [] before after before _ _ x (list-first before) .0 in
     let z : _≡_ {A = ℕ} 40 30 = cc in omega arith
+
+-- The judge accepts a grid with two pairs that are not met, or without the booked pair.
+pub unsound-accepted : JudgeSays template script metBookings unmetGrid (values []) → ⊥
+unsound-accepted x =
+    let e = judge-one-answer template script metBookings unmetGrid _ _ x unmet-sample in
+    values-refusal e
+
+pub unheld-accepted : JudgeSays template script unmetBookings lastShape (values []) → ⊥
+unheld-accepted x =
+    let e = judge-one-answer template script unmetBookings lastShape _ _ x unheld-sample in
+    values-refusal e
+
+-- It refuses the grid that both typings are.
+pub sound-refused : (number : ℕ) (place : List ℕ)
+    → JudgeSays template script metBookings lastShape (refusal number place) → ⊥
+sound-refused number place x =
+    let e = judge-one-answer template script metBookings lastShape _ _ accepted-sample x in
+    values-refusal e
+
+-- It names (1, 1), which is not met either, where (1, 0) is lower.
+pub higher-pair : JudgeSays template script metBookings unmetGrid (refusal 62 (1 ∷ 1 ∷ [])) → ⊥
+higher-pair x =
+    let e = judge-one-answer template script metBookings unmetGrid _ _ x unmet-sample in
+    let z : _≡_ {A = ℕ} 1 0 = cc in omega arith
+
+-- It names the word of the booking's shape.
+pub shape-named : JudgeSays template script unmetBookings lastShape (refusal 63 (2 ∷ [])) → ⊥
+shape-named x =
+    let e = judge-one-answer template script unmetBookings lastShape _ _ x unheld-sample in
+    let z : _≡_ {A = ℕ} 2 1 = cc in omega arith
 
 -- "No" to the counts of card 0, one link of each kind, which fit shape 0.
 pub wrong-fit : FitSays template 0 (1 ∷ 1 ∷ []) (values (0 ∷ [])) → ⊥

@@ -9,7 +9,8 @@
 --   readTemplate, readWith, readSheet, readBookings, fitQuestion, readInput, largestReading, smallestReading,
 --   bothReading           the tests of docs/FORMAT.md in their order, a line each: the first that finds a fault turns
 --                         down. readWith is of a script with its template, readSheet of both, the last three of a call
---   templateSays, scriptSays, FitSays, LargestSays, SmallestSays, BothSays   what each operation may say and write
+--   templateSays, scriptSays, FitSays, LargestSays, SmallestSays, BothSays, JudgeSays   what each operation may say and
+--                         write; the judge of grids reads as the call for the smallest does, and writes nothing
 --   Template, Sheet       what is read of a template; of a template and a script. partOf: the part of a shape.
 --                         neighboursOf: the labels and far cards of a card's links. size: how many pairs there are
 --   Pairs, Has, on        a set of pairs of a card and a shape, by their places in a grid; it has a pair; the set of a
@@ -31,6 +32,7 @@
 --   FirstDemand                         faults get their refusals, and nothing else is refused
 --   Neighbourhood, RuleTwo, Belong, SecondDemand   the bag language and sound typings are the paper's
 --   LargestTyping, TwoTypings, ThirdDemand   the largest typing, and with it the smallest
+--   JudgedGrids                         grids of other makers, which are judged
 -- Assumes nothing.
 use Prim.Native.Nat.{ℕ, _+_, _*_, _≤_, _<_}
 use mathlib.Core.Path.{_≡_}
@@ -58,6 +60,7 @@ use Rattle.typing.specs.Smallest.{IsClosure}
 use Rattle.typing.specs.Answer.{BothSaid}
 use Rattle.typing.specs.Calls.{Grids, largestReading, smallestReading, bothReading, LargestSays, SmallestSays}
 use Rattle.typing.specs.Calls.{BothSays}
+use Rattle.typing.specs.Judge.{JudgeSays}
 use Rattle.input.specs.Input.{Input, readInput}
 use Rattle.input.specs.Writer.{writeInput, InputFormed, Bytes}
 
@@ -114,6 +117,10 @@ LargestListed n = ScriptListed n ⊎ (n ≡ 40)
 abbrev pub SmallestListed : ℕ → Type 0
 SmallestListed n = LargestListed n ⊎ FromTo 30 33 n
 
+-- "Judge": those of the smallest, and 61 to 63.
+abbrev pub JudgeListed : ℕ → Type 0
+JudgeListed n = SmallestListed n ⊎ FromTo 61 63 n
+
 -- The printer's input: 60.
 abbrev pub PrinterListed : ℕ → Type 0
 PrinterListed n = n ≡ 60
@@ -124,7 +131,7 @@ TurnedDown said = (card : ℕ) × (shape : ℕ) × (said ≡ refusal 50 (card �
 
 -- ================ the first demand
 -- What breaks a limit or a layout rule gets the refusal of the first fault that the format lists, and no lent buffer
--- changes. What breaks none is not refused, but for 50.
+-- changes. What breaks none is not refused, but for 50, and a grid that is judged for 61 to 63.
 pub record FirstDemand : Type 0 where
   -- ---- nothing is refused exactly where all is well-formed
   -- a template is read exactly if its words are those of a well-formed one,
@@ -166,10 +173,13 @@ pub record FirstDemand : Type 0 where
       → bothReading template script bookings before ≡ turnedDown number at
       → BothSays template script bookings before after said
       → (said .largest ≡ refusal number (at ∷ [])) × (said .smallest ≡ refusal number (at ∷ [])) × (after ≡ before)
+  pub judge-first : (template script bookings grid : List ℕ) (said : Said) (number at : ℕ)
+      → smallestReading template script bookings grid ≡ turnedDown number at
+      → JudgeSays template script bookings grid said → said ≡ refusal number (at ∷ [])
   pub fit-first : (template : List ℕ) (shape : ℕ) (counts : List ℕ) (said : Said) (number at : ℕ)
       → fitQuestion template shape counts ≡ turnedDown number at → FitSays template shape counts said
       → said ≡ refusal number (at ∷ [])
-  -- ---- where all is well-formed, nothing but 50 is refused
+  -- ---- where all is well-formed, nothing but 50 is refused, and by the judge nothing but 61 to 63
   pub largest-accepts : (template script before after : List ℕ) (said : Said) (s : Sheet)
       → Formed template script s → length before ≡ size s → LargestSays template script before after said
       → (rounds : ℕ) × (struck : ℕ) × (bare : ℕ) × (said ≡ values (rounds ∷ struck ∷ bare ∷ []))
@@ -177,6 +187,10 @@ pub record FirstDemand : Type 0 where
       → Formed template script s → BookingsFormed (s .cards) (s .shapes) bookings → length before ≡ size s
       → SmallestSays template script bookings before after said
       → ((pairs : ℕ) × (said ≡ values (pairs ∷ []))) ⊎ TurnedDown said
+  pub judge-accepts : (template script bookings grid : List ℕ) (said : Said) (s : Sheet)
+      → Formed template script s → BookingsFormed (s .cards) (s .shapes) bookings → length grid ≡ size s
+      → JudgeSays template script bookings grid said
+      → (said ≡ values []) ⊎ ((number : ℕ) × (at : List ℕ) × FromTo 61 63 number × (said ≡ refusal number at))
   -- ---- a refusal is a listed one, and but for 50 no grid changes
   pub template-listed : (template : List ℕ) (number : ℕ) (at : List ℕ) → templateSays template ≡ refusal number at
       → TemplateListed number
@@ -196,6 +210,8 @@ pub record FirstDemand : Type 0 where
       → ((said .largest ≡ refusal number at) → SmallestListed number × (after ≡ before))
       × ((said .smallest ≡ refusal number at) → (SmallestListed number × (after ≡ before))
       ⊎ ((number ≡ 50) × (after .small ≡ replicate (length (before .small)) 0)))
+  pub judge-listed : (template script bookings grid : List ℕ) (number : ℕ) (at : List ℕ)
+      → JudgeSays template script bookings grid (refusal number at) → JudgeListed number
   pub printer-listed : (bytes : List ℕ) (number at : ℕ) → readInput bytes ≡ turnedDown number at → PrinterListed number
 
 -- ================ the second demand
@@ -280,3 +296,32 @@ pub record ThirdDemand : Type 0 where
       → (said : BothSaid) → BothSays template script bookings before after said
       → LargestTyping s (after .large) (said .largest)
       × TwoTypings s bookings (after .large) (after .small) (said .smallest)
+
+-- ================ grids of other makers
+-- The judge of grids, for every well-formed template, script and list of bookings:
+pub record JudgedGrids (template script bookings : List ℕ) (s : Sheet) : Type 0 where
+  -- a grid is accepted exactly if it is a sound typing that has the bookings
+  pub exact : (grid : List ℕ) → length grid ≡ size s → (said : Said) → JudgeSays template script bookings grid said
+      → (said ≡ values []) ↔ (SoundTyping s grid × Holds s (Booked bookings) (on grid))
+  -- where the bookings are not turned down, each grid that the calls for the two typings write is accepted,
+  pub takes-ours : (large-before small-before large small : List ℕ) (of-large of-small : Said)
+      → length large-before ≡ size s → length small-before ≡ size s
+      → LargestSays template script large-before large of-large
+      → SmallestSays template script bookings small-before small of-small → (TurnedDown of-small → ⊥)
+      → (said : Said) → (JudgeSays template script bookings small said → said ≡ values [])
+      × (JudgeSays template script bookings large said → said ≡ values [])
+  -- and each one that is accepted lies between them
+  pub between : (large-before small-before large small : List ℕ) (of-large of-small : Said)
+      → length large-before ≡ size s → length small-before ≡ size s
+      → LargestSays template script large-before large of-large
+      → SmallestSays template script bookings small-before small of-small
+      → (grid : List ℕ) → JudgeSays template script bookings grid (values [])
+      → Below s (on small) (on grid) × Below s (on grid) (on large)
+  -- some grid is accepted exactly if the bookings are not turned down
+  pub some : (before small : List ℕ) (said : Said) → length before ≡ size s
+      → SmallestSays template script bookings before small said
+      → ((grid : List ℕ) × JudgeSays template script bookings grid (values [])) ↔ (TurnedDown said → ⊥)
+
+abbrev pub JudgeDemand : Type 0
+JudgeDemand = (template script bookings : List ℕ) (s : Sheet) → Formed template script s
+    → BookingsFormed (s .cards) (s .shapes) bookings → JudgedGrids template script bookings s

@@ -1,6 +1,7 @@
 -- Demands: the three demands on one page. Refusals: an input for each refusal. Worked: a worked sheet and its
--- answers. Printed: its bytes and its text.
+-- answers. Printed: its bytes and its text. Judged: grids of it that are judged.
 pub mod Worked
 pub mod Printed
+pub mod Judged
 pub mod Refusals
 pub mod Demands

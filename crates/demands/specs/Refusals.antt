@@ -17,8 +17,10 @@ use Rattle.template.specs.Template.{templateSays}
 use Rattle.script.specs.Script.{scriptSays}
 use Rattle.counts.specs.Fit.{FitSays}
 use Rattle.typing.specs.Calls.{LargestSays, SmallestSays}
+use Rattle.typing.specs.Judge.{JudgeSays}
 use Rattle.input.specs.Input.{readInput}
 use Rattle.demands.specs.Worked as worked
+use Rattle.demands.specs.Judged.{unmetGrid}
 
 -- An operation, with the words and bytes that it is lent.
 pub data Asked : Type 0 where
@@ -32,6 +34,8 @@ pub data Asked : Type 0 where
   largest : List ℕ → List ℕ → List ℕ → Asked
   -- "Smallest": a template, a script, bookings and a grid
   smallest : List ℕ → List ℕ → List ℕ → List ℕ → Asked
+  -- "Judge": a template, a script, bookings and a grid
+  judge : List ℕ → List ℕ → List ℕ → List ℕ → Asked
   -- the printer's input
   printer : List ℕ → Asked
 
@@ -51,6 +55,7 @@ Gets (row number at (script words list)) = scriptSays words list ≡ refusal num
 Gets (row number at (largest words list grid)) = LargestSays words list grid grid (refusal number at)
 Gets (row number at (smallest words list bookings grid)) =
     SmallestSays words list bookings grid (afterRefusal number grid) (refusal number at)
+Gets (row number at (judge words list bookings grid)) = JudgeSays words list bookings grid (refusal number at)
 Gets (row number at (printer bytes)) = saidOf (λ input. []) (readInput bytes) ≡ refusal number at
 
 -- Every row does.
@@ -126,13 +131,19 @@ refusals =
     ∷ row 50 (0 ∷ 1 ∷ []) (smallest worked.template worked.script worked.unmetBookings worked.lastShape)
     -- no bytes
     ∷ row 60 (0 ∷ []) (printer [])
+    -- a byte of 2
+    ∷ row 61 (0 ∷ []) (judge plain alone (0 ∷ []) (2 ∷ []))
+    -- the worked sheet, with two pairs that are not met
+    ∷ row 62 (1 ∷ 0 ∷ []) (judge worked.template worked.script worked.metBookings unmetGrid)
+    -- the worked sheet's booking that is not in the grid
+    ∷ row 63 (1 ∷ []) (judge worked.template worked.script worked.unmetBookings worked.lastShape)
     ∷ []
 
 -- The numbers of docs/FORMAT.md.
 abbrev pub listed : List ℕ
 listed =
     1 ∷ 2 ∷ 3 ∷ 4 ∷ 5 ∷ 6 ∷ 7 ∷ 8 ∷ 9 ∷ 10 ∷ 11 ∷ 12 ∷ 20 ∷ 21 ∷ 22 ∷ 23 ∷ 24 ∷ 25 ∷ 30 ∷ 31 ∷ 32 ∷ 33
-    ∷ 40 ∷ 41 ∷ 42 ∷ 43 ∷ 50 ∷ 60 ∷ []
+    ∷ 40 ∷ 41 ∷ 42 ∷ 43 ∷ 50 ∷ 60 ∷ 61 ∷ 62 ∷ 63 ∷ []
 
 -- The numbers of some rows.
 abbrev pub numbersOf : List Row → List ℕ
@@ -172,6 +183,8 @@ others =
     ∷ row 30 (0 ∷ []) (smallest plain alone (1 ∷ 0 ∷ []) (7 ∷ []))
     -- a grid of two bytes where there is one pair
     ∷ row 40 (0 ∷ []) (smallest plain alone (0 ∷ []) (7 ∷ 7 ∷ []))
+    -- a grid of no bytes, judged
+    ∷ row 40 (0 ∷ []) (judge plain alone (0 ∷ []) [])
     -- a byte after the bookings
     ∷ row 60 (0 ∷ []) (printer (0 ∷ 0 ∷ 0 ∷ 0 ∷ 0 ∷ 0 ∷ 0 ∷ []))
     -- the bookings' last word is missing
