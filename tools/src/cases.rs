@@ -1,6 +1,7 @@
-//! Writes inputs into a folder, each with the text that the sheet printer owes beside it.
+//! Writes inputs with what is owed for them: into a folder, each with the text that the sheet printer owes beside
+//! it, or all of them into one file and what is owed into another.
 
-use crate::generate;
+use crate::generate::{self, judging};
 use crate::sheet;
 use std::fs;
 use std::path::Path;
@@ -43,6 +44,25 @@ pub fn stream(inputs: &Path, texts: &Path, seed: u64, count: usize) -> Result<()
     }
     write_file(inputs, &input)?;
     write_file(texts, text.as_bytes())
+}
+
+/// A random case with a grid is left out of the stored ones if it has more bytes than this.
+const STORED_WITH_GRID: usize = 3_000;
+
+/// Writes the sheets with grids of this seed into one file, and their answers into another, a line each. The fixed
+/// ones come first; random ones that are long are left out.
+pub fn judged(inputs: &Path, answers: &Path, seed: u64, count: usize) -> Result<(), String> {
+    let (mut input, mut lines) = (Vec::new(), String::new());
+    let fixed = judging::fixed().len();
+    for (number, case) in judging::cases(seed, count).enumerate() {
+        let bytes = case.bytes()?;
+        if number < fixed || bytes.len() <= STORED_WITH_GRID {
+            input.extend(bytes);
+            lines += &(case.answer() + "\n");
+        }
+    }
+    write_file(inputs, &input)?;
+    write_file(answers, lines.as_bytes())
 }
 
 fn write_file(path: &Path, bytes: &[u8]) -> Result<(), String> {

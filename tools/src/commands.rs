@@ -8,7 +8,7 @@ use prep_tools::text::form::{form, Form};
 use prep_tools::text::load::{load_input, load_sheet, tell_refusal};
 use prep_tools::text::roots::Roots;
 use prep_tools::text::trouble::{Trouble, Why};
-use prep_tools::text::{machine, report, write as writing};
+use prep_tools::text::{judged, machine, report, write as writing};
 use prep_tools::typing::Pair;
 use prep_tools::{cases, compare, draw, fit, generate, page, samples, sheet};
 use std::io;
@@ -58,12 +58,23 @@ const COMMANDS: &[Command] = &[
             &["FILE"],
             &["NUMBER", "PLACE", "FILE"],
             &["50", "CARD", "SHAPE", "FILE"],
+            &["62", "CARD", "SHAPE", "FILE"],
         ],
         options: &[],
         about: "say what is wrong with a sheet, or what a refusal means for it",
         more: "With FILE alone the exit code is 1 if something is wrong. NUMBER and PLACE are those of a refusal\n\
-               that some program printed for the sheet; the place of 50 is a card and a shape.",
+               that some program printed for the sheet; the places of 50 and 62 are a card and a shape. The place\n\
+               of 61 is a byte of a grid.",
         run: run_explain,
+    },
+    Command {
+        name: "judge",
+        forms: &[&["FILE", "GRID"]],
+        options: &[],
+        about: "judge a typing of a sheet that some program made",
+        more: "GRID is a file with the typing's bytes: for each card, for each shape, 1 if the card has it, else 0.\n\
+               Exit code: 0 if it is a sound typing that holds the bookings, 1 if it isn't, 2 if FILE isn't a sheet.",
+        run: run_judge,
     },
     Command {
         name: "words",
@@ -129,6 +140,15 @@ const COMMANDS: &[Command] = &[
         about: "write inputs, each after its length, and their texts, for stored cases",
         more: "",
         run: run_stream,
+    },
+    Command {
+        name: "judge-cases",
+        forms: &[&["IN", "OUT", "SEED", "COUNT"]],
+        options: &[],
+        about: "write sheets with grids to judge, and their answers, for stored cases",
+        more: "A case is a template, a script, bookings and a grid, each after its length in two bytes, low byte\n\
+               first, which counts words for the files and bytes for the grid. Each answer is a line.",
+        run: run_judge_cases,
     },
     Command {
         name: "compare",
@@ -228,9 +248,11 @@ fn run_draw(given: &Given) -> Result<Outcome, String> {
 fn run_explain(given: &Given) -> Result<Outcome, String> {
     match given.arguments[..] {
         [file] => explain_sheet(file),
-        ["50", _, _] => {
-            Err(command("explain")?.wrong("the place of 50 is CARD and SHAPE; one of them is missing"))
+        [number @ ("50" | "62"), _, _] => {
+            let what = format!("the place of {number} is CARD and SHAPE; one of them is missing");
+            Err(command("explain")?.wrong(&what))
         }
+        ["61", _, file] => explain_byte(file, given.number(1, "PLACE")?),
         [_, _, file] => {
             let refusal = Refusal::at(given.number(0, "NUMBER")?, given.number(1, "PLACE")?);
             let trouble = tell_refusal(file, &read(file)?, refusal);
@@ -240,11 +262,11 @@ fn run_explain(given: &Given) -> Result<Outcome, String> {
             show(format!("{trouble}\n"))?;
             Ok(Outcome::Fine)
         }
-        ["50", _, _, file] => {
+        [number @ ("50" | "62"), _, _, file] => {
             let pair = (Card(given.number(1, "CARD")?), Shape(given.number(2, "SHAPE")?));
-            explain_pair(file, pair)
+            explain_pair(file, number, pair)
         }
-        _ => Err(command("explain")?.wrong("only the place of 50 is a card and a shape")),
+        _ => Err(command("explain")?.wrong("only the places of 50 and 62 are a card and a shape")),
     }
 }
 
@@ -264,14 +286,41 @@ fn explain_sheet(file: &str) -> Result<Outcome, String> {
     Ok(Outcome::Noticed)
 }
 
-/// Why a card can't have a shape.
-fn explain_pair(file: &str, pair: Pair) -> Result<Outcome, String> {
+/// Why a card can't have a shape, for 50; why it may not have it under a grid, for 62.
+fn explain_pair(file: &str, number: &str, pair: Pair) -> Result<Outcome, String> {
     let sheet = load_sheet(file, &read(file)?).map_err(told)?;
     if pair.0 .0 >= sheet.setting.script.cards || pair.1 .0 >= sheet.setting.template.shapes() {
         return Err(format!("the sheet in {file} has no such card or no such shape"));
     }
-    show(report::not_met(&sheet, &Roots::new(&sheet.setting), file, pair))?;
+    show(match number {
+        "50" => report::not_met(&sheet, &Roots::new(&sheet.setting), file, pair),
+        _ => judged::explain_pair(&sheet, file, pair),
+    })?;
     Ok(Outcome::Fine)
+}
+
+/// What a byte of a grid stands for.
+fn explain_byte(file: &str, place: usize) -> Result<Outcome, String> {
+    let sheet = load_sheet(file, &read(file)?).map_err(told)?;
+    let Some(told) = judged::explain_byte(&sheet, file, place) else {
+        let bytes = sheet.setting.size();
+        return Err(format!(
+            "a grid for the sheet in {file} has {bytes} bytes, and no byte {place}"
+        ));
+    };
+    show(told)?;
+    Ok(Outcome::Fine)
+}
+
+fn run_judge(given: &Given) -> Result<Outcome, String> {
+    let (file, grid_file) = (given.at(0), given.at(1));
+    if file == "-" && grid_file == "-" {
+        return Err(command("judge")?.wrong("FILE and GRID can't both be standard input"));
+    }
+    let sheet = load_sheet(file, &read(file)?).map_err(told)?;
+    let (told, accepted) = judged::report(&sheet, file, grid_file, &read(grid_file)?);
+    show(told)?;
+    Ok(noticed(!accepted))
 }
 
 fn run_words(given: &Given) -> Result<Outcome, String> {
@@ -340,6 +389,17 @@ fn run_cases(given: &Given) -> Result<Outcome, String> {
 fn run_stream(given: &Given) -> Result<Outcome, String> {
     let (inputs, texts) = (Path::new(given.at(0)), Path::new(given.at(1)));
     cases::stream(inputs, texts, given.number(2, "SEED")?, given.number(3, "COUNT")?)?;
+    Ok(Outcome::Fine)
+}
+
+fn run_judge_cases(given: &Given) -> Result<Outcome, String> {
+    let (inputs, answers) = (Path::new(given.at(0)), Path::new(given.at(1)));
+    cases::judged(
+        inputs,
+        answers,
+        given.number(2, "SEED")?,
+        given.number(3, "COUNT")?,
+    )?;
     Ok(Outcome::Fine)
 }
 

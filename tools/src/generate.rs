@@ -1,4 +1,5 @@
-//! Random inputs for the sheet printer: sheets of all sizes up to the limits, and damaged ones.
+//! Random inputs for the sheet printer: sheets of all sizes up to the limits, and damaged ones. And sheets with grids
+//! that are judged.
 //!
 //! | here       | what                                                              |
 //! |------------|-------------------------------------------------------------------|
@@ -13,12 +14,14 @@
 //! | `knots`    | faults that meet at one place                                     |
 //! | `edges`    | each limit from both sides, the same in every run                 |
 //! | `blanks`   | blank cards and cards beside them, the same in every run          |
+//! | `judging`  | sheets with grids for *Judge a grid*, fixed and random ones       |
 
 pub mod blanks;
 pub mod bookings;
 pub mod damage;
 pub mod edges;
 pub mod heavy;
+pub mod judging;
 pub mod knots;
 pub mod layout;
 pub mod parts;

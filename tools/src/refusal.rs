@@ -1,5 +1,6 @@
-//! A refusal: its number in docs/FORMAT.md and the index of the word at fault.
-//! Only 50 is not one of these, because its place is a card and a shape (see `typing::Smallest`).
+//! A refusal: its number in docs/FORMAT.md and the index of the word at fault, or of the byte for 61.
+//! Only 50 and 62 are not among these, because their place is a card and a shape (see `typing::Smallest` and
+//! `typing::judge::Judged`).
 
 use std::fmt;
 
@@ -8,7 +9,7 @@ use std::fmt;
 pub struct Refusal {
     /// The number of this fault.
     pub number: u16,
-    /// The index of the word at fault, counted in its own file.
+    /// The index of the word at fault, counted in its own file; of the byte in the grid for 61.
     pub place: usize,
 }
 
@@ -48,6 +49,9 @@ impl Refusal {
             42 => "the shape isn't below the count of shapes",
             43 => "a count is over 8,192",
             60 => "the input ends early, goes on, or passes 65,536 bytes",
+            61 => "a byte of the grid is over 1",
+            62 => "a pair of the grid isn't met under it",
+            63 => "a booking isn't held by the grid",
             _ => "a refusal that isn't known",
         }
     }

@@ -112,6 +112,21 @@ impl Part {
         named
     }
 
+    /// This part with each of its links changed.
+    pub fn with_links(&self, change: &dyn Fn(Link) -> Link) -> Part {
+        let inner = |part: &Part| Box::new(part.with_links(change));
+        let each = |parts: &[Part]| parts.iter().map(|part| part.with_links(change)).collect();
+        match self {
+            Part::Nothing => Part::Nothing,
+            Part::Star(part) => Part::Star(inner(part)),
+            Part::Plus(part) => Part::Plus(inner(part)),
+            Part::Optional(part) => Part::Optional(inner(part)),
+            Part::Choice(parts) => Part::Choice(each(parts)),
+            Part::All(parts) => Part::All(each(parts)),
+            Part::Link(link) => Part::Link(change(*link)),
+        }
+    }
+
     /// How many parts lie within each other here, this one included.
     pub fn depth(&self) -> usize {
         match self {

@@ -23,6 +23,7 @@
 //! | `reasons`    | why a card can't have a shape, and who asks for a pair                     |
 //! | `sentences`  | reasons in words                                                           |
 //! | `report`     | the outcome of a sheet in words                                            |
+//! | `judged`     | what is said about a grid that is judged, in words                         |
 //! | `json`       | writes JSON                                                                |
 //! | `machine`    | the outcome of a sheet as JSON                                             |
 
@@ -34,6 +35,7 @@ pub mod explain;
 pub mod form;
 pub mod hints;
 pub mod json;
+pub mod judged;
 pub mod load;
 pub mod machine;
 pub mod misfit;

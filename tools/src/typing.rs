@@ -1,4 +1,4 @@
-//! *Largest* and *Smallest*, and both together.
+//! *Largest* and *Smallest*, both together, and *Judging*.
 //!
 //! | here          | what                                                              |
 //! |---------------|-------------------------------------------------------------------|
@@ -9,10 +9,12 @@
 //! | `counting`    | whether a card's counts fit a shape, card after card              |
 //! | `bookings`    | reads a booking list, refusals 30 to 33                           |
 //! | `closure`     | the smallest typing                                               |
+//! | `judge`       | judges a grid, refusals 61 to 63                                  |
 
 pub mod bookings;
 pub mod closure;
 pub mod counting;
+pub mod judge;
 pub mod links;
 pub mod met;
 pub mod rounds;

@@ -3,8 +3,9 @@
 use prep_tools::generate;
 use prep_tools::random::Random;
 use prep_tools::refusal::Refusal;
+use prep_tools::text::check::Sheet;
 use prep_tools::text::load::{load_input, load_sheet, tell_refusal};
-use prep_tools::text::{machine, write};
+use prep_tools::text::{judged, machine, write};
 
 const TEXTS: [&str; 3] = [
     include_str!("../../examples/prep/programme.txt"),
@@ -44,7 +45,7 @@ const PIECES: [&str; 24] = [
 /// Everything that can be said about a file, to see that nothing panics.
 fn try_all(bytes: &[u8]) -> bool {
     let _ = load_input("x", bytes);
-    for number in [0, 1, 4, 12, 20, 25, 33, 40, 50, 60, 65535] {
+    for number in [0, 1, 4, 12, 20, 25, 33, 40, 50, 60, 61, 62, 63, 65535] {
         let place = usize::from(number) * 7 % 90;
         let _ = tell_refusal("x", bytes, Refusal::at(number, place)).to_string();
     }
@@ -52,6 +53,7 @@ fn try_all(bytes: &[u8]) -> bool {
         Ok(sheet) => {
             assert!(sheet.report("x").starts_with("x: "));
             let _ = machine::outcome(&sheet, "x").to_string();
+            try_grids(&sheet);
             let written = write::sheet_text(&sheet);
             let again = load_sheet("x", written.as_bytes()).expect("what is written is read");
             assert_eq!(again.both, sheet.both);
@@ -62,6 +64,20 @@ fn try_all(bytes: &[u8]) -> bool {
             let _ = machine::trouble(&trouble).to_string();
             false
         }
+    }
+}
+
+/// Everything that can be said about grids of a sheet.
+fn try_grids(sheet: &Sheet) {
+    let size = sheet.setting.size();
+    for grid in [vec![0; size], vec![1; size], vec![1; size + 1], vec![2; size]] {
+        let (told, accepted) = judged::report(sheet, "x", "y", &grid);
+        assert_eq!(accepted, told.contains("is accepted"), "{told}");
+    }
+    assert_eq!(judged::explain_byte(sheet, "x", size), None);
+    for pair in sheet.setting.pairs().take(20) {
+        assert!(judged::explain_byte(sheet, "x", sheet.setting.place(pair)).is_some());
+        assert!(judged::explain_pair(sheet, "x", pair).starts_with("x:"));
     }
 }
 

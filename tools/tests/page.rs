@@ -49,7 +49,8 @@ fn the_page_has_an_example_of_every_refusal() {
         .chain(20..=25)
         .chain(30..=33)
         .chain(40..=43)
-        .chain([50, 60]);
+        .chain([50])
+        .chain(60..=63);
     assert_eq!(shown, listed.map(|number: u16| number.to_string()).collect());
 }
 
@@ -123,6 +124,27 @@ fn a_page_with_the_wrong_order_is_noticed() {
 }
 
 #[test]
+fn a_page_that_judges_a_grid_wrongly_is_noticed() {
+    let head = "| number | template | script | bookings | grid | answer |\n|---|---|---|---|---|---|\n";
+    let row = |grid: &str, number: u16, answer: &str| {
+        format!("| {number} | `1 1 1 0` | `12 1 3 0 4` | `1 3 0` | `{grid}` | `{answer}` |\n")
+    };
+    for (row, wrong) in [
+        (row("1*12", 62, "refused 62 3 0"), 0),
+        (row("1*12", 62, "refused 62 3"), 1),
+        (row("1*12", 63, "refused 62 3 0"), 1),
+        (row("1*11 255", 61, "refused 61 11"), 0),
+        (row("0*12", 63, "refused 63 1"), 0),
+        (row("-", 40, "refused 40 0"), 0),
+        (row("0*12", 63, "accepted"), 1),
+    ] {
+        let (outcome, told) = checked(&format!("{head}{row}"));
+        let outcome = outcome.expect("the page can be read");
+        assert_eq!((outcome.checked, outcome.differ), (1, wrong), "{row}{told}");
+    }
+}
+
+#[test]
 fn the_command_tells_the_line_that_is_wrong() {
     let path = env::temp_dir().join(format!("prep-tools-page-{}.md", process::id()));
     let head = "| template | script | bookings | answer |\n|---|---|---|---|\n";
@@ -161,6 +183,11 @@ fn a_page_that_cannot_be_read_is_an_error_with_its_line() {
         (
             "| template | answer |\n|---|---|\n| `65536` | `refused 1 0` |\n",
             "page:3: \"65536\" isn't a number that fits, nor a name",
+        ),
+        (
+            "| template | script | bookings | grid | answer |\n|---|---|---|---|---|\n\
+             | `1` | `0` | `0` | `256` | `x` |\n",
+            "page:3: 256 isn't a byte",
         ),
         ("\n```sheet\ntemplate 1\n", "page:2: the block doesn't end"),
         (

@@ -130,10 +130,11 @@ fn wrong_words_are_an_error_in_words() {
 }
 
 /// Each command with its arguments.
-const COMMANDS: [(&str, &[&str]); 13] = [
+const COMMANDS: [(&str, &[&str]); 15] = [
     ("check", &["FILE"]),
     ("draw", &["FILE", "OUT.svg"]),
     ("explain", &["FILE"]),
+    ("judge", &["FILE", "GRID"]),
     ("words", &["FILE", "OUT"]),
     ("text", &["FILE"]),
     ("print", &["FILE"]),
@@ -142,6 +143,7 @@ const COMMANDS: [(&str, &[&str]); 13] = [
     ("fit-samples", &["SEED", "COUNT"]),
     ("cases", &["DIR", "SEED", "COUNT"]),
     ("stream", &["IN", "OUT", "SEED", "COUNT"]),
+    ("judge-cases", &["IN", "OUT", "SEED", "COUNT"]),
     ("compare", &["PROGRAM", "SEED", "COUNT"]),
     ("longest", &["CARDS", "SHAPES"]),
 ];
@@ -166,7 +168,8 @@ fn a_missing_argument_is_named() {
     assert!(error(&[]).starts_with("prep-tools: COMMAND is missing\n"));
     assert!(error(&["explain", "10", "5"]).contains("FILE is missing"));
     assert!(error(&["explain", "50", "1", "x"]).contains("CARD and SHAPE"));
-    assert!(error(&["explain", "10", "1", "2", "x"]).contains("only the place of 50"));
+    assert!(error(&["explain", "62", "1", "x"]).contains("the place of 62 is CARD and SHAPE"));
+    assert!(error(&["explain", "10", "1", "2", "x"]).contains("only the places of 50 and 62"));
     assert!(error(&["explain", "x", "1", "y"]).contains("NUMBER isn't a number that fits: x"));
     assert!(error(&["check", "x", "y"]).contains("y is one argument too many"));
     assert!(error(&["chek", "x"]).contains("no command is named chek, perhaps check"));

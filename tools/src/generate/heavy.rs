@@ -10,7 +10,7 @@ use crate::template::{self, Link, Part, Template, MOST_KINDS, MOST_SHAPES, MOST_
 use crate::typing::bookings::MOST_BOOKINGS;
 
 /// The kinds that every shape of the densest sheet names.
-const COMMON: u16 = 24;
+pub const COMMON: u16 = 24;
 /// The kinds that only some of its shapes name.
 const OWN: u16 = 6;
 
@@ -76,7 +76,7 @@ pub fn densest() -> Files {
 }
 
 /// 32 shapes of 30 links each; the last one is filled up to the last word.
-fn dense_template() -> Template {
+pub fn dense_template() -> Template {
     let mut parts: Vec<Part> = (0..MOST_SHAPES).map(dense_part).collect();
     let kinds = MOST_KINDS;
     let mut template = Template {

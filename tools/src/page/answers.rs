@@ -8,6 +8,7 @@ use crate::refusal::Refusal;
 use crate::script::{self, links_of_card};
 use crate::sheet::{self, Files};
 use crate::template;
+use crate::typing::judge::{self, judge_by_choices};
 use crate::typing::{self, bookings, largest_by_rounds, met, smallest, Setting, Smallest};
 
 /// What a lent grid is filled with first.
@@ -28,6 +29,7 @@ pub fn answer(question: &Question) -> Result<String, String> {
         Operation::Closure => closure(question),
         Operation::Met => pair_is_met(question),
         Operation::Sound | Operation::Holds | Operation::Between => about_typing(question),
+        Operation::Judge => Ok(judged(question)),
     }
 }
 
@@ -179,6 +181,18 @@ fn pair_is_met(question: &Question) -> Result<String, String> {
     }
     let is_met = met::met_by_choices(&setting, grid, (Card(question.card), Shape(question.shape)));
     Ok(if is_met { "met" } else { "not met" }.to_string())
+}
+
+/// What is said about a grid, each pair by trying every choice.
+fn judged(question: &Question) -> String {
+    let Question {
+        template,
+        script,
+        bookings,
+        grid,
+        ..
+    } = question;
+    judge::answer(judge_by_choices(template, script, bookings, grid))
 }
 
 /// Whether the typing of a question is sound, holds the bookings, or lies between two others.

@@ -1,4 +1,5 @@
-//! What a cell holds: words in base ten, a name for words, `w*n` for n words w, or a typing as digits.
+//! What a cell holds: words in base ten, a name for words, `w*n` for n words w, bytes in the same way, or a typing as
+//! digits.
 
 use std::collections::BTreeMap;
 
@@ -39,6 +40,12 @@ pub fn bytes(names: &Names, cell: &str) -> Result<Vec<u8>, String> {
     let mut bytes: Vec<u8> = words.iter().flat_map(|word| word.to_le_bytes()).collect();
     bytes.resize(bytes.len() + more, 0);
     Ok(bytes)
+}
+
+/// The bytes of a grid that is judged, in base ten; `w*n` is n bytes w, `-` or nothing at all is no bytes.
+pub fn judged_grid(cell: &str) -> Result<Vec<u8>, String> {
+    let byte = |word: u16| u8::try_from(word).map_err(|_| format!("{word} isn't a byte"));
+    words(&Names::new(), cell)?.into_iter().map(byte).collect()
 }
 
 /// A typing: a digit for each pair, in the order of places; spaces are only for the eye.

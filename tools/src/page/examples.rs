@@ -37,10 +37,12 @@ pub enum Operation {
     Holds,
     /// Whether a typing lies between two others.
     Between,
+    /// *Judge a grid*.
+    Judge,
 }
 
 /// The columns that ask, in the order of this list, and what they ask.
-const ASKED: [(&str, Operation); 15] = [
+const ASKED: [(&str, Operation); 16] = [
     ("template", Operation::Template),
     ("template counts", Operation::Fit),
     ("template shape counts", Operation::Fit),
@@ -56,12 +58,13 @@ const ASKED: [(&str, Operation); 15] = [
     ("template script typing", Operation::Sound),
     ("template script bookings typing", Operation::Holds),
     ("template script typing lower upper", Operation::Between),
+    ("template script bookings grid", Operation::Judge),
 ];
 
 /// The columns that ask, in the order in which `ASKED` names them.
-const COLUMNS: [&str; 13] = [
+const COLUMNS: [&str; 14] = [
     "input", "template", "script", "bookings", "shape", "counts", "card", "bytes", "round", "typing",
-    "lower", "upper", "closure",
+    "lower", "upper", "closure", "grid",
 ];
 
 /// The columns that only people read.
@@ -94,6 +97,8 @@ pub struct Question {
     pub lower: Vec<u8>,
     /// The upper of those two.
     pub upper: Vec<u8>,
+    /// The bytes of a grid that is judged.
+    pub grid: Vec<u8>,
     /// The printer's input.
     pub input: Vec<u8>,
 }
@@ -198,6 +203,7 @@ impl Question {
             "typing" => self.typing = cells::grid(cell)?,
             "lower" => self.lower = cells::grid(cell)?,
             "upper" => self.upper = cells::grid(cell)?,
+            "grid" => self.grid = cells::judged_grid(cell)?,
             _ => return Err(format!("no example asks with a column {column:?}")),
         }
         Ok(())

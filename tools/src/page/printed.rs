@@ -89,7 +89,11 @@ fn counted(question: &Question) -> Option<Files> {
             script.extend([0, kind, card]);
         }
     }
-    let part = towards(template.part(Shape(question.shape)), Shape(1));
+    let to_second = |link: Link| Link {
+        shape: Shape(1),
+        ..link
+    };
+    let part = template.part(Shape(question.shape)).with_links(&to_second);
     let template = Template {
         kinds: template.kinds,
         parts: vec![part, Part::Nothing],
@@ -99,19 +103,4 @@ fn counted(question: &Question) -> Option<Files> {
         script,
         bookings: vec![1, 0, 0],
     })
-}
-
-/// The part with every link to this shape.
-fn towards(part: &Part, shape: Shape) -> Part {
-    let inner = |part: &Part| Box::new(towards(part, shape));
-    let each = |parts: &[Part]| parts.iter().map(|part| towards(part, shape)).collect();
-    match part {
-        Part::Nothing => Part::Nothing,
-        Part::Star(part) => Part::Star(inner(part)),
-        Part::Plus(part) => Part::Plus(inner(part)),
-        Part::Optional(part) => Part::Optional(inner(part)),
-        Part::Choice(parts) => Part::Choice(each(parts)),
-        Part::All(parts) => Part::All(each(parts)),
-        Part::Link(link) => Part::Link(Link { shape, ..*link }),
-    }
 }

@@ -71,9 +71,18 @@ pub fn all_not_met(sheet: &Sheet, roots: &Roots) -> Vec<Reason> {
 }
 
 /// Why the links of a card don't fit a shape by their counts; none if they do.
-fn own_misfit(setting: &Setting, (card, shape): Pair) -> Option<Misfit> {
+pub fn own_misfit(setting: &Setting, (card, shape): Pair) -> Option<Misfit> {
     let counts = setting.script.counts_of(card, setting.template.kinds);
     misfit(setting.template.part(shape), &counts)
+}
+
+/// What a pair asks for: for each link of its card whose kind the shape names, the kind and the pair at the far end.
+pub fn asked_for(setting: &Setting, (card, shape): Pair) -> Vec<Towards> {
+    let named = setting.template.part(shape).named(setting.template.kinds);
+    let links = setting.script.links_of(card).iter();
+    links
+        .filter_map(|link| Some((link.kind, (link.to, named[link.kind.index()]?))))
+        .collect()
 }
 
 /// How many links lead to a card that can't be what it must be, and whether the shape doesn't name one's kind.

@@ -46,7 +46,7 @@ fn head(sheet: &Sheet, file: &str) -> String {
 }
 
 /// A count of things.
-fn counted(count: usize, thing: &str) -> String {
+pub fn counted(count: usize, thing: &str) -> String {
     let end = if count == 1 { "" } else { "s" };
     format!("{count} {thing}{end}")
 }

@@ -5,12 +5,12 @@ use crate::refusal::Refusal;
 use crate::sheet::{Files, MOST_BYTES};
 use crate::template::{CHOICE, LINK, MOST_DEPTH, NOTHING, OPTIONAL, PLUS, STAR};
 
-/// The file that a refusal's place is counted in: its name and its words. None for 40 to 43 and 60.
+/// The file that a refusal's place is counted in: its name and its words. None for 40 to 43, 60 and 61.
 pub fn file_of(files: &Files, refusal: Refusal) -> Option<(&'static str, &[u16])> {
     match refusal.number {
         1..=12 => Some(("template", &files.template)),
         20..=25 => Some(("script", &files.script)),
-        30..=33 => Some(("bookings", &files.bookings)),
+        30..=33 | 63 => Some(("bookings", &files.bookings)),
         _ => None,
     }
 }

@@ -8,7 +8,7 @@ use super::{quotations, Text};
 use crate::numbers::{Card, Shape};
 use crate::typing::Pair;
 
-/// The most steps of a way that are told one by one.
+/// The most steps of a way, or links of a card, that are told one by one.
 const MOST_STEPS: usize = 4;
 
 /// A card can't have a shape, and why: the card to blame comes first.
@@ -52,6 +52,19 @@ fn path(text: &Text, steps: &[Towards]) -> String {
         }
         _ => steps.iter().map(step).collect::<Vec<_>>().join(", "),
     }
+}
+
+/// What the cards at the far ends of a card's links are or must be; those beyond the first few are only counted.
+pub fn far_cards(text: &Text, steps: &[Towards], verb: &str) -> String {
+    let one = |(kind, (card, shape)): &Towards| {
+        let (kind, who) = (&text.kinds[kind.index()].text, called(text, *card));
+        format!("its {kind} {who} {verb} {}", a_shape(text, *shape))
+    };
+    let mut told: Vec<String> = steps.iter().take(MOST_STEPS).map(one).collect();
+    if steps.len() > MOST_STEPS {
+        told.push(format!("so with {} more of its links", steps.len() - MOST_STEPS));
+    }
+    told.join("; ")
 }
 
 /// What is wrong with a card's links: how many are wanted, how many are there.
@@ -113,7 +126,7 @@ pub fn booked_by(text: &Text, steps: Option<&[Step]>, goal: Pair) -> String {
 }
 
 /// A card in the middle of a sentence: its title, or else its name.
-fn called(text: &Text, card: Card) -> String {
+pub fn called(text: &Text, card: Card) -> String {
     match &text.cards[card.index()] {
         (_, Some(title)) => quotations::write(title),
         (name, None) => name.text.clone(),

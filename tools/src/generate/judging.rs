@@ -1,0 +1,131 @@
+//! Inputs for *Judge a grid*: sheets, each with a grid.
+//!
+//! | here      | what                                                                        |
+//! |-----------|-----------------------------------------------------------------------------|
+//! | `samples` | the examples of docs/FORMAT.md, and every grid of the worked sheet          |
+//! | `edges`   | each refusal of a grid from both sides                                      |
+//! | `orders`  | several faults at once: which one is told                                   |
+//! | `typings` | both typings of some sheets, typings between them, and what is a pair off   |
+//! | `limits`  | everything at its limit                                                     |
+//! | `grids`   | random grids                                                                |
+
+pub mod edges;
+pub mod grids;
+pub mod limits;
+pub mod orders;
+pub mod samples;
+pub mod typings;
+
+use crate::random::Random;
+use crate::refusal::Refusal;
+use crate::sheet::{self, Files};
+use crate::typing::judge::{self, judge_by_choices};
+use crate::typing::{bookings, Pair, Setting};
+
+/// The most words of a file of a case.
+pub const MOST_FILE_WORDS: usize = 32_767;
+/// The most bytes of a grid of a case.
+pub const MOST_GRID_BYTES: usize = 65_535;
+
+/// One sheet with a grid, and a name that says how they were made.
+#[derive(Clone, PartialEq, Eq, Debug)]
+pub struct JudgeCase {
+    /// How it was made.
+    pub name: String,
+    /// The template, the script and the bookings.
+    pub files: Files,
+    /// The bytes of the grid.
+    pub grid: Vec<u8>,
+}
+
+impl JudgeCase {
+    /// A case of these words and bytes.
+    pub fn new(
+        name: impl Into<String>,
+        template: &[u16],
+        script: &[u16],
+        bookings: &[u16],
+        grid: &[u8],
+    ) -> JudgeCase {
+        JudgeCase {
+            name: name.into(),
+            files: Files {
+                template: template.to_vec(),
+                script: script.to_vec(),
+                bookings: bookings.to_vec(),
+            },
+            grid: grid.to_vec(),
+        }
+    }
+
+    /// The line that is owed, found by trying choices where these aren't too many.
+    pub fn answer(&self) -> String {
+        let Files {
+            template,
+            script,
+            bookings,
+        } = &self.files;
+        judge::answer(judge_by_choices(template, script, bookings, &self.grid))
+    }
+
+    /// The three files and the grid, each after its length in two bytes, low byte first: a count of words for the
+    /// files, of bytes for the grid.
+    pub fn bytes(&self) -> Result<Vec<u8>, String> {
+        let files = [&self.files.template, &self.files.script, &self.files.bookings];
+        let longest = files.iter().map(|words| words.len()).max().unwrap_or(0);
+        if longest > MOST_FILE_WORDS || self.grid.len() > MOST_GRID_BYTES {
+            return Err(format!("the case {} is too long", self.name));
+        }
+        let mut bytes = self.files.bytes();
+        bytes.extend((self.grid.len() as u16).to_le_bytes());
+        bytes.extend(&self.grid);
+        Ok(bytes)
+    }
+}
+
+/// The cases that are the same for every seed.
+pub fn fixed() -> Vec<JudgeCase> {
+    [
+        samples::samples(),
+        samples::every_grid(),
+        edges::edges(),
+        orders::orders(),
+        typings::typings(),
+        limits::limits(),
+    ]
+    .concat()
+}
+
+/// The cases of one seed: the fixed ones first, then as many random ones as are asked for.
+pub fn cases(seed: u64, count: usize) -> impl Iterator<Item = JudgeCase> {
+    let mut random = Random::new(seed);
+    fixed()
+        .into_iter()
+        .chain(std::iter::repeat_with(move || case(&mut random)))
+        .take(count)
+}
+
+/// One random case: a whole sheet, or one with a faulty file.
+pub fn case(random: &mut Random) -> JudgeCase {
+    let is_whole = random.chance(5, 6);
+    loop {
+        let source = super::case(random);
+        let Ok(files) = sheet::split(&source.bytes) else {
+            continue;
+        };
+        let (name, grid) = match read(&files) {
+            Ok((setting, booked)) if is_whole => grids::grid(random, &setting, &booked),
+            Err(_) if !is_whole => ("any", grids::any(random, &files)),
+            _ => continue,
+        };
+        let name = format!("{}-{name}", source.name);
+        return JudgeCase { name, files, grid };
+    }
+}
+
+/// A sheet that is read, and its bookings.
+fn read(files: &Files) -> Result<(Setting, Vec<Pair>), Refusal> {
+    let setting = Setting::read(&files.template, &files.script)?;
+    let booked = bookings::read(&setting, &files.bookings)?;
+    Ok((setting, booked))
+}

@@ -1,0 +1,150 @@
+//! Everything at its limit: accepted, and refused at the very last byte, pair or booking.
+
+use super::samples::SMALL;
+use super::{JudgeCase, MOST_FILE_WORDS, MOST_GRID_BYTES};
+use crate::generate::heavy::{dense_template, COMMON};
+use crate::generate::parts::filler;
+use crate::generate::special::chain;
+use crate::generate::{bookings, scripts};
+use crate::numbers::{Card, Kind, Shape};
+use crate::random::Random;
+use crate::script::{MOST_CARDS, MOST_LINKS};
+use crate::sheet::Files;
+use crate::template::{self, Link, MOST_SHAPES, MOST_WORDS};
+use crate::typing::bookings::MOST_BOOKINGS;
+use crate::typing::Pair;
+
+/// The last of the kinds that all shapes of the dense template name. Only the last card has a link of it.
+const RARE: Kind = Kind(COMMON - 1);
+
+/// All cases at the limits.
+pub fn limits() -> Vec<JudgeCase> {
+    let pairs = usize::from(MOST_CARDS) * usize::from(MOST_SHAPES);
+    let full = |name, most| JudgeCase {
+        name: format!("full-{name}"),
+        files: full_sheet(most),
+        grid: vec![1; pairs],
+    };
+    [
+        vec![full("accepted", 1), full("last-pair", 0)],
+        grids(pairs),
+        booked(),
+        chains(),
+        long_files(),
+    ]
+    .concat()
+}
+
+/// 64 kinds, 32 shapes, 4,096 template words, 1,024 cards with 8 links each, and 1,024 bookings. All pairs are met
+/// under the grid that has them all. Only the last one isn't, if the last shape takes none of the rare links.
+fn full_sheet(most: u16) -> Files {
+    let mut random = Random::new(12);
+    let mut template = dense_template();
+    let last_shape = usize::from(MOST_SHAPES) - 1;
+    let bounded = |link: Link| Link {
+        high: if link.kind == RARE { Some(most) } else { link.high },
+        ..link
+    };
+    template.parts[last_shape] = template.parts[last_shape].with_links(&bounded);
+    let mut links = scripts::Links::new();
+    for card in 0..MOST_CARDS {
+        let mut kinds: Vec<u16> = (0..RARE.0).collect();
+        random.shuffle(&mut kinds);
+        kinds.truncate(usize::from(MOST_LINKS / MOST_CARDS));
+        if card == MOST_CARDS - 1 {
+            kinds[0] = RARE.0;
+        }
+        // No link leads to the last card, so that no other pair asks for one of its.
+        links.extend(
+            kinds
+                .iter()
+                .map(|kind| (card, *kind, random.word(0, MOST_CARDS - 2))),
+        );
+    }
+    let booked: Vec<Pair> = (0..MOST_BOOKINGS)
+        .map(|card| (Card(card), Shape(card % MOST_SHAPES)))
+        .collect();
+    Files {
+        template: template::write(&template),
+        script: scripts::words(MOST_CARDS, &links),
+        bookings: bookings::words(&booked),
+    }
+}
+
+/// The last byte of the largest grid is over 1; that byte is missing; the longest grid of all.
+fn grids(pairs: usize) -> Vec<JudgeCase> {
+    let wide = [vec![1, MOST_SHAPES], [1, 0].repeat(usize::from(MOST_SHAPES))].concat();
+    let cards = [MOST_CARDS, 0];
+    let over = [vec![1; pairs - 1], vec![2]].concat();
+    vec![
+        JudgeCase::new("last-byte", &wide, &cards, &[0], &over),
+        JudgeCase::new("last-byte-missing", &wide, &cards, &[0], &vec![1; pairs - 1]),
+        JudgeCase::new("no-bytes", &wide, &cards, &[0], &[]),
+        JudgeCase::new("longest-grid", &SMALL, &[3, 0], &[0], &vec![1; MOST_GRID_BYTES]),
+    ]
+}
+
+/// As many cards and bookings as can be: all held, all but the first or the last, and one that is repeated.
+fn booked() -> Vec<JudgeCase> {
+    let cards = [MOST_CARDS, 0];
+    let last = usize::from(MOST_CARDS) - 1;
+    let each: Vec<Pair> = (0..MOST_CARDS).map(|card| (Card(card), Shape(0))).collect();
+    let mut backwards = each.clone();
+    backwards.reverse();
+    let same = vec![(Card(MOST_CARDS - 1), Shape(0)); usize::from(MOST_BOOKINGS)];
+    let one_more = [same.clone(), same[..1].to_vec()].concat();
+    let lists = [
+        ("each", each),
+        ("backwards", backwards),
+        ("same", same),
+        ("one-more", one_more),
+    ];
+    let mut cases = Vec::new();
+    for (name, list) in lists {
+        let words = bookings::words(&list);
+        let whole = vec![1; usize::from(MOST_CARDS)];
+        let mut lacking = whole.clone();
+        lacking[last] = 0;
+        for (end, grid) in [("held", whole), ("last-card", lacking)] {
+            cases.push(JudgeCase::new(
+                format!("booked-{name}-{end}"),
+                &SMALL,
+                &cards,
+                &words,
+                &grid,
+            ));
+        }
+    }
+    cases
+}
+
+/// A ring of all cards, all of which have the shape or all but the last; and a chain, whose last card can't have it.
+fn chains() -> Vec<JudgeCase> {
+    let whole = vec![1; usize::from(MOST_CARDS)];
+    let mut lacking = whole.clone();
+    lacking[usize::from(MOST_CARDS) - 1] = 0;
+    let case = |name: &str, closed, grid: &[u8]| JudgeCase {
+        name: name.to_string(),
+        files: chain(MOST_CARDS, closed),
+        grid: grid.to_vec(),
+    };
+    vec![
+        case("ring-1024", true, &whole),
+        case("ring-1024-last-card", true, &lacking),
+        case("chain-1024", false, &whole),
+    ]
+}
+
+/// The longest template and one that is a word longer, and the longest booking list that a case may have.
+fn long_files() -> Vec<JudgeCase> {
+    let template = |words: usize| {
+        let part = filler(words - 3).words();
+        [vec![1, 1, part.len() as u16], part].concat()
+    };
+    let long_list = vec![0; MOST_FILE_WORDS];
+    vec![
+        JudgeCase::new("template-4096", &template(MOST_WORDS), &[1, 0], &[0], &[1]),
+        JudgeCase::new("template-4097", &template(MOST_WORDS + 1), &[1, 0], &[0], &[1]),
+        JudgeCase::new("longest-file", &SMALL, &[1, 0], &long_list, &[1]),
+    ]
+}

@@ -1,0 +1,495 @@
+//! *Judge a grid*: the page's examples, both methods, what the page promises on all grids of tiny sheets, what comes
+//! of each damage, and the command.
+
+use prep_tools::generate::judging::{grids, samples};
+use prep_tools::generate::special::{document, DOCUMENT_SCRIPT, DOCUMENT_TEMPLATE};
+use prep_tools::generate::{damage, derived, loose, Scale, SMALL, TINY};
+use prep_tools::page::examples::{self, Operation};
+use prep_tools::random::Random;
+use prep_tools::refusal::Refusal;
+use prep_tools::sheet::Files;
+use prep_tools::typing::judge::{answer, can_be_tried, judge, judge_by_choices, Judged};
+use prep_tools::typing::met::{holds, lies_below, met_by_choices};
+use prep_tools::typing::{bookings, closure, links, Grid, Pair, Setting, Smallest};
+use std::collections::BTreeMap;
+use std::fs;
+use std::path::PathBuf;
+use std::process::{self, Command};
+
+const PAGE: &str = concat!(env!("CARGO_MANIFEST_DIR"), "/../docs/FORMAT.md");
+
+/// A sheet with at most 12 pairs.
+const TINIEST: Scale = Scale {
+    name: "tiniest",
+    kinds: 2,
+    shapes: 3,
+    kinds_in_shape: 2,
+    cards: 4,
+    links: 8,
+    bookings: 3,
+};
+
+/// A random sheet that is well-formed.
+fn sheet(random: &mut Random, scale: Scale) -> (Files, Setting, Vec<Pair>) {
+    let files = match random.chance(1, 3) {
+        true => loose(random, scale),
+        false => derived(random, scale),
+    };
+    let setting = Setting::read(&files.template, &files.script).expect("a generated sheet is well-formed");
+    let booked = bookings::read(&setting, &files.bookings).expect("generated bookings are well-formed");
+    (files, setting, booked)
+}
+
+/// What both methods say, which must be the same.
+fn judged(files: &Files, grid: &[u8]) -> Result<Judged, Refusal> {
+    let Files {
+        template,
+        script,
+        bookings,
+    } = files;
+    let quick = judge(template, script, bookings, grid);
+    let by_choices = judge_by_choices(template, script, bookings, grid);
+    assert_eq!(quick, by_choices, "{files:?} {grid:?}");
+    quick
+}
+
+#[test]
+fn the_examples_of_the_page_are_the_samples() {
+    let page = fs::read_to_string(PAGE).expect("the page can be read");
+    let on_the_page: Vec<_> = examples::read(&page)
+        .expect("the page has examples")
+        .into_iter()
+        .filter(|example| example.question.operation == Operation::Judge)
+        .collect();
+    let samples = samples::samples();
+    assert_eq!(on_the_page.len(), samples.len());
+    for (example, sample) in on_the_page.iter().zip(samples) {
+        let question = &example.question;
+        let files = Files {
+            template: question.template.clone(),
+            script: question.script.clone(),
+            bookings: question.bookings.clone(),
+        };
+        assert_eq!((&files, &question.grid), (&sample.files, &sample.grid));
+        assert_eq!(answer(judged(&files, &sample.grid)), example.answer, "{files:?}");
+        assert_eq!(sample.answer(), example.answer);
+    }
+}
+
+#[test]
+fn both_methods_agree() {
+    let mut random = Random::new(71);
+    let (mut accepted, mut not_met, mut tried, mut left) = (0, 0, 0, 0);
+    for number in 0..3000 {
+        let scale = if number % 4 == 0 { SMALL } else { TINY };
+        let (files, setting, booked) = sheet(&mut random, scale);
+        let (_, grid) = grids::grid(&mut random, &setting, &booked);
+        match judged(&files, &grid) {
+            Ok(Judged::Accepted) => accepted += 1,
+            Ok(Judged::NotMet(..)) => not_met += 1,
+            Err(_) => continue,
+        }
+        for pair in setting.pairs().filter(|pair| grid[setting.place(*pair)] == 1) {
+            match can_be_tried(&setting, &grid, pair.0) {
+                true => tried += 1,
+                false => left += 1,
+            }
+        }
+    }
+    let told = format!("{accepted} accepted, {not_met} not met; {tried} pairs tried, {left} not");
+    assert!(accepted > 700 && not_met > 700, "{told}");
+    assert!(tried > 10 * left && tried > 10_000, "{told}");
+}
+
+/// All grids of this many bytes 0 or 1.
+fn all_grids(size: usize) -> impl Iterator<Item = Grid> {
+    (0..1_u32 << size).map(move |bits| (0..size).map(|place| (bits >> place & 1) as u8).collect())
+}
+
+/// What the page says about a grid of 0s and 1s, with no other method than trying every choice.
+fn by_definition(setting: &Setting, booked: &[Pair], grid: &[u8]) -> Result<Judged, Refusal> {
+    let unmet = |pair: &Pair| grid[setting.place(*pair)] == 1 && !met_by_choices(setting, grid, *pair);
+    if let Some((card, shape)) = setting.pairs().find(unmet) {
+        return Ok(Judged::NotMet(card, shape));
+    }
+    let unheld = |number: &usize| !holds(setting, grid, &booked[*number..=*number]);
+    match (0..booked.len()).find(unheld) {
+        Some(number) => Err(Refusal::at(63, 1 + 2 * number)),
+        None => Ok(Judged::Accepted),
+    }
+}
+
+#[test]
+fn all_grids_of_tiny_sheets_are_judged_as_the_page_says() {
+    let mut random = Random::new(72);
+    let (mut sheets, mut unmet, mut between, mut refused_between) = (0, 0, 0, 0);
+    while sheets < 800 {
+        let (files, setting, booked) = sheet(&mut random, TINIEST);
+        if setting.size() > 10 {
+            continue;
+        }
+        sheets += 1;
+        let (_, top) = links::largest(&setting);
+        let (smallest, bottom) = closure::smallest(&setting, &booked);
+        let is_met = matches!(smallest, Smallest::Pairs(_));
+        unmet += usize::from(!is_met);
+        let mut accepted = 0;
+        for grid in all_grids(setting.size()) {
+            let answer = judged(&files, &grid);
+            assert_eq!(
+                answer,
+                by_definition(&setting, &booked, &grid),
+                "{files:?} {grid:?}"
+            );
+            let lies_between = is_met && lies_below(&bottom, &grid) && lies_below(&grid, &top);
+            if answer == Ok(Judged::Accepted) {
+                accepted += 1;
+                assert!(lies_between, "{files:?} {grid:?}");
+                between += usize::from(grid != top && grid != bottom);
+            } else {
+                assert!(!is_met || (grid != top && grid != bottom), "{files:?} {grid:?}");
+                refused_between += usize::from(lies_between);
+            }
+        }
+        // The smallest is one of them, so some grid is accepted exactly if 50 isn't answered.
+        assert_eq!(accepted > 0, is_met, "{files:?}");
+    }
+    let told = format!("{unmet} unmet, {between} strictly between, {refused_between} between and refused");
+    assert!(unmet > 200 && between > 3000 && refused_between > 300, "{told}");
+}
+
+/// The first booking that asks for a pair.
+fn first_booking(booked: &[Pair], pair: Pair) -> Option<usize> {
+    booked.iter().position(|other| *other == pair)
+}
+
+/// Each change of an accepted grid that is one byte or one pair away, and what must be said about it.
+fn changes(setting: &Setting, booked: &[Pair], grid: &[u8]) -> Vec<(Grid, Result<Judged, Refusal>)> {
+    let mut changes = Vec::new();
+    for pair in setting.pairs() {
+        let place = setting.place(pair);
+        let with = |byte: u8| {
+            let mut changed = grid.to_vec();
+            changed[place] = byte;
+            changed
+        };
+        changes.push((with(2), Err(Refusal::at(61, place))));
+        changes.push((with(255), Err(Refusal::at(61, place))));
+        if grid[place] == 0 {
+            // One pair more takes nothing from the others.
+            let said = match met_by_choices(setting, &with(1), pair) {
+                true => Judged::Accepted,
+                false => Judged::NotMet(pair.0, pair.1),
+            };
+            changes.push((with(1), Ok(said)));
+            continue;
+        }
+        let less = with(0);
+        let named = setting.template.named();
+        let asks = |(card, shape): &Pair| {
+            let links = setting.script.links_of(*card).iter();
+            let has = less[setting.place((*card, *shape))] == 1;
+            has && links
+                .filter_map(|link| Some((link.to, named[shape.index()][link.kind.index()]?)))
+                .any(|far| far == pair)
+        };
+        let asking = setting.pairs().find(asks);
+        let said = match (asking, first_booking(booked, pair)) {
+            (Some((card, shape)), _) => Ok(Judged::NotMet(card, shape)),
+            (None, Some(booking)) => Err(Refusal::at(63, 1 + 2 * booking)),
+            (None, None) => Ok(Judged::Accepted),
+        };
+        changes.push((less, said));
+    }
+    changes
+}
+
+#[test]
+fn a_grid_that_is_one_byte_off_is_told_where() {
+    let mut random = Random::new(73);
+    let mut tally = [0; 5];
+    for _ in 0..600 {
+        let (files, setting, booked) = sheet(&mut random, TINY);
+        let grid = grids::between(&mut random, &setting, &booked);
+        if judged(&files, &grid) != Ok(Judged::Accepted) {
+            continue;
+        }
+        for (changed, said) in changes(&setting, &booked, &grid) {
+            assert_eq!(judged(&files, &changed), said, "{files:?} {grid:?} {changed:?}");
+            let number = match said {
+                Ok(Judged::Accepted) => 0,
+                Ok(Judged::NotMet(..)) => 1,
+                Err(refusal) => usize::from(refusal.number) - 61 + 2,
+            };
+            tally[number] += 1;
+        }
+        for size in [0, grid.len() - grid.len().min(1), grid.len() + 1] {
+            let mut other = grid.clone();
+            other.resize(size, 2);
+            let said = judged(&files, &other);
+            assert_eq!(said == Err(Refusal::at(40, 0)), size != grid.len(), "{files:?}");
+        }
+    }
+    // Accepted, 62, 61 and 63.
+    assert!(
+        tally[0] > 300 && tally[1] > 1000 && tally[2] > 3000 && tally[4] > 100,
+        "{tally:?}"
+    );
+}
+
+#[test]
+fn a_file_that_is_refused_comes_before_the_grid() {
+    let mut random = Random::new(74);
+    let aims: Vec<u16> = damage::AIMS.into_iter().filter(|number| *number < 40).collect();
+    let mut hit = BTreeMap::new();
+    for number in aims.iter().cycle().take(1500) {
+        let (mut files, setting, _) = sheet(&mut random, TINY);
+        damage::aimed(&mut random, &mut files, *number);
+        let size = setting.size() + random.below(2);
+        let grid: Grid = (0..size).map(|_| random.below(3) as u8).collect();
+        let read = Setting::read(&files.template, &files.script)
+            .and_then(|setting| bookings::read(&setting, &files.bookings));
+        if let Err(refusal) = read {
+            assert_eq!(judged(&files, &grid), Err(refusal), "{files:?}");
+            *hit.entry(refusal.number).or_insert(0) += 1;
+        }
+    }
+    for number in aims {
+        let count = hit.get(&number).copied().unwrap_or(0);
+        assert!(count > 10, "{number}: {hit:?}");
+    }
+}
+
+#[test]
+fn the_order_of_the_faults() {
+    let files = document(&[2, 1, 0, 2, 1]);
+    let said = |grid: &[u8]| answer(judged(&files, grid));
+    // The first booking isn't held; card 0 has shape 1 and links; a byte is over 1; a byte is missing.
+    assert_eq!(said(&[0, 0, 0, 0, 0, 1]), "refused 63 1");
+    assert_eq!(said(&[0, 1, 0, 0, 0, 1]), "refused 62 0 1");
+    assert_eq!(said(&[0, 1, 0, 0, 0, 2]), "refused 61 5");
+    assert_eq!(said(&[0, 1, 0, 0, 2]), "refused 40 0");
+    let with = |words: &[u16]| {
+        answer(judge(
+            &DOCUMENT_TEMPLATE,
+            &DOCUMENT_SCRIPT,
+            words,
+            &[0, 1, 0, 0, 2],
+        ))
+    };
+    assert_eq!(with(&[2, 1, 0, 2, 2]), "refused 33 4");
+    assert_eq!(with(&[2, 1, 0, 3, 2]), "refused 32 3");
+    let unread = judge(&DOCUMENT_TEMPLATE, &[1025, 0], &[], &[2]);
+    assert_eq!(answer(unread), "refused 21 0");
+    assert_eq!(answer(judge(&[1], &[1025, 0], &[], &[2])), "refused 1 0");
+}
+
+/// A text with titles, one of whose links leads to a card that can't be what it must be.
+const TEXT: &str = "\
+kinds: a b
+shape First = all(a[1;1]@Second, b[0;1]@First)
+shape Second = nothing
+card zero \"The first card\"
+card one
+card two
+link zero a two
+link zero b one
+link one a zero
+book two Second
+";
+
+/// A folder with a text, its words and a grid.
+struct Desk {
+    folder: PathBuf,
+}
+
+impl Desk {
+    fn new(name: &str, text: &str) -> Desk {
+        let folder = std::env::temp_dir().join(format!("prep-tools-judge-{}-{name}", process::id()));
+        fs::create_dir_all(&folder).expect("the folder can be made");
+        let desk = Desk { folder };
+        fs::write(desk.folder.join("sheet.txt"), text).expect("the file can be written");
+        let (_, _, code) = desk.run(&["words", "sheet.txt", "sheet.bin"]);
+        assert!(code == Some(0) || code == Some(2));
+        desk
+    }
+
+    /// What a command writes, what it complains about, and its exit code.
+    fn run(&self, words: &[&str]) -> (String, String, Option<i32>) {
+        let output = Command::new(env!("CARGO_BIN_EXE_prep-tools"))
+            .args(words)
+            .current_dir(&self.folder)
+            .output()
+            .expect("the program starts");
+        let text = |bytes: &[u8]| String::from_utf8_lossy(bytes).into_owned();
+        (text(&output.stdout), text(&output.stderr), output.status.code())
+    }
+
+    /// What is said about a grid of a sheet.
+    fn judge(&self, sheet: &str, grid: &[u8]) -> (String, String, Option<i32>) {
+        fs::write(self.folder.join("grid"), grid).expect("the file can be written");
+        self.run(&["judge", sheet, "grid"])
+    }
+}
+
+impl Drop for Desk {
+    fn drop(&mut self) {
+        fs::remove_dir_all(&self.folder).expect("the folder can be removed");
+    }
+}
+
+/// Grids for the text, the exit code, and what is said.
+const OUTCOMES: [(&[u8], i32, &str); 6] = [
+    (
+        &[0, 0, 0, 0, 0, 1],
+        0,
+        "sheet.txt: the grid is accepted: a sound typing that holds the one booking\n  \
+         it has 1 pair; the smallest typing has 1, the largest 1\n",
+    ),
+    (
+        &[0, 0, 0, 0, 1],
+        1,
+        "grid: refused 40 0: the grid isn't cards times shapes bytes\n  \
+         it has 5 bytes; 3 cards times 2 shapes are 6\n",
+    ),
+    (
+        &[0, 2, 0, 0, 0, 255],
+        1,
+        "sheet.txt:4:6: refused 61 1: a byte of the grid is over 1\n  \
+         byte 1 is 2; 0 or 1 there says whether \"The first card\" is a Second\n",
+    ),
+    (
+        &[0, 1, 0, 1, 0, 1],
+        1,
+        "sheet.txt:4:6: The first card can't be a Second: no a wanted, 1 there; no b wanted, 1 there\n  \
+         refused 62 0 1: a pair of the grid isn't met under it\n",
+    ),
+    (
+        &[0, 0, 1, 0, 0, 1],
+        1,
+        "sheet.txt:5:6: one isn't a First under the grid: its a \"The first card\" isn't a Second\n  \
+         refused 62 1 0: a pair of the grid isn't met under it\n  \
+         no sound typing has this pair: its a \"The first card\" can't be a Second: \
+         no a wanted, 1 there; no b wanted, 1 there\n",
+    ),
+    (
+        &[0, 0, 0, 0, 0, 0],
+        1,
+        "sheet.txt:10:6: refused 63 1: a booking isn't held by the grid\n  \
+         two is booked as a Second and isn't one in the grid\n  \
+         word 1 of the bookings is 2: the card of the booking two Second\n",
+    ),
+];
+
+#[test]
+fn the_command_tells_the_outcome_in_words() {
+    let desk = Desk::new("words", TEXT);
+    for (grid, code, told) in OUTCOMES {
+        let said = desk.judge("sheet.txt", grid);
+        assert_eq!(said, (told.to_string(), String::new(), Some(code)));
+        let (_, _, of_words) = desk.judge("sheet.bin", grid);
+        assert_eq!(of_words, Some(code));
+    }
+}
+
+#[test]
+fn the_command_tells_words_without_lines_and_columns() {
+    let desk = Desk::new("numbers", TEXT);
+    for (grid, told) in [
+        (
+            [0, 0, 0, 0, 3, 0],
+            "sheet.bin: refused 61 4: a byte of the grid is over 1\n  \
+             byte 4 is 3; 0 or 1 there says whether card2 is a Shape0\n",
+        ),
+        (
+            [1, 0, 0, 0, 0, 0],
+            "sheet.bin: card0 isn't a Shape0 under the grid: its kind0 card2 isn't a Shape1; its kind1 card1 \
+             isn't a Shape0\n",
+        ),
+        (
+            [0, 0, 0, 0, 0, 0],
+            "sheet.bin: refused 63 1: a booking isn't held by the grid\n  \
+             card2 is booked as a Shape1 and isn't one in the grid\n  \
+             word 1 of the bookings is 2: the card of booking 0, counted from 0\n",
+        ),
+    ] {
+        let (said, _, code) = desk.judge("sheet.bin", &grid);
+        assert!(said.starts_with(told) && code == Some(1), "{said}");
+    }
+}
+
+#[test]
+fn the_command_counts_bookings_and_far_cards() {
+    let many = "kinds: a\nshape Hub = a[0;]@Leaf\nshape Leaf = nothing\ncard h\n";
+    let names = ["p", "q", "r", "s", "t", "u"];
+    let cards: String = names.iter().map(|name| format!("card {name}\n")).collect();
+    let text = format!("{many}{cards}link h a {}\n", names.join(" "));
+    let desk = Desk::new("many", &text);
+    let lone_hub = [vec![1, 0], vec![0; 12]].concat();
+    let (said, _, code) = desk.judge("sheet.txt", &lone_hub);
+    let told = "sheet.txt:4:6: h isn't a Hub under the grid: its a p isn't a Leaf; its a q isn't a Leaf; \
+                its a r isn't a Leaf; its a s isn't a Leaf; so with 2 more of its links\n  \
+                refused 62 0 0: a pair of the grid isn't met under it\n";
+    assert_eq!((said.as_str(), code), (told, Some(1)));
+    let (said, _, code) = desk.judge("sheet.txt", &[0; 14]);
+    assert!(said.starts_with("sheet.txt: the grid is accepted: a sound typing; nothing is booked\n"));
+    assert_eq!(code, Some(0));
+    let desk = Desk::new("two", &format!("{text}book h Hub\nbook p Leaf\n"));
+    let (said, _, _) = desk.judge("sheet.txt", &[vec![1, 0], [0, 1].repeat(6)].concat());
+    assert!(said.contains("a sound typing that holds all 2 bookings\n  it has 7 pairs; "));
+}
+
+#[test]
+fn a_file_that_is_no_sheet_cannot_be_judged() {
+    let desk = Desk::new("no-sheet", &TEXT.replace("[1;1]", "[2;1]"));
+    let (said, told, code) = desk.judge("sheet.txt", &[0; 6]);
+    assert_eq!((said.as_str(), code), ("", Some(2)));
+    assert!(
+        told.starts_with("prep-tools: sheet.txt:2:21: refused 10 7: "),
+        "{told}"
+    );
+    let (_, told, code) = desk.run(&["judge", "sheet.txt", "nothing"]);
+    assert_eq!(code, Some(2), "{told}");
+    let (_, told, code) = desk.run(&["judge", "-", "-"]);
+    assert_eq!(code, Some(2));
+    assert!(told.contains("can't both be standard input"), "{told}");
+}
+
+#[test]
+fn a_refusal_of_a_grid_is_explained_without_it() {
+    let desk = Desk::new("explain", TEXT);
+    let explained = |words: &[&str]| {
+        let (said, _, code) = desk.run(&[&["explain"], words, &["sheet.txt"]].concat());
+        assert_eq!(code, Some(0), "{words:?}");
+        said
+    };
+    assert_eq!(
+        explained(&["61", "5"]),
+        "sheet.txt:6:6: refused 61 5: a byte of the grid is over 1\n  \
+         0 or 1 there says whether two is a Second\n"
+    );
+    assert_eq!(
+        explained(&["63", "1"]),
+        "sheet.txt:10:6: refused 63 1: a booking isn't held by the grid\n  \
+         word 1 of the bookings is 2: the card of the booking two Second\n"
+    );
+    assert_eq!(
+        explained(&["62", "2", "1"]),
+        "sheet.txt:6:6: two has no links and can be a Second under every grid, so 62 isn't about it\n"
+    );
+    let pair = explained(&["62", "1", "0"]);
+    assert!(
+        pair.starts_with("sheet.txt:5:6: one isn't a First under the grid that was judged\n"),
+        "{pair}"
+    );
+    assert!(pair.contains("  its a \"The first card\" must be a Second; `judge FILE GRID` tells"));
+    assert!(explained(&["62", "2", "0"])
+        .starts_with("sheet.txt:6:6: two can't be a First: 1 a wanted, 0 there\n"));
+    for words in [
+        &["explain", "61", "6", "sheet.txt"][..],
+        &["explain", "62", "3", "0", "sheet.txt"],
+    ] {
+        let (_, told, code) = desk.run(words);
+        assert_eq!(code, Some(2), "{told}");
+    }
+}

@@ -1,0 +1,244 @@
+//! The cases for *Judge a grid*: the stream's format, the mix of the random ones, what the fixed ones have, and those
+//! that are stored.
+
+use prep_tools::cases;
+use prep_tools::generate::judging::{self, JudgeCase};
+use prep_tools::sheet::Files;
+use prep_tools::typing::judge::{answer, judge};
+use prep_tools::typing::{bookings, Smallest};
+use prep_tools::typing::{closure, links, Setting};
+use std::collections::BTreeMap;
+use std::env;
+use std::fs;
+use std::path::Path;
+use std::process;
+
+/// The stored cases.
+const STORED: &str = concat!(env!("CARGO_MANIFEST_DIR"), "/../crates/judge_cases");
+
+/// The files of a stream.
+fn written(name: &str, seed: u64, count: usize) -> (Vec<u8>, String) {
+    let path = |end: &str| env::temp_dir().join(format!("prep-tools-{}-{name}-{end}", process::id()));
+    let (inputs, answers) = (path("in"), path("out"));
+    cases::judged(&inputs, &answers, seed, count).expect("the files can be written");
+    let read = (fs::read(&inputs), fs::read_to_string(&answers));
+    for path in [inputs, answers] {
+        fs::remove_file(path).expect("the file can be removed");
+    }
+    (
+        read.0.expect("the cases can be read"),
+        read.1.expect("the answers can be read"),
+    )
+}
+
+/// Takes a section of a stream: a length in two bytes, low byte first, and so many entries of this size.
+fn section<'a>(stream: &mut &'a [u8], size: usize) -> &'a [u8] {
+    let length = usize::from(stream[0]) + 256 * usize::from(stream[1]);
+    let (section, rest) = stream[2..].split_at(length * size);
+    *stream = rest;
+    section
+}
+
+/// The cases of a stream.
+fn read(mut stream: &[u8]) -> Vec<(Files, Vec<u8>)> {
+    let mut cases = Vec::new();
+    while !stream.is_empty() {
+        let mut words = || -> Vec<u16> {
+            let bytes = section(&mut stream, 2).chunks(2);
+            bytes
+                .map(|two| u16::from(two[0]) + 256 * u16::from(two[1]))
+                .collect()
+        };
+        let files = Files {
+            template: words(),
+            script: words(),
+            bookings: words(),
+        };
+        cases.push((files, section(&mut stream, 1).to_vec()));
+    }
+    cases
+}
+
+/// What the quick method says about a case.
+fn quick(files: &Files, grid: &[u8]) -> String {
+    answer(judge(&files.template, &files.script, &files.bookings, grid))
+}
+
+#[test]
+fn a_stream_has_the_cases_that_are_not_long() {
+    let count = judging::fixed().len() + 150;
+    let (stream, lines) = written("stream", 5, count);
+    let cases: Vec<JudgeCase> = judging::cases(5, count).collect();
+    assert_eq!(cases.len(), count);
+    let fits = |(number, case): &(usize, JudgeCase)| {
+        *number < count - 150 || case.bytes().is_ok_and(|bytes| bytes.len() <= 3000)
+    };
+    let stored: Vec<JudgeCase> = cases
+        .into_iter()
+        .enumerate()
+        .filter(fits)
+        .map(|(_, case)| case)
+        .collect();
+    assert!(stored.len() < count && stored.len() > count - 60);
+    let read = read(&stream);
+    assert_eq!((read.len(), lines.lines().count()), (stored.len(), stored.len()));
+    assert!(lines.ends_with('\n'));
+    for ((case, (files, grid)), line) in stored.iter().zip(&read).zip(lines.lines()) {
+        assert_eq!((files, grid), (&case.files, &case.grid), "{}", case.name);
+        assert_eq!(line, case.answer());
+    }
+}
+
+#[test]
+fn a_case_that_is_too_long_is_an_error() {
+    let long = |words: usize, bytes: usize| {
+        JudgeCase::new("long", &[1, 1, 1, 0], &vec![0; words], &[0], &vec![0; bytes]).bytes()
+    };
+    assert!(long(32_767, 65_535).is_ok());
+    assert_eq!(long(32_768, 0), Err("the case long is too long".to_string()));
+    assert!(long(0, 65_536).is_err());
+}
+
+/// How often each answer is given, by its number; accepted is 0.
+fn tally(cases: impl Iterator<Item = JudgeCase>) -> BTreeMap<u16, usize> {
+    let mut tally = BTreeMap::new();
+    for case in cases {
+        let line = case.answer();
+        assert_eq!(line, quick(&case.files, &case.grid), "{}", case.name);
+        let number = match line.split(' ').nth(1) {
+            None => 0,
+            Some(number) => number.parse().expect("a refusal has a number"),
+        };
+        *tally.entry(number).or_insert(0) += 1;
+    }
+    tally
+}
+
+#[test]
+fn every_answer_is_frequent_among_the_random_cases() {
+    let fixed = judging::fixed().len();
+    let tally = tally(judging::cases(33, fixed + 3000).skip(fixed));
+    let count = |numbers: &[u16]| -> usize { numbers.iter().filter_map(|number| tally.get(number)).sum() };
+    let of_files: Vec<u16> = (1..=12).chain(20..=25).chain(30..=33).collect();
+    for number in &of_files {
+        assert!(count(&[*number]) >= 5, "{number}: {tally:?}");
+    }
+    assert!(count(&of_files) > 400 && count(&[0]) > 500, "{tally:?}");
+    assert!(count(&[40]) > 200 && count(&[61]) > 200, "{tally:?}");
+    assert!(count(&[62]) > 500 && count(&[63]) > 300, "{tally:?}");
+    assert_eq!(count(&of_files) + count(&[0, 40, 61, 62, 63]), 3000, "{tally:?}");
+}
+
+#[test]
+fn every_answer_is_frequent_among_the_fixed_cases() {
+    let tally = tally(judging::fixed().into_iter());
+    for (number, least) in [(0, 60), (40, 25), (61, 20), (62, 80), (63, 25)] {
+        assert!(tally[&number] >= least, "{number}: {tally:?}");
+    }
+}
+
+#[test]
+fn many_grids_are_accepted_that_are_neither_typing() {
+    let (mut top, mut bottom, mut neither) = (0, 0, 0);
+    for case in judging::cases(34, 1500).filter(|case| case.answer() == "accepted") {
+        let setting = Setting::read(&case.files.template, &case.files.script).expect("accepted");
+        let booked = bookings::read(&setting, &case.files.bookings).expect("accepted");
+        let (smallest, least) = closure::smallest(&setting, &booked);
+        assert!(matches!(smallest, Smallest::Pairs(_)), "{}", case.name);
+        let is_top = case.grid == links::largest(&setting).1;
+        let is_bottom = case.grid == least;
+        top += usize::from(is_top && !is_bottom);
+        bottom += usize::from(is_bottom && !is_top);
+        neither += usize::from(!is_top && !is_bottom);
+    }
+    let told = format!("{top} the largest, {bottom} the smallest, {neither} neither");
+    assert!(top > 50 && bottom > 50 && neither > 50, "{told}");
+}
+
+#[test]
+fn the_limits_are_reached() {
+    let fixed = judging::fixed();
+    let named = |name: &str| {
+        let case = fixed.iter().find(|case| case.name == name);
+        case.expect("there is such a case")
+    };
+    for (name, answer) in [
+        ("full-accepted", "accepted"),
+        ("full-last-pair", "refused 62 1023 31"),
+        ("last-byte", "refused 61 32767"),
+        ("last-byte-missing", "refused 40 0"),
+        ("booked-each-last-card", "refused 63 2047"),
+        ("booked-backwards-last-card", "refused 63 1"),
+        ("booked-same-last-card", "refused 63 1"),
+        ("booked-each-held", "accepted"),
+        ("booked-one-more-held", "refused 31 0"),
+        ("ring-1024", "accepted"),
+        ("ring-1024-last-card", "refused 62 1022 0"),
+        ("chain-1024", "refused 62 1023 0"),
+        ("longest-grid", "refused 40 0"),
+        ("longest-file", "refused 30 0"),
+        ("template-4096", "accepted"),
+        ("template-4097", "refused 1 0"),
+    ] {
+        assert_eq!(named(name).answer(), answer, "{name}");
+    }
+    for name in ["full-accepted", "full-last-pair"] {
+        let Files {
+            template,
+            script,
+            bookings,
+        } = &named(name).files;
+        assert_eq!((template.len(), &template[..2]), (4096, &[64, 32][..]));
+        assert_eq!((&script[..2], bookings[0]), (&[1024, 8192][..], 1024));
+    }
+}
+
+/// The number of the first fault of a case that is spoiled in several ways, by the name of its first stage.
+const STAGES: [(&str, [&str; 2]); 7] = [
+    ("template", ["refused 2 0", "refused 12 15"]),
+    ("script", ["refused 21 0", "refused 23 10"]),
+    ("bookings", ["refused 31 0", "refused 33 4"]),
+    ("size", ["refused 40 0", "refused 40 0"]),
+    ("bytes", ["refused 61 1", "refused 61 5"]),
+    ("pairs", ["refused 62 0 0", "refused 62 2 0"]),
+    ("held", ["refused 63 1", "refused 63 3"]),
+];
+
+#[test]
+fn of_several_faults_the_first_is_told() {
+    let fixed = judging::fixed();
+    let spoiled: Vec<&JudgeCase> = fixed
+        .iter()
+        .filter(|case| case.name.starts_with("order-"))
+        .collect();
+    for (order, (stage, answers)) in STAGES.iter().enumerate() {
+        for (end, answer) in ["early", "late"].iter().zip(answers) {
+            let name = format!("order-{stage}-{end}");
+            let of_stage: Vec<_> = spoiled
+                .iter()
+                .filter(|case| case.name.starts_with(&name))
+                .collect();
+            // Alone, with a fault of each later stage, and with all of these.
+            let later = STAGES.len() - 1 - order;
+            assert_eq!(of_stage.len(), 1 + later + usize::from(later > 1), "{name}");
+            for case in of_stage {
+                assert_eq!(case.answer(), *answer, "{}", case.name);
+            }
+        }
+    }
+}
+
+#[test]
+fn the_stored_cases_are_those_of_the_command() {
+    let stored = |name: &str| fs::read(Path::new(STORED).join(name)).expect("the cases are stored");
+    let (inputs, answers) = (stored("stdin"), stored("stdout"));
+    let answers = String::from_utf8(answers).expect("the answers are a text");
+    let cases = read(&inputs);
+    assert_eq!(cases.len(), answers.lines().count());
+    for ((files, grid), line) in cases.iter().zip(answers.lines()) {
+        assert_eq!(quick(files, grid), line, "{files:?}");
+    }
+    // tools/README.md names this seed and count.
+    let (again, lines) = written("stored", 7, 480);
+    assert!(again == inputs && lines == answers, "the stored cases are older");
+}
