@@ -1,7 +1,7 @@
 /*
  * Prep sheet shapes for C and C++: read a template, fit counts, read a script, the links of a card,
- * and the two typings of a script. The library is libprep.a or libprep.so, for x86-64 Linux.
- * FORMAT.md sets out words, typings and refusals.
+ * the two typings of a script, and judge a grid. The library is libprep.a or libprep.so, for x86-64
+ * Linux. FORMAT.md sets out words, typings and refusals.
  *
  * Words and grids. Template, script, bookings and counts are arrays of 16-bit words in the
  * machine's own byte order; in a file they stand low byte first. A grid is an array of cards x
@@ -9,17 +9,18 @@
  * the length of the call and is given as a pointer and its length in elements. A pointer to words
  * must be aligned to 2 bytes. A pointer whose length is 0 may be NULL; every other pointer must
  * point to that many elements. Arrays that a call only reads (const) may overlap each other; an
- * array that a call writes may overlap no other array of the call. A grid need not be set before a
- * call.
+ * array that a call writes may overlap no other array of the call. A grid that a call writes need
+ * not be set before.
  *
  * Answers and refusals. No input is forbidden: what is wrong with it is answered by a refusal.
  * `number` is 0 where nothing is refused. Otherwise `number` is a constant of enum prep_refusal and
- * `place` is the index of the word at fault in its own array. What an answer does not say is 0.
- * Each call tests in a fixed order and answers the first fault. A refusal other than PREP_NOT_MET
- * changes no array.
+ * `place` is the index of the word at fault in its own array, in a grid that of the byte;
+ * PREP_NOT_MET and PREP_GRID_NOT_MET have a card and a shape instead. What an answer does not say
+ * is 0. Each call tests in a fixed order and answers the first fault. A refusal other than
+ * PREP_NOT_MET changes no array.
  *
- * What is proved. The functions from prep_read_template to prep_both_typings are proved to answer
- * as FORMAT.md says, on all inputs, to do nothing undefined, and to end, as long as pointers and
+ * What is proved. The functions from prep_read_template to prep_judge are proved to answer as
+ * FORMAT.md says, on all inputs, to do nothing undefined, and to end, as long as pointers and
  * lengths are what they say. prep_version, prep_reason and prep_file_of are plain C: words are no
  * matter of proof.
  *
@@ -29,11 +30,11 @@
  *
  * Binary compatibility. Of two versions with the same PREP_VERSION_MAJOR the later has every
  * function, struct and constant of the earlier, with the same layout and value, and gives the same
- * answer to every call. Functions and constants may be added (PREP_VERSION_MINOR); words of
- * prep_reason and PREP_STACK_BYTES may change with any version. So a program built with an older
- * header runs with a newer shared library of the same major version, and the soname is
- * libprep.so.MAJOR. Whatever changes an answer or a struct raises the major version. Structs are
- * passed as the System V ABI for x86-64 says.
+ * answer to every call. Functions, structs and constants may be added (PREP_VERSION_MINOR), and
+ * prep_file_of then knows the added refusals; words of prep_reason and PREP_STACK_BYTES may change
+ * with any version. So a program built with an older header runs with a newer shared library of the
+ * same major version, and the soname is libprep.so.MAJOR. Whatever else changes an answer or a
+ * struct raises the major version. Structs are passed as the System V ABI for x86-64 says.
  */
 #ifndef PREP_H
 #define PREP_H
@@ -43,7 +44,7 @@
 
 /* The version of this header; prep_version gives the library's. */
 #define PREP_VERSION_MAJOR 1
-#define PREP_VERSION_MINOR 0
+#define PREP_VERSION_MINOR 1
 #define PREP_VERSION_PATCH 0
 #define PREP_VERSION (PREP_VERSION_MAJOR * 10000 + PREP_VERSION_MINOR * 100 + PREP_VERSION_PATCH)
 
@@ -69,10 +70,10 @@ enum {
 enum { PREP_STACK_BYTES = 160 * 1024 };
 
 /*
- * A constant for each refusal, PREP_TEMPLATE_SIZE to PREP_NOT_MET; prep_refusals.def lists them
- * with their numbers and words. PREP_NOT_MET has a card and a shape instead of a place. PREP_INPUT
- * is the sheet printer's; no function here answers it. Later versions may have more, so test
- * `number != 0` for "refused".
+ * A constant for each refusal, PREP_TEMPLATE_SIZE to PREP_GRID_NOT_HELD; prep_refusals.def lists
+ * them with their numbers and words. PREP_NOT_MET and PREP_GRID_NOT_MET have a card and a shape
+ * instead of a place. PREP_INPUT is the sheet printer's; no function here answers it. Later versions
+ * may have more, so test `number != 0` for "refused".
  */
 enum prep_refusal {
     PREP_NOT_REFUSED = 0,
@@ -148,6 +149,17 @@ struct prep_both_answer {
     size_t pairs;
 };
 
+/*
+ * Of a grid that is judged, which is accepted where number is 0. With PREP_GRID_NOT_MET: the card
+ * and the shape that are not met.
+ */
+struct prep_judge_answer {
+    uint16_t number;
+    uint16_t card;
+    uint16_t shape;
+    size_t place;
+};
+
 #ifdef __cplusplus
 extern "C" {
 #endif
@@ -205,6 +217,18 @@ struct prep_both_answer prep_both_typings(const uint16_t *template_words, size_t
                                           uint8_t *smallest_grid, size_t smallest_length, uint8_t *largest_grid,
                                           size_t largest_length);
 
+/*
+ * Judges a grid of cards x shapes bytes, which is only read: nothing is refused exactly if it is a
+ * sound typing that holds the bookings. Refusals: the template's, the script's, 30 to 33, then 40 at
+ * place 0 and 61 at the first byte over 1. Then 62, with the lowest card and then lowest shape of
+ * the grid that is not met under it. Last 63, at the card of the first booking that is not in the
+ * grid.
+ */
+struct prep_judge_answer prep_judge(const uint16_t *template_words, size_t template_length,
+                                    const uint16_t *script_words, size_t script_length,
+                                    const uint16_t *booking_words, size_t bookings_length,
+                                    const uint8_t *judged_grid, size_t judged_length);
+
 /* The version of the library that is linked, as PREP_VERSION is made. */
 uint32_t prep_version(void);
 
@@ -215,8 +239,8 @@ uint32_t prep_version(void);
 const char *prep_reason(uint16_t refusal_number);
 
 /*
- * Where the place of a refusal with this number is counted. PREP_IN_NOTHING for 0, for 50 and for
- * numbers not known.
+ * Where the place of a refusal with this number is counted. PREP_IN_NOTHING for 0, for 42, 50 and
+ * 62, and for numbers not known.
  */
 enum prep_file prep_file_of(uint16_t refusal_number);
 

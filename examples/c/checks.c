@@ -18,8 +18,12 @@ static const uint16_t sheet_script[] = {3, 3, 0, 0, 2, 0, 1, 1, 1, 0, 0};
 static const uint16_t sheet_bookings[] = {1, 2, 1};
 static const uint16_t unmet_bookings[] = {1, 0, 0};
 static const uint8_t sheet_grid[] = {0, 0, 0, 0, 0, 1};
+static const uint16_t small_template[] = {1, 1, 1, 0};
+static const uint16_t two_cards[] = {2, 0};
 static const uint16_t no_cards[] = {0, 0};
 static const uint16_t no_bookings[] = {0};
+static const uint16_t code_4[] = {1, 1, 1, 4};
+static const uint16_t to_card_2[] = {2, 1, 0, 0, 2};
 
 static int failures = 0;
 
@@ -46,8 +50,6 @@ static int all_are(const uint8_t *bytes, size_t length, uint8_t value)
 
 static void check_readings(void)
 {
-    static const uint16_t code_4[] = {1, 1, 1, 4};
-    static const uint16_t to_card_2[] = {2, 1, 0, 0, 2};
     struct prep_template_answer t = prep_read_template(LENT(sheet_template));
     struct prep_script_answer s;
     CHECK(t.number == 0 && t.kinds == 2 && t.shapes == 2 && t.place == 0);
@@ -149,6 +151,75 @@ static void check_both(void)
     CHECK(b.number == 0 && b.rounds == 1 && b.pairs == 0);
 }
 
+/* Every number of an answer to prep_judge. */
+static int judged(struct prep_judge_answer j, uint16_t number, uint16_t card, uint16_t shape, size_t place)
+{
+    return j.number == number && j.card == card && j.shape == shape && j.place == place;
+}
+
+/* A grid of the sheet that is judged with a booking list. */
+#define JUDGE(bookings, grid) prep_judge(LENT(sheet_template), LENT(sheet_script), LENT(bookings), LENT(grid))
+
+static void check_judge(void)
+{
+    static const uint16_t second_unmet[] = {2, 2, 1, 0, 0};
+    static const uint8_t empty_grid[] = {0, 0, 0, 0, 0, 0};
+    static const uint8_t unmet_pairs[] = {0, 0, 1, 1, 0, 1};
+    static const uint8_t last_over[] = {0, 1, 0, 0, 0, 2};
+    CHECK(judged(JUDGE(sheet_bookings, sheet_grid), PREP_NOT_REFUSED, 0, 0, 0));
+    CHECK(judged(JUDGE(no_bookings, empty_grid), PREP_NOT_REFUSED, 0, 0, 0));
+    CHECK(judged(JUDGE(unmet_bookings, last_over), PREP_GRID_BYTE, 0, 0, 5));
+    CHECK(judged(JUDGE(unmet_bookings, unmet_pairs), PREP_GRID_NOT_MET, 1, 0, 0));
+    CHECK(judged(JUDGE(unmet_bookings, sheet_grid), PREP_GRID_NOT_HELD, 0, 0, 1));
+    CHECK(judged(JUDGE(second_unmet, sheet_grid), PREP_GRID_NOT_HELD, 0, 0, 3));
+}
+
+/* What is refused before a grid is looked at. */
+static void check_judge_refuses(void)
+{
+    static const uint16_t no_such_card[] = {1, 3, 0};
+    static const uint8_t one_short[] = {2, 2, 2, 2, 2};
+    struct prep_judge_answer j = prep_judge(LENT(code_4), LENT(to_card_2), NULL, 0, LENT(one_short));
+    CHECK(judged(j, PREP_TEMPLATE_CODE, 0, 0, 3));
+    j = prep_judge(LENT(sheet_template), LENT(to_card_2), NULL, 0, LENT(one_short));
+    CHECK(judged(j, PREP_SCRIPT_NO_CARD, 0, 0, 4));
+    j = prep_judge(LENT(sheet_template), LENT(sheet_script), NULL, 0, LENT(one_short));
+    CHECK(judged(j, PREP_BOOKINGS_SIZE, 0, 0, 0));
+    CHECK(judged(JUDGE(no_such_card, one_short), PREP_BOOKINGS_NO_CARD, 0, 0, 1));
+    CHECK(judged(JUDGE(sheet_bookings, one_short), PREP_GRID_SIZE, 0, 0, 0));
+    j = prep_judge(LENT(sheet_template), LENT(sheet_script), LENT(sheet_bookings), NULL, 0);
+    CHECK(judged(j, PREP_GRID_SIZE, 0, 0, 0));
+    j = prep_judge(NULL, 0, NULL, 0, NULL, 0, NULL, 0);
+    CHECK(judged(j, PREP_TEMPLATE_SIZE, 0, 0, 0));
+}
+
+/* A judged grid stays as it was, may overlap what is only read, and may be empty; our own typings are accepted. */
+static void check_judge_reads(void)
+{
+    static const uint16_t first_booked[] = {1, 0, 0};
+    uint8_t grid[6], small[2] = {9, 9}, large[2] = {9, 9};
+    struct prep_judge_answer j;
+    memcpy(grid, sheet_grid, sizeof grid);
+    CHECK(JUDGE(sheet_bookings, grid).number == PREP_NOT_REFUSED && memcmp(grid, sheet_grid, 6) == 0);
+    memset(grid, 1, sizeof grid);
+    CHECK(JUDGE(sheet_bookings, grid).number == PREP_GRID_NOT_MET && all_are(LENT(grid), 1));
+    memset(grid, 9, sizeof grid);
+    CHECK(JUDGE(sheet_bookings, grid).number == PREP_GRID_BYTE && all_are(LENT(grid), 9));
+    memset(grid, 0, sizeof grid);
+    CHECK(JUDGE(sheet_bookings, grid).number == PREP_GRID_NOT_HELD && all_are(LENT(grid), 0));
+    j = prep_judge(LENT(small_template), LENT(two_cards), LENT(no_bookings), (const uint8_t *)no_bookings, 2);
+    CHECK(judged(j, PREP_NOT_REFUSED, 0, 0, 0));
+    j = prep_judge(LENT(sheet_template), LENT(no_cards), LENT(no_bookings), NULL, 0);
+    CHECK(judged(j, PREP_NOT_REFUSED, 0, 0, 0));
+
+    prep_both_typings(LENT(small_template), LENT(two_cards), LENT(first_booked), LENT(small), LENT(large));
+    CHECK(small[0] == 1 && small[1] == 0 && all_are(LENT(large), 1));
+    j = prep_judge(LENT(small_template), LENT(two_cards), LENT(first_booked), LENT(small));
+    CHECK(judged(j, PREP_NOT_REFUSED, 0, 0, 0));
+    j = prep_judge(LENT(small_template), LENT(two_cards), LENT(first_booked), LENT(large));
+    CHECK(judged(j, PREP_NOT_REFUSED, 0, 0, 0));
+}
+
 /* Each number of the table has words of its own and says where its place is; no other number has. */
 static void check_words(void)
 {
@@ -184,6 +255,8 @@ static void check_layout(void)
     CHECK(offsetof(struct prep_smallest_answer, card) == 2 && offsetof(struct prep_smallest_answer, shape) == 4);
     CHECK(sizeof(struct prep_both_answer) == 48 && offsetof(struct prep_both_answer, pairs) == 40);
     CHECK(offsetof(struct prep_both_answer, rounds) == 16 && offsetof(struct prep_both_answer, struck) == 24);
+    CHECK(sizeof(struct prep_judge_answer) == 16 && offsetof(struct prep_judge_answer, place) == 8);
+    CHECK(offsetof(struct prep_judge_answer, card) == 2 && offsetof(struct prep_judge_answer, shape) == 4);
     CHECK(sizeof(enum prep_file) == 4);
 }
 
@@ -196,6 +269,9 @@ int main(void)
     check_largest();
     check_smallest();
     check_both();
+    check_judge();
+    check_judge_refuses();
+    check_judge_reads();
     check_words();
     return failures != 0;
 }

@@ -45,11 +45,14 @@ static size_t put_deep_shape(uint16_t *words)
     return at;
 }
 
-/* 16 deep shapes, and 16 that are an optional star of one link of kind 0 to shape 0. */
+/*
+ * 16 deep shapes, and 16 that are an optional star of one link of kind 0: eight of them to shape 0,
+ * which no card can have, and eight to themselves, so that every card keeps these.
+ */
 static void fill_template(void)
 {
     static const uint16_t plain[] = {6, 3, 1, 256, 0, 1, 1};
-    size_t shape;
+    uint16_t shape;
     deep_template[0] = PREP_MAX_KINDS;
     deep_template[1] = PREP_MAX_SHAPES;
     deep_length = 2;
@@ -58,6 +61,7 @@ static void fill_template(void)
             deep_length += put_deep_shape(deep_template + deep_length);
         } else {
             memcpy(deep_template + deep_length, plain, sizeof plain);
+            deep_template[deep_length + 4] = shape < 24 ? 0 : shape;
             deep_length += LENGTH(plain);
         }
     }
@@ -83,9 +87,12 @@ static void fill_script(void)
 
 static const char *const functions[] = {"prep_read_template", "prep_fit_counts", "prep_read_script",
                                         "prep_links_of_card", "prep_largest",    "prep_smallest",
-                                        "prep_both_typings"};
+                                        "prep_both_typings",  "prep_judge"};
 
-/* Calls a function; 0 if it answers, 50 if the bookings are not met. */
+/*
+ * Calls a function; 0 if it answers, 50 if the bookings are not met. The grid that is judged is the
+ * largest typing, as the call before left it: 63 if it does not hold the bookings.
+ */
 static int call_function(int function)
 {
     const uint16_t *t = deep_template, *s = full_script, *b = full_bookings;
@@ -103,10 +110,12 @@ static int call_function(int function)
         return prep_largest(t, t_length, s, s_length, largest_grid, LENGTH(largest_grid)).number;
     case 5:
         return prep_smallest(t, t_length, s, s_length, b, b_length, smallest_grid, LENGTH(smallest_grid)).number;
-    default:
+    case 6:
         return prep_both_typings(t, t_length, s, s_length, b, b_length, smallest_grid, LENGTH(smallest_grid),
                                  largest_grid, LENGTH(largest_grid))
             .number;
+    default:
+        return prep_judge(t, t_length, s, s_length, b, b_length, largest_grid, LENGTH(largest_grid)).number;
     }
 }
 
@@ -130,6 +139,12 @@ static void run_on(void *stack, struct call *call)
     pthread_attr_destroy(&attributes);
 }
 
+/* Whether a call did all of its work. 50 and 63 are the last tests of their calls; 63 comes after every pair. */
+static int did_its_work(int refused)
+{
+    return refused == 0 || refused == PREP_NOT_MET || refused == PREP_GRID_NOT_HELD;
+}
+
 /* How far below the caller's frame a call writes; 0 if it was refused. */
 static size_t stack_of(int function)
 {
@@ -147,7 +162,7 @@ static size_t stack_of(int function)
     }
     low = (size_t)(call.frame - ((uint8_t *)stack + low));
     free(stack);
-    return call.refused == 0 || call.refused == PREP_NOT_MET ? low : 0;
+    return did_its_work(call.refused) ? low : 0;
 }
 
 int main(void)

@@ -1,4 +1,4 @@
-"""Prep sheet shapes: templates, scripts and their two typings, by the proved library.
+"""Prep sheet shapes: templates, scripts, their two typings and grids to judge, by the proved library.
 
     import prep
 
@@ -8,6 +8,7 @@
         typing = script.smallest([(2, 1)]).typing
     except prep.NotMet as unmet:
         print(unmet.card, unmet.shape)
+    script.judge([(2, 1)], bytes([0, 0, 0, 0, 0, 1]))  # returns: the grid is a sound typing that holds the booking
 
 Or from parts and links, so that nobody counts words:
 
@@ -24,12 +25,17 @@ import ctypes
 import os
 from typing import Iterable, List, NamedTuple, Sequence, Tuple
 
-# The major version that this file is for, and the one refusal with a card and a shape.
+# The versions that this file is for: this major one, with this minor one or a later one.
 MAJOR = 1
+MINOR = 1
+
+# The refusals that have a card and a shape instead of a place.
 NOT_MET = 50
+GRID_NOT_MET = 62
 
 _SIZE = ctypes.c_size_t
 _WORD = ctypes.c_uint16
+_BYTE = ctypes.c_uint8
 _FILES = ("nothing", "template", "script", "bookings", "counts", "grid", "input")
 
 
@@ -46,6 +52,7 @@ _ScriptAnswer = _answer("_ScriptAnswer", "number", "cards", "links", "place")
 _LargestAnswer = _answer("_LargestAnswer", "number", "place", "rounds", "struck", "bare")
 _SmallestAnswer = _answer("_SmallestAnswer", "number", "card", "shape", "place", "pairs")
 _BothAnswer = _answer("_BothAnswer", "number", "card", "shape", "place", "rounds", "struck", "bare", "pairs")
+_JudgeAnswer = _answer("_JudgeAnswer", "number", "card", "shape", "place")
 
 
 def _library_path() -> str:
@@ -67,6 +74,9 @@ def _load() -> ctypes.CDLL:
         raise ImportError(
             f"the library {path} cannot be loaded ({error}); PREP_LIB_DIR names the folder that has libprep.so"
         ) from error
+    major, minor = _version_of(library)[:2]
+    if major != MAJOR or minor < MINOR:
+        raise ImportError(f"the library {path} is {major}.{minor}; {MAJOR}.{MINOR} or a later {MAJOR}.x is wanted")
     lent = [ctypes.c_void_p, _SIZE]
     for name, result, parameters in (
         ("prep_read_template", _TemplateAnswer, lent),
@@ -76,15 +86,21 @@ def _load() -> ctypes.CDLL:
         ("prep_largest", _LargestAnswer, lent * 3),
         ("prep_smallest", _SmallestAnswer, lent * 4),
         ("prep_both_typings", _BothAnswer, lent * 5),
-        ("prep_version", ctypes.c_uint32, []),
+        ("prep_judge", _JudgeAnswer, lent * 4),
         ("prep_reason", ctypes.c_char_p, [_WORD]),
         ("prep_file_of", ctypes.c_uint, [_WORD]),
     ):
         function = getattr(library, name)
         function.restype, function.argtypes = result, parameters
-    if library.prep_version() // 10000 != MAJOR:
-        raise ImportError(f"the library {path} is not of major version {MAJOR}")
     return library
+
+
+def _version_of(library: ctypes.CDLL) -> Tuple[int, int, int]:
+    """A library's version: major, minor and patch."""
+    function = library.prep_version
+    function.restype, function.argtypes = ctypes.c_uint32, []
+    number = function()
+    return number // 10000, number // 100 % 100, number % 100
 
 
 _library = _load()
@@ -92,12 +108,11 @@ _library = _load()
 
 def version() -> Tuple[int, int, int]:
     """The library's version: major, minor and patch."""
-    number = _library.prep_version()
-    return number // 10000, number // 100 % 100, number % 100
+    return _version_of(_library)
 
 
 class Refused(Exception):
-    """What the library turns down: a number, a place and the file that the place is counted in."""
+    """What the library turns down: a number, a place and the file that the place is counted in, or a grid's byte."""
 
     def __init__(self, number: int, place: int):
         self.number = number
@@ -108,28 +123,55 @@ class Refused(Exception):
         super().__init__(f"{self.reason} (refusal {number}, {self._where()})")
 
     def _where(self) -> str:
-        return f"word {self.place}"
+        return f"{'byte' if self.file == 'grid' else 'word'} {self.place}"
 
 
-class NotMet(Refused):
-    """Refusal 50: the bookings ask for a card to have a shape, and it cannot."""
+class PairRefused(Refused):
+    """A refusal with a card and a shape instead of a place: a NotMet or a GridNotMet."""
+
+    NUMBER = 0
 
     def __init__(self, card: int, shape: int):
         self.card = card
         self.shape = shape
-        super().__init__(NOT_MET, 0)
+        super().__init__(self.NUMBER, 0)
 
     def _where(self) -> str:
         return f"card {self.card}, shape {self.shape}"
 
 
+class NotMet(PairRefused):
+    """Refusal 50: the bookings ask for a card to have a shape, and it cannot."""
+
+    NUMBER = NOT_MET
+
+
+class GridNotMet(PairRefused):
+    """Refusal 62: a card has a shape in a grid that is judged, and that is not met under the grid."""
+
+    NUMBER = GRID_NOT_MET
+
+
+_PAIRED = {refusal.NUMBER: refusal for refusal in (NotMet, GridNotMet)}
+
+
+def _array(code: str, element: type, limits: str, numbers: Iterable[int]) -> ctypes.Array:
+    """An array of such elements; ValueError for a number that none of them holds."""
+    try:
+        checked = array.array(code, numbers)
+    except OverflowError as error:
+        raise ValueError(f"{limits}: {error}") from error
+    return (element * len(checked)).from_buffer_copy(checked)
+
+
 def _words(numbers: Iterable[int]) -> ctypes.Array:
     """An array of 16-bit words; ValueError for a number that no word holds."""
-    try:
-        checked = array.array("H", numbers)
-    except OverflowError as error:
-        raise ValueError(f"a word is 0 to 65,535: {error}") from error
-    return (_WORD * len(checked)).from_buffer_copy(checked)
+    return _array("H", _WORD, "a word is 0 to 65,535", numbers)
+
+
+def _bytes(numbers: Iterable[int]) -> ctypes.Array:
+    """An array of bytes; ValueError for a number that no byte holds."""
+    return _array("B", _BYTE, "a byte is 0 to 255", numbers)
 
 
 def _lend(*arrays: ctypes.Array) -> list:
@@ -139,8 +181,8 @@ def _lend(*arrays: ctypes.Array) -> list:
 
 def _accept(answer):
     """The answer, if nothing is refused."""
-    if answer.number == NOT_MET:
-        raise NotMet(answer.card, answer.shape)
+    if answer.number in _PAIRED:
+        raise _PAIRED[answer.number](answer.card, answer.shape)
     if answer.number != 0:
         raise Refused(answer.number, answer.place)
     return answer
@@ -302,8 +344,14 @@ class Script:
             smallest = Smallest(self._typing(small), _accept(answer).pairs)
         return Both(Largest(self._typing(large), answer.rounds, answer.struck, answer.bare), smallest, not_met)
 
+    def judge(self, bookings: Iterable[Tuple[int, int]], grid: Iterable[int]) -> None:
+        """Returns if a grid of bytes, such as a typing's, is a sound typing that has the booked pairs. Refusals: 31 to
+        33, 40, 61, 63; or GridNotMet."""
+        lent = _lend(self.template._words, self._words, _booking_words(bookings), _bytes(grid))
+        _accept(_library.prep_judge(*lent))
+
     def _grid(self) -> ctypes.Array:
-        return (ctypes.c_uint8 * (self.cards * self.template.shapes))()
+        return (_BYTE * (self.cards * self.template.shapes))()
 
     def _typing(self, grid: ctypes.Array) -> Typing:
         return Typing(bytes(grid), self.cards, self.template.shapes)

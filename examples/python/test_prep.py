@@ -52,10 +52,34 @@ class Words(unittest.TestCase):
         self.refused(31, 0, script.both, [(0, 0)] * 1025)
         self.refused(31, 0, script.smallest, [(0, 0)] * 70000)
 
+    def test_grids_are_refused(self):
+        script = prep.Script(prep.Template(TEMPLATE), SCRIPT)
+        self.refused(31, 0, script.judge, [(0, 0)] * 1025, [])
+        self.refused(32, 1, script.judge, [(3, 0)], [])
+        self.refused(33, 4, script.judge, [(0, 0), (0, 2)], [])
+        told = self.refused(40, 0, script.judge, [(2, 1)], [2, 1, 1, 0, 0])
+        self.assertEqual(str(told), "a grid has not a byte for each card and shape (refusal 40, byte 0)")
+        told = self.refused(61, 5, script.judge, [(1, 0)], [0, 1, 0, 0, 0, 2])
+        self.assertEqual(str(told), "a byte of the grid is over 1 (refusal 61, byte 5)")
+        told = self.refused(63, 3, script.judge, [(2, 1), (0, 0)], [0, 0, 0, 0, 0, 1])
+        self.assertEqual(str(told), "a booked pair is not in the grid (refusal 63, word 3)")
+        self.assertEqual(told.file, "bookings")
+
+    def test_pairs_are_refused(self):
+        script = prep.Script(prep.Template(TEMPLATE), SCRIPT)
+        told = self.refused(prep.GRID_NOT_MET, 0, script.judge, [(0, 0)], [0, 0, 1, 1, 0, 1])
+        self.assertIsInstance(told, prep.GridNotMet)
+        self.assertIsInstance(told, prep.PairRefused)
+        self.assertEqual((told.card, told.shape, told.file), (1, 0, "nothing"))
+        self.assertEqual(str(told), "a pair of the grid is not met (refusal 62, card 1, shape 0)")
+
     def test_no_words(self):
+        template = prep.Template(TEMPLATE)
         for numbers in ([1, 1, 1, -1], [1, 1, 1, 65536]):
             self.assertRaises(ValueError, prep.Template, numbers)
-        self.assertRaises(ValueError, prep.Template(TEMPLATE).fits, -1, [0, 0])
+        self.assertRaises(ValueError, template.fits, -1, [0, 0])
+        for numbers in ([0, 0, 0, 0, 0, -1], [0, 0, 0, 0, 0, 256]):
+            self.assertRaises(ValueError, prep.Script(template, SCRIPT).judge, [], numbers)
 
     def test_table(self):
         table = (include() / "prep_refusals.def").read_text()
@@ -69,7 +93,7 @@ class Words(unittest.TestCase):
         header = (include() / "prep.h").read_text()
         numbers = re.findall(r"^#define PREP_VERSION_\w+ (\d+)$", header, re.M)
         self.assertEqual(prep.version(), tuple(map(int, numbers)))
-        self.assertEqual(prep.version()[0], prep.MAJOR)
+        self.assertEqual(prep.version()[:2], (prep.MAJOR, prep.MINOR))
 
 
 class Answers(unittest.TestCase):
@@ -104,9 +128,25 @@ class Answers(unittest.TestCase):
         both = self.script.both([(0, 0)])
         self.assertEqual((both.largest.bare, both.smallest, both.not_met.number), (2, None, prep.NOT_MET))
 
+    def test_judge(self):
+        self.assertIsNone(self.script.judge([(2, 1)], [0, 0, 0, 0, 0, 1]))
+        self.assertIsNone(self.script.judge([], bytes(6)))
+        self.script.judge([], self.script.largest().typing.grid)
+        self.script.judge([(2, 1)], self.script.smallest([(2, 1)]).typing.grid)
+
+    def test_judge_between(self):
+        script = prep.Script.of(prep.Template.of(1, [prep.link(0, 0, 0, 1)]), 2, [(0, 0, 1)])
+        both = script.both([])
+        self.assertEqual((both.smallest.typing.grid, both.largest.typing.grid), (bytes(2), bytes([1, 1])))
+        for grid in (bytes(2), bytes([0, 1]), bytearray([1, 1])):
+            script.judge([], grid)
+        self.assertRaises(prep.GridNotMet, script.judge, [], bytes([1, 0]))
+
     def test_no_cards(self):
-        both = prep.Script(self.template, [0, 0]).both([])
+        script = prep.Script(self.template, [0, 0])
+        both = script.both([])
         self.assertEqual((both.largest.rounds, both.smallest.pairs, both.largest.typing.grid), (1, 0, b""))
+        self.assertIsNone(script.judge([], b""))
 
 
 class Builders(unittest.TestCase):

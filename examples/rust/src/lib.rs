@@ -1,4 +1,4 @@
-//! Prep sheet shapes: templates, scripts and their two typings, by the proved library.
+//! Prep sheet shapes: templates, scripts, their two typings and grids to judge, by the proved library.
 //!
 //! ```
 //! use prep::{Part, Script, ScriptBuilder, TemplateBuilder};
@@ -22,6 +22,9 @@
 //!
 //! let smallest = rundown.script.smallest(&[(rundown.opener, item)])?;
 //! assert!(smallest.typing.has(host, person));
+//!
+//! // A grid of another program: the opener an item, the host a person, and nothing else.
+//! rundown.script.judge(&[(rundown.opener, item)], &[1, 0, 0, 1])?;
 //! # Ok::<(), prep::Refusal>(())
 //! ```
 #![warn(missing_docs)]

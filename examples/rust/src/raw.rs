@@ -78,6 +78,17 @@ pub struct BothAnswer {
     pub pairs: usize,
 }
 
+/// Nothing where a judged grid is accepted, or a refusal.
+#[repr(C)]
+#[derive(Clone, Copy, Debug, PartialEq, Eq)]
+#[allow(missing_docs)]
+pub struct JudgeAnswer {
+    pub number: u16,
+    pub card: u16,
+    pub shape: u16,
+    pub place: usize,
+}
+
 extern "C" {
     fn prep_read_template(template_words: *const u16, template_length: usize) -> TemplateAnswer;
     fn prep_fit_counts(
@@ -132,6 +143,16 @@ extern "C" {
         largest_grid: *mut u8,
         largest_length: usize,
     ) -> BothAnswer;
+    fn prep_judge(
+        template_words: *const u16,
+        template_length: usize,
+        script_words: *const u16,
+        script_length: usize,
+        booking_words: *const u16,
+        bookings_length: usize,
+        judged_grid: *const u8,
+        judged_length: usize,
+    ) -> JudgeAnswer;
     fn prep_version() -> u32;
     fn prep_reason(refusal_number: u16) -> *const c_char;
     fn prep_file_of(refusal_number: u16) -> u32;
@@ -224,6 +245,23 @@ pub fn both_typings(
             small.len(),
             large.as_mut_ptr(),
             large.len(),
+        )
+    }
+}
+
+/// Judge a grid.
+pub fn judge(template: &[u16], script: &[u16], bookings: &[u16], grid: &[u8]) -> JudgeAnswer {
+    // SAFETY: see the module.
+    unsafe {
+        prep_judge(
+            template.as_ptr(),
+            template.len(),
+            script.as_ptr(),
+            script.len(),
+            bookings.as_ptr(),
+            bookings.len(),
+            grid.as_ptr(),
+            grid.len(),
         )
     }
 }

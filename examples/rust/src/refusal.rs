@@ -26,7 +26,7 @@ pub enum File {
 /// Where a refusal's fault is.
 #[derive(Clone, Copy, Debug, PartialEq, Eq, Hash)]
 pub enum Place {
-    /// The index of the word at fault in its own file.
+    /// The index of the word at fault in its own file; in a grid, of the byte.
     Word(usize),
     /// The card and the shape that are not met.
     Pair {
@@ -64,11 +64,11 @@ impl Refusal {
 
 impl fmt::Display for Refusal {
     fn fmt(&self, f: &mut fmt::Formatter<'_>) -> fmt::Result {
+        write!(f, "{} (refusal {}, ", self.reason(), self.number)?;
         match self.place {
-            Place::Word(place) => write!(f, "{} (refusal {}, word {place})", self.reason(), self.number),
-            Place::Pair { card, shape } => {
-                write!(f, "{} (refusal {}, card {card}, shape {shape})", self.reason(), self.number)
-            }
+            Place::Word(place) if self.file() == File::Grid => write!(f, "byte {place})"),
+            Place::Word(place) => write!(f, "word {place})"),
+            Place::Pair { card, shape } => write!(f, "card {card}, shape {shape})"),
         }
     }
 }
@@ -83,7 +83,12 @@ pub(crate) fn refused(number: u16, place: usize) -> Result<(), Refusal> {
     }
 }
 
-/// Refusal 50.
-pub(crate) fn not_met(card: u16, shape: u16) -> Refusal {
-    Refusal { number: refusals::NOT_MET, place: Place::Pair { card, shape } }
+/// The same for an answer that also has a card and a shape: two numbers have these instead of a place.
+pub(crate) fn refused_pair(number: u16, place: usize, card: u16, shape: u16) -> Result<(), Refusal> {
+    match number {
+        refusals::NOT_MET | refusals::GRID_NOT_MET => {
+            Err(Refusal { number, place: Place::Pair { card, shape } })
+        }
+        _ => refused(number, place),
+    }
 }

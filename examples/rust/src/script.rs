@@ -1,7 +1,7 @@
 //! Scripts: read from words, or built from links.
 
 use crate::part::word;
-use crate::refusal::{not_met, refusals, refused};
+use crate::refusal::{refusals, refused, refused_pair};
 use crate::{raw, Both, Largest, Refusal, Smallest, Template, Typing};
 use std::collections::BTreeSet;
 
@@ -76,10 +76,7 @@ impl Script {
     pub fn smallest(&self, bookings: &[(u16, u16)]) -> Result<Smallest, Refusal> {
         let mut grid = self.grid();
         let answer = raw::smallest(self.template.words(), &self.words, &booking_words(bookings), &mut grid);
-        if answer.number == refusals::NOT_MET {
-            return Err(not_met(answer.card, answer.shape));
-        }
-        refused(answer.number, answer.place)?;
+        refused_pair(answer.number, answer.place, answer.card, answer.shape)?;
         Ok(Smallest { typing: self.typing(grid), pairs: answer.pairs })
     }
 
@@ -89,15 +86,27 @@ impl Script {
         let (mut small, mut large) = (self.grid(), self.grid());
         let list = booking_words(bookings);
         let answer = raw::both_typings(self.template.words(), &self.words, &list, &mut small, &mut large);
-        let smallest = if answer.number == refusals::NOT_MET {
-            Err(not_met(answer.card, answer.shape))
-        } else {
-            refused(answer.number, answer.place)?;
-            Ok(Smallest { typing: self.typing(small), pairs: answer.pairs })
+        let smallest = match refused_pair(answer.number, answer.place, answer.card, answer.shape) {
+            Ok(()) => Ok(Smallest { typing: self.typing(small), pairs: answer.pairs }),
+            Err(refusal) if refusal.number == refusals::NOT_MET => Err(refusal),
+            Err(refusal) => return Err(refusal),
         };
         let typing = self.typing(large);
         let largest = Largest { typing, rounds: answer.rounds, struck: answer.struck, bare: answer.bare };
         Ok(Both { largest, smallest })
+    }
+
+    /// Whether a grid, perhaps of another program, is a sound typing that has the booked pairs of card and shape: a
+    /// byte for each pair, 1 where card n has shape t, at place n × shapes + t, else 0. Refusals: 31 to 33, 40, 61 to
+    /// 63; 62 names the pair that is not met.
+    pub fn judge(&self, bookings: &[(u16, u16)], grid: &[u8]) -> Result<(), Refusal> {
+        let answer = raw::judge(self.template.words(), &self.words, &booking_words(bookings), grid);
+        refused_pair(answer.number, answer.place, answer.card, answer.shape)
+    }
+
+    /// Judges a typing by the bytes of its grid. One of another script is judged as if it were this script's.
+    pub fn judge_typing(&self, bookings: &[(u16, u16)], typing: &Typing) -> Result<(), Refusal> {
+        self.judge(bookings, typing.grid())
     }
 
     /// A grid of the script's size.

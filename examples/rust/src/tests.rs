@@ -99,6 +99,62 @@ fn bookings_that_are_refused() {
 }
 
 #[test]
+fn a_grid_is_accepted() {
+    let script = Script::read(&template(), SCRIPT.to_vec()).unwrap();
+    assert_eq!(script.judge(&[(2, 1)], &[0, 0, 0, 0, 0, 1]), Ok(()));
+    assert_eq!(script.judge(&[(2, 1), (2, 1)], &[0, 0, 0, 0, 0, 1]), Ok(()));
+    assert_eq!(script.judge(&[], &[0; 6]), Ok(()));
+    assert_eq!(Script::read(&template(), vec![0, 0]).unwrap().judge(&[], &[]), Ok(()));
+}
+
+#[test]
+fn a_grid_is_refused_at_its_first_fault() {
+    let script = Script::read(&template(), SCRIPT.to_vec()).unwrap();
+    let pair = Refusal { number: refusals::GRID_NOT_MET, place: Place::Pair { card: 1, shape: 0 } };
+    assert_eq!(script.judge(&vec![(0, 0); 1025], &[2]), Err(word(31, 0)));
+    assert_eq!(script.judge(&[(3, 1)], &[2]), Err(word(32, 1)));
+    assert_eq!(script.judge(&[(2, 2)], &[2]), Err(word(33, 2)));
+    assert_eq!(script.judge(&[(0, 0)], &[2, 1, 1, 0, 0]), Err(word(40, 0)));
+    assert_eq!(script.judge(&[(0, 0)], &[0; 7]), Err(word(40, 0)));
+    assert_eq!(script.judge(&[(1, 0)], &[0, 1, 0, 0, 0, 2]), Err(word(61, 5)));
+    assert_eq!(script.judge(&[(2, 1)], &[0, 2, 0, 0, 0, 255]), Err(word(61, 1)));
+    assert_eq!(script.judge(&[(0, 0)], &[0, 0, 1, 1, 0, 1]), Err(pair));
+    assert_eq!(script.judge(&[(2, 1), (0, 0)], &[0, 0, 0, 0, 0, 1]), Err(word(63, 3)));
+}
+
+#[test]
+fn a_judged_grid_is_refused_for_its_files_first() {
+    let judge = |template: &[u16], script: &[u16]| raw::judge(template, script, &[], &[2]);
+    let told = |number, place| raw::JudgeAnswer { number, card: 0, shape: 0, place };
+    assert_eq!(judge(&[1, 1, 1, 4], &[1025, 0]), told(5, 3));
+    assert_eq!(judge(template().words(), &[2, 1, 0, 0, 2]), told(23, 4));
+    assert_eq!(judge(template().words(), &SCRIPT), told(30, 0));
+    let accepted = raw::judge(template().words(), &SCRIPT, &[1, 2, 1], &[0, 0, 0, 0, 0, 1]);
+    assert_eq!(accepted, told(0, 0));
+}
+
+#[test]
+fn our_own_typings_are_accepted() {
+    let mut builder = TemplateBuilder::new();
+    let (next, item) = (builder.kind(), builder.shape());
+    builder.define(item, Part::link(next, item, 0..=1));
+    let mut links = ScriptBuilder::with_cards(3);
+    links.link(0, next, 1);
+    let script = links.read(&builder.read().unwrap()).unwrap();
+    let booked = [(0, item)];
+    let both = script.both(&booked).unwrap();
+    let smallest = script.smallest(&booked).unwrap().typing;
+    let largest = script.largest().typing;
+    assert_eq!((smallest.grid(), largest.grid()), (&[1, 1, 0][..], &[1, 1, 1][..]));
+    for typing in [smallest, largest, both.smallest.unwrap().typing, both.largest.typing] {
+        assert_eq!(script.judge_typing(&booked, &typing), Ok(()));
+    }
+    // Between the two, but card 0 leads to a card without the shape.
+    let unmet = Refusal { number: 62, place: Place::Pair { card: 0, shape: 0 } };
+    assert_eq!(script.judge(&[], &[1, 0, 0]), Err(unmet));
+}
+
+#[test]
 fn a_typing_has_no_other_cards_or_shapes() {
     let template = template();
     let script = Script::read(&template, SCRIPT.to_vec()).unwrap();
@@ -113,6 +169,13 @@ fn a_refusal_says_what_and_where() {
     let message = "a part of the template has an unknown code (refusal 5, word 3)";
     assert_eq!(word(refusals::TEMPLATE_CODE, 3).to_string(), message);
     assert_eq!(word(refusals::SCRIPT_ORDER, 5).file(), File::Script);
+    let message = "a byte of the grid is over 1 (refusal 61, byte 5)";
+    assert_eq!(word(refusals::GRID_BYTE, 5).to_string(), message);
+    let message = "a booked pair is not in the grid (refusal 63, word 3)";
+    assert_eq!(word(refusals::GRID_NOT_HELD, 3).to_string(), message);
+    let pair = Refusal { number: refusals::GRID_NOT_MET, place: Place::Pair { card: 1, shape: 0 } };
+    assert_eq!(pair.to_string(), "a pair of the grid is not met (refusal 62, card 1, shape 0)");
+    assert_eq!((pair.file(), word(refusals::GRID_NOT_HELD, 3).file()), (File::Nothing, File::Bookings));
 }
 
 #[test]
