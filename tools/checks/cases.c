@@ -1,7 +1,8 @@
 /*
  * A sheet printer over the library's C functions. Standard input holds printer inputs, each after its length in four
- * bytes, low first; the text of each goes to standard output. On the way it checks that the calls agree with each other:
- * both typings with each typing alone, the links of the cards with the script, and that a refusal leaves the grids alone.
+ * bytes, low first; the text of each goes to standard output. On the way it checks that the calls agree with each
+ * other: both typings with each typing alone and with how they are judged, the links of the cards with the script, and
+ * that a refusal leaves the grids alone.
  */
 #include "prep.h"
 
@@ -68,8 +69,7 @@ static int split(const uint8_t *bytes, size_t length)
 }
 
 /* A line for each card: its shapes, ascending. */
-static void print_cards(const uint8_t *grid, size_t cards,
-                                                                           size_t shapes)
+static void print_cards(const uint8_t *grid, size_t cards, size_t shapes)
 {
     size_t card, shape;
     for (card = 0; card < cards; card++) {
@@ -95,6 +95,28 @@ static void check_alone(const struct prep_both_answer *both, size_t size)
     REQUIRE(memcmp(alone, smallest, size) == 0);
 }
 
+/* Judges a grid of the sheet. */
+static struct prep_judge_answer judge(const uint8_t *grid, size_t size)
+{
+    return prep_judge(TEMPLATE, SCRIPT, BOOKINGS, grid, size);
+}
+
+/* Both typings are accepted if the bookings are met; if not, neither holds them. A byte over 1 is told where it is. */
+static void check_judged(const struct prep_both_answer *both, size_t size)
+{
+    uint16_t owed = both->number == PREP_NOT_MET ? PREP_GRID_NOT_HELD : PREP_NOT_REFUSED;
+    struct prep_judge_answer over;
+    size_t place = size / 2;
+    REQUIRE(judge(smallest, size).number == owed);
+    REQUIRE(judge(largest, size).number == owed);
+    if (size > 0) {
+        memcpy(alone, largest, size);
+        alone[place] = 2;
+        over = judge(alone, size);
+        REQUIRE(over.number == PREP_GRID_BYTE && over.place == place);
+    }
+}
+
 /* The links of all cards, one card after the other, are the script's words. */
 static void check_links(size_t cards)
 {
@@ -108,9 +130,12 @@ static void check_links(size_t cards)
     REQUIRE(at == script.length);
 }
 
-static void check_untouched(void)
+/* A refusal of both typings leaves the grids alone, and a grid is refused for the same fault. */
+static void check_refused(const struct prep_both_answer *both, size_t size)
 {
+    struct prep_judge_answer judged = judge(largest, size);
     size_t i;
+    REQUIRE(judged.number == both->number && judged.place == both->place);
     for (i = 0; i < PREP_MAX_GRID_BYTES; i++) {
         require(smallest[i] == UNTOUCHED && largest[i] == UNTOUCHED, "a refusal leaves the grids alone");
     }
@@ -126,7 +151,7 @@ static void print_sheet(void)
     memset(largest, UNTOUCHED, sizeof largest);
     both = prep_both_typings(TEMPLATE, SCRIPT, BOOKINGS, smallest, size, largest, size);
     if (both.number != 0 && both.number != PREP_NOT_MET) {
-        check_untouched();
+        check_refused(&both, size);
         printf("refused %u %zu\n", (unsigned)both.number, both.place);
         return;
     }
@@ -139,12 +164,12 @@ static void print_sheet(void)
         print_cards(smallest, s.cards, t.shapes);
     }
     check_alone(&both, size);
+    check_judged(&both, size);
     check_links(s.cards);
 }
 
 /* The next input's bytes in memory of its own size, or NULL at the end of the stream. */
-static uint8_t *
-next_input(size_t *length)
+static uint8_t *next_input(size_t *length)
 {
     uint8_t head[4];
     uint8_t *bytes;

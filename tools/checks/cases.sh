@@ -3,13 +3,6 @@
 quietly $cc -std=c11 -O2 -Wall -Wextra -Werror -pedantic -I"$package/include" tools/checks/cases.c \
     "$package/lib/libprep.a" -o "$out/cases"
 
-# Runs a stream of inputs through a host and compares its text: HOST STREAM TEXT.
-through() {
-    host=$1
-    eval "$host" <"$2" >"$out/text" 2>"$out/number" || { tail -n 5 "$out/number" >&2; fail "$host on $2"; }
-    same "$3" "$out/text" "$host differs on $2"
-}
-
 stored=crates/sheet_cases
 through "$out/cases" $stored/stdin $stored/stdout
 say "cases: $(cat "$out/number") stored inputs through the static library in C"

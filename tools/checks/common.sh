@@ -31,6 +31,14 @@ prints_sheet() {
     same tools/checks/sheet.txt "$out/sheet" "$* printed another sheet"
 }
 
+# Runs a stream of cases through a host and compares its text: HOST STREAM TEXT. What the host tells on standard error,
+# most often how many cases there were, stays in $out/number.
+through() {
+    host=$1
+    eval "$host" <"$2" >"$out/text" 2>"$out/number" || { tail -n 5 "$out/number" >&2; fail "$host on $2"; }
+    same "$3" "$out/text" "$host differs on $2"
+}
+
 # Which programs are missing, all at once.
 check_programs() {
     missing=

@@ -1,6 +1,7 @@
 //! The sheets that are timed.
 
 use prep_tools::generate::{heavy, special};
+use prep_tools::script::{MOST_CARDS, MOST_LINKS};
 use prep_tools::sheet::{self, Files};
 
 /// The worked example, as words.
@@ -16,7 +17,7 @@ pub struct Input {
     pub naive: bool,
 }
 
-/// All sheets.
+/// The sheets on which both typings are timed.
 pub fn all() -> Result<Vec<Input>, String> {
     let programme = sheet::split(PROGRAMME).map_err(|refusal| format!("the worked example: {refusal}"))?;
     let input = |name, files, naive| Input { name, files, naive };
@@ -26,4 +27,21 @@ pub fn all() -> Result<Vec<Input>, String> {
         input("(c) ring of 32,769 rounds", heavy::ring(), false),
         input("(d) programme of 41 cards", programme, true),
     ])
+}
+
+/// A sheet of all limits on which no pair is struck, so that as many pairs are judged as there can be: the shapes of
+/// the densest sheet, and links of kinds that each of them takes in any number.
+pub fn kept() -> Input {
+    let each = MOST_LINKS / MOST_CARDS;
+    let link = |card, kind| [card, kind, (card * each + kind) % MOST_CARDS];
+    let links = (0..MOST_CARDS).flat_map(|card| (0..each).flat_map(move |kind| link(card, kind)));
+    Input {
+        name: "(e) all limits, no pair struck",
+        files: Files {
+            template: heavy::densest().template,
+            script: [MOST_CARDS, MOST_LINKS].into_iter().chain(links).collect(),
+            bookings: vec![0],
+        },
+        naive: false,
+    }
 }

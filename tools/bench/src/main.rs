@@ -1,13 +1,16 @@
 //! Times the built library against the other implementation: against its linear algorithm and against its naive
-//! rounds, in one process, on the same inputs. Each does both typings, from words to grids, refusals tested.
+//! rounds, in one process, on the same inputs. Each does both typings, from words to grids, refusals tested. Then it
+//! times the library's judge against its largest typing.
 //!
 //! | module    | what                                              |
 //! |-----------|---------------------------------------------------|
 //! | `inputs`  | the sheets that are timed                         |
 //! | `library` | the library's call, through the Rust wrapper      |
+//! | `judging` | the library's judge against its largest typing    |
 //! | `runs`    | warm-up, many runs, the median                    |
 
 mod inputs;
+mod judging;
 mod library;
 mod runs;
 
@@ -33,12 +36,28 @@ fn main() -> ExitCode {
             "skipped: naive rounds look at every pair left in each round, some 537 million pairs on that sheet."
         );
     }
+    println!();
+    let refused = time_judging(&inputs);
+    println!();
+    if refused > 0 {
+        println!("A largest typing is not accepted.");
+    }
     if differ > 0 {
         println!("Answers or grids differ.");
+    }
+    if refused + differ > 0 {
         return ExitCode::FAILURE;
     }
     println!("All answers and grids agree.");
     ExitCode::SUCCESS
+}
+
+/// Times the judge on these sheets and on the one with the most pairs to judge; how many it did not accept.
+fn time_judging(inputs: &[Input]) -> usize {
+    judging::print_head();
+    let kept = inputs::kept();
+    let all = inputs.iter().chain([&kept]);
+    all.filter(|input| !judging::time(input)).count()
 }
 
 /// What the columns are.
