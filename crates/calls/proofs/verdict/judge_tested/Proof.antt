@@ -1,6 +1,6 @@
 -- `calls::judge_tested` gives the verdict on a grid of zeros and ones, of each sheet whose pairs that fit it was lent.
 -- Assumes nothing.
-use mathlib.Core.Path.{sym, _∙_, ap}
+use mathlib.Core.Path.{_∙_, ap}
 use Prim.Native.Nat.{ℕ, _*_}
 use native.Mathlib.Nat.{div-le-self}
 use native.Mathlib.Omega.{arith}
@@ -29,7 +29,7 @@ first-unmet-requires c κs =
       ready = ready k;
       starting = card-starts k _ (asked .links);
       full = asked .size ∙ ap (λ (n : ℕ). n * start c .args .e .shapes) (read k .links .cards);
-      tested = asked .tested .fits .full ∙ sym (asked .size);
+      tested = omega (arith, asked .tested .fits .full, asked .size);
     }
 
 div-t16 : tie.Need-div-t16
