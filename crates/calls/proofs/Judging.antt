@@ -19,7 +19,7 @@ use Rattle.board.specs.Grid.{on}
 use Rattle.board.specs.Machine.{Marks}
 use Rattle.sheet.specs.Sheet.{Sheet, place, size}
 use Rattle.sheet.specs.declared.Extent.{Extent}
-use Rattle.bookings.specs.Bookings.{cardIndex, Booked}
+use Rattle.bookings.specs.Bookings.{cardIndex}
 use Rattle.typing.specs.Needs.{metTest, boardOf}
 use Rattle.typing.specs.Typing.{Has, Met, Typing, SoundTyping}
 use Rattle.typing.specs.Judge.{over, unmet, unheld, passes, JudgeFound}

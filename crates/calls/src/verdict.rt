@@ -21,8 +21,8 @@ use typing::JudgeAnswer;
 use words::MAX_GRID;
 use words::TABLE_SIZE;
 
-// The verdict on a grid of zeros and ones whose sheet's pairs are tested: its lowest pair that is not met under it, then
-// the first booking that it does not hold.
+// The verdict on a grid of zeros and ones where the sheet's pairs are tested: its lowest pair that is not met under it,
+// then the first booking that it does not hold.
 fn judge_tested(
     script: &[u16],
     bookings: &[u16],

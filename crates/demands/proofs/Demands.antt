@@ -46,7 +46,8 @@ use Rattle.typing.proofs.Existence.{represented}
 use Rattle.typing.proofs.Apart.{apart}
 use Rattle.typing.proofs.Judging.{judge-exact, judge-takes-smallest, judge-takes-largest, judge-between, judge-some}
 use Rattle.demands.specs.Demands.{TemplateListed, ScriptListed, FitListed, LargestListed, SmallestListed}
-use Rattle.demands.specs.Demands.{FromTo, JudgeListed, PrinterListed, FirstDemand, Formed, Neighbourhood, RuleTwo, SecondDemand}
+use Rattle.demands.specs.Demands.{FromTo, JudgeListed, PrinterListed, FirstDemand, Formed, Neighbourhood}
+use Rattle.demands.specs.Demands.{RuleTwo, SecondDemand}
 use Rattle.demands.specs.Demands.{TurnedDown, LargestTyping, TwoTypings, ThirdDemand, BookingsFormed}
 use Rattle.demands.specs.Demands.{JudgedGrids, JudgeDemand}
 use Rattle.demands.proofs.Formed.{formed-sheet, sheets-are, bookings-are, largest-taken, smallest-taken}

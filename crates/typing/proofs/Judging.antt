@@ -7,7 +7,7 @@
 --   judge-one-answer, judge-no-choice   two answers that are allowed for one input are equal
 -- Assumes nothing.
 use Prim.Native.Nat.{ℕ}
-use mathlib.Core.Path.{_≡_, refl, sym, ap, _∙_, subst}
+use mathlib.Core.Path.{_≡_, refl, sym, _∙_, subst}
 use mathlib.Core.Logic.{_↔_}
 use mathlib.Core.List.{List, [], _∷_}
 use lib.ListN.{length}
@@ -16,16 +16,16 @@ use Rattle.words.specs.Reading.{Reading, accepted, turnedDown, then}
 use Rattle.words.proofs.Said.{values-refusal}
 use Rattle.words.proofs.Readings.{accepted-same}
 use Rattle.board.specs.Grid.{on}
-use Rattle.sheet.specs.Sheet.{Sheet, size, readSheet}
+use Rattle.sheet.specs.Sheet.{Sheet, readSheet}
 use Rattle.bookings.specs.Bookings.{Booked}
 use Rattle.typing.specs.declared.JudgeAnswer.{JudgeAnswer}
-use Rattle.typing.specs.Typing.{Below, Holds, SoundTyping}
+use Rattle.typing.specs.Typing.{Below}
 use Rattle.typing.specs.Demand3.{Outcome, pairs, notMet, Refused}
 use Rattle.typing.specs.Answer.{BothSaid, judgeSaid}
 use Rattle.typing.specs.Calls.{withBookings, largestReading, smallestReading, bothReading, Grids, Leaves}
-use Rattle.typing.specs.Calls.{outcomeSaid, LargestSays, SmallestFound, SmallestSays, BothFound, BothSays}
+use Rattle.typing.specs.Calls.{outcomeSaid, LargestSays, SmallestFound, SmallestSays, BothSays}
 use Rattle.typing.specs.Judge.{passes, Passes, JudgeFound, JudgeAnswered, JudgeSays}
-use Rattle.typing.proofs.Smallest.{BookedIn, accepted-sound, accepted-holds, turned-down-never}
+use Rattle.typing.proofs.Smallest.{accepted-sound, accepted-holds, turned-down-never}
 use Rattle.typing.proofs.Booked.{grid-asked, grid-taken, bookings-asked}
 use Rattle.typing.proofs.Existence.{represented}
 use Rattle.typing.proofs.Apart.{apart}
@@ -71,6 +71,7 @@ module _ (template script bookings : List ℕ) where
     passes-only : (said : Said) → JudgeSays template script bookings grid said → said ≡ values []
     passes-only said x = judge-one-answer grid said (values []) x passes-allowed
 
+  -- the files are read to some sheet, and the grid has its size, is a sound typing of it and holds the bookings
   pub judge-exact : (grid : List ℕ) (said : Said) → JudgeSays template script bookings grid said
       → (said ≡ values [])
       ↔ ((s : Sheet) × (smallestReading template script bookings grid ≡ accepted s) × Passes s (Booked bookings) grid)
@@ -125,7 +126,8 @@ module _ (template script bookings : List ℕ) where
   judge-takes-both before after said m x e told =
       let (s, both-asked, found) = both-values (Booked bookings) (bothReading template script bookings before) before
       after said (m ∷ []) e x in
-      let asked = grid-asked (before .large) (smallestReading template script bookings (before .small)) s both-asked .0 in
+      let small-asks = smallestReading template script bookings (before .small) in
+      let asked = grid-asked (before .large) small-asks s both-asked .0 in
       let d = found .demand in
       let met = not-refused (found .smallest .outcome) (sym e ∙ found .smallest .says) in
       let (small, small-holds) = d .small-sound met in
@@ -184,6 +186,7 @@ module _ (template script bookings : List ℕ) where
       λ never. absurd (never n t e),
     )
 
+    -- the smallest's files are read and its grid has the size: some grid is accepted, or 50 is said
     pub judge-some : ((grid : List ℕ) × JudgeSays template script bookings grid (values []))
         ↔ ((n t : ℕ) → said ≡ refusal 50 (n ∷ t ∷ []) → ⊥)
     judge-some =

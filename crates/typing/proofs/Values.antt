@@ -5,15 +5,15 @@
 use Prim.Native.Nat.{ℕ}
 use mathlib.Core.Path.{_≡_, refl, sym, ap, _∙_}
 use mathlib.Core.List.{List, []}
-use Rattle.words.specs.Said.{Said, values}
+use Rattle.words.specs.Said.{values}
 use Rattle.words.specs.Reading.{Reading, accepted, turnedDown}
 use Rattle.words.proofs.Said.{values-refusal}
 use Rattle.sheet.specs.Sheet.{Sheet}
 use Rattle.bookings.specs.Bookings.{Booked}
 use Rattle.typing.specs.Demand3.{Outcome, pairs, notMet}
 use Rattle.typing.specs.Answer.{BothSaid}
-use Rattle.typing.specs.Calls.{Grids, Leaves, outcomeSaid, LargestFound, LargestAnswered, SmallestFound}
-use Rattle.typing.specs.Calls.{SmallestAnswered, BothFound, BothAnswered}
+use Rattle.typing.specs.Calls.{Grids, Leaves, outcomeSaid, LargestFound, LargestAnswered, SmallestAnswered}
+use Rattle.typing.specs.Calls.{BothFound, BothAnswered}
 use Rattle.typing.specs.Judge.{Verdict, over, unmet, unheld, passes, verdictSaid, Passes, Judged, JudgeAnswered}
 use Rattle.typing.proofs.Smallest.{accepted-sound, accepted-holds}
 

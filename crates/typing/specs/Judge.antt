@@ -17,8 +17,8 @@ use Rattle.bookings.specs.Bookings.{cardIndex, cardAt, shapeAt, Booked}
 use Rattle.typing.specs.Typing.{Has, Met, Holds, Typing, SoundTyping}
 use Rattle.typing.specs.Calls.{smallestReading}
 
--- A byte that is over 1, by its place; a pair that is not met, by its card and shape; a booking that is not held, by its
--- number in the list; or none of these.
+-- A byte that is over 1, by its place; a pair that is not met, by its card and shape; a booking that is not held, by
+-- its number in the list; or none of these.
 pub data Verdict : Type 0 where
   over : ℕ → Verdict
   unmet : ℕ → ℕ → Verdict
