@@ -3,7 +3,7 @@
 --   template-plain, fit-plain, script-plain, largest-plain, smallest-plain, both-plain, judge-plain   of each operation
 -- Assumes nothing.
 use Prim.Native.Nat.{ℕ, _≤_, _<_}
-use mathlib.Core.Path.{_≡_, sym, ap, subst}
+use mathlib.Core.Path.{_≡_, refl, sym, ap, subst}
 use mathlib.Core.Logic.{_⊎_, ⊎-elim}
 use mathlib.Core.List.{List, [], _∷_}
 use native.Mathlib.Omega.{arith}
@@ -49,9 +49,7 @@ smallest-number n h =
 
 -- 61 or 63
 grid-plain : (n : ℕ) → (n ≡ 61) ⊎ (n ≡ 63) → Plain n
-grid-plain n h = ⊎-elim
-    (λ e. plain-number n (λ z. omega arith) (λ z. omega arith) (λ z. omega arith))
-    (λ e. plain-number n (λ z. omega arith) (λ z. omega arith) (λ z. omega arith)) h
+grid-plain n h = ⊎-elim (λ e. subst Plain (sym e) (refl, refl)) (λ e. subst Plain (sym e) (refl, refl)) h
 
 judge-number : (n : ℕ) → JudgeNumber n → Plain n
 judge-number n h = ⊎-elim (smallest-number n) (grid-plain n) h
@@ -138,5 +136,5 @@ module _ (number place : ℕ) where
   pub judge-plain : (template script bookings grid : List ℕ)
       → JudgeSays template script bookings grid (refusal number (place ∷ [])) → Plain number
   judge-plain template script bookings grid e = ⊎-elim
-      (judge-number number) (λ (two : (number ≡ 62) × _≡_ {A = ℕ} 1 2). absurd (omega (arith, two .1)))
+      (judge-number number) (λ two. absurd (omega (arith, two .1)))
       (judge-numbers template script bookings grid number (place ∷ []) e)

@@ -1,6 +1,6 @@
 -- One law for all answers: what the numbers of a struct say tells the numbers.
 --   Plain            a number that is neither 0 nor one of the refusals with a card and a shape
---   plain-number     enough that it is none of 0, 50 and 62
+--   plain-number, plain-other   enough that it is none of 0, 50 and 62; it is not 50
 --   tells-found, tells-refused, tells-paired   the numbers of values, of a refusal at a place, at a card and a shape
 --   equals-refused, both-refused   the numbers of a refusal where one thing is said, and of a refusal of both typings
 --   said-by          what holds of what an answer says holds by the case that it is
@@ -14,6 +14,7 @@ use lib.ListN.{length, getD, replicate}
 use lib.Dec.{eqb}
 use borrow.Author.Tests.{eqb-true, ne-eqb}
 use Rattle.words.specs.Said.{Said, values, refusal}
+use Rattle.words.proofs.Bools.{never-both, is-false, or-left}
 use Rattle.typing.specs.Answer.{BothSaid}
 use Rattle.capi.specs.Numbers.{Numbers, isPaired, said, unsaid, Zeros, Tells, TellsBoth}
 
@@ -29,6 +30,9 @@ Plain number = (eqb number 0 ≡ false) × (isPaired number ≡ false)
 pub plain-number : (number : ℕ) → (number ≡ 0 → ⊥) → (number ≡ 50 → ⊥) → (number ≡ 62 → ⊥) → Plain number
 plain-number number some unmet failing =
     (ne-eqb number 0 some, rw (ne-eqb number 50 unmet, ne-eqb number 62 failing) refl)
+
+pub plain-other : (number : ℕ) → Plain number → eqb number 50 ≡ false
+plain-other number plain = is-false (λ e. never-both (or-left (eqb number 50) _ e) (plain .1))
 
 -- The numbers of values, and of a refusal at one place.
 abbrev valued : List ℕ → Numbers
@@ -133,10 +137,10 @@ module _ (Allowed : BothSaid → Type 0) where
     plain-unsaid number place (0 ∷ []) plain (refl, tt),
   )
     where
-      same : cond (isPaired number) 0 number ≡ number
-      same = ap (λ (b : Bool). cond b 0 number) (plain .1)
+      same : cond (eqb number 50) 0 number ≡ number
+      same = ap (λ (b : Bool). cond b 0 number) (plain-other number plain)
 
-      large : said (placed (cond (isPaired number) 0 number) place (0 ∷ 0 ∷ 0 ∷ [])) ≡ refusal number (place ∷ [])
+      large : said (placed (cond (eqb number 50) 0 number) place (0 ∷ 0 ∷ 0 ∷ [])) ≡ refusal number (place ∷ [])
       large = ap (λ (n : ℕ). said (placed n place (0 ∷ 0 ∷ 0 ∷ []))) same
           ∙ plain-said number place (0 ∷ 0 ∷ 0 ∷ []) plain
 

@@ -92,11 +92,11 @@ smallestNumbers r =
 abbrev pub smallPart : PrepBoth → Numbers
 smallPart r = record { number = r .number; place = r .place; card = r .card; shape = r .shape; found = r .pairs ∷ [] }
 
--- and the largest's: bookings that are not met refuse the smallest only.
+-- and the largest's: 50, bookings that are not met, refuses the smallest only.
 abbrev pub largePart : PrepBoth → Numbers
 largePart r =
     record {
-      number = cond (isPaired (r .number)) 0 (r .number);
+      number = cond (eqb (r .number) 50) 0 (r .number);
       place = r .place;
       card = 0;
       shape = 0;

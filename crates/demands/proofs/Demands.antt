@@ -39,7 +39,7 @@ use Rattle.typing.specs.Answer.{BothSaid}
 use Rattle.typing.specs.Calls.{largestReading, smallestReading, bothReading, outcomeSaid, BothAnswered, BothFound}
 use Rattle.typing.specs.Calls.{LargestFound, LargestSays, SmallestFound, SmallestSays}
 use Rattle.typing.specs.Judge.{Verdict, over, unmet, unheld, passes, verdictSaid, Passes, JudgeFound, JudgeSays}
-use Rattle.typing.proofs.Numbers.{largest-numbers, smallest-numbers, both-numbers, JudgeNumber, judge-numbers}
+use Rattle.typing.proofs.Numbers.{largest-numbers, smallest-numbers, both-numbers, JudgeRefusal, judge-numbers}
 use Rattle.typing.proofs.Represents.{Represents}
 use Rattle.typing.proofs.Largest.{largest-over, largest-bound, largest-unique, some-largest, bare-alike}
 use Rattle.typing.proofs.Existence.{represented}
@@ -71,8 +71,7 @@ accepted-or-faulty said (unheld i) e = inr (63, cardIndex i ∷ [], (omega arith
 accepted-or-faulty said passes e = inl e
 
 -- A number of the judge is a listed one.
-judge-number : (number : ℕ) (at : List ℕ) → JudgeNumber number ⊎ ((number ≡ 62) × (length at ≡ 2))
-    → JudgeListed number
+judge-number : (number : ℕ) (at : List ℕ) → JudgeRefusal number at → JudgeListed number
 judge-number number at (inl (inl h)) = inl h
 judge-number number at (inl (inr (inl e))) = inr (omega arith, omega arith)
 judge-number number at (inl (inr (inr e))) = inr (omega arith, omega arith)

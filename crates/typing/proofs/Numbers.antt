@@ -2,7 +2,7 @@
 -- is judged 61 and 63.
 --   LargestNumber, largest-numbers      of the call for the largest
 --   SmallestNumber, smallest-numbers, both-numbers   of the calls for the smallest and for both
---   JudgeNumber, judge-numbers          of the judge; its other number, 62, has two words for its place
+--   JudgeNumber, JudgeRefusal, judge-numbers   of the judge; its other number, 62, has two words for its place
 -- Assumes nothing.
 use Prim.Native.Nat.{ℕ}
 use mathlib.Core.Path.{_≡_, refl, sym, ap, subst}
@@ -67,7 +67,7 @@ module _ (template script : List ℕ) where
 
 -- ---- the judge
 -- A number with one place, or 62 with a card and a shape.
-abbrev JudgeRefusal : ℕ → List ℕ → Type 0
+abbrev pub JudgeRefusal : ℕ → List ℕ → Type 0
 JudgeRefusal number at = JudgeNumber number ⊎ ((number ≡ 62) × (length at ≡ 2))
 
 verdict-numbers : (v : Verdict) (number : ℕ) (at : List ℕ) → refusal number at ≡ verdictSaid v → JudgeRefusal number at
@@ -82,8 +82,7 @@ judge-by (turnedDown n p) bookings grid number at h x = inl (inl (subst Smallest
 judge-by (accepted s) bookings grid number at h x = verdict-numbers (x .verdict) number at (x .says)
 
 pub judge-numbers : (template script bookings grid : List ℕ) (number : ℕ) (at : List ℕ)
-    → JudgeSays template script bookings grid (refusal number at)
-    → JudgeNumber number ⊎ ((number ≡ 62) × (length at ≡ 2))
+    → JudgeSays template script bookings grid (refusal number at) → JudgeRefusal number at
 judge-numbers template script bookings grid number at =
     judge-by (smallestReading template script bookings grid) bookings grid number at
     (smallest-numbers template script bookings grid)
