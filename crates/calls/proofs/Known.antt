@@ -12,7 +12,7 @@ use mathlib.Core.List.{List}
 use native.Mathlib.Nat.{mul-le-mul}
 use native.Mathlib.Omega.{arith}
 use lib.ListN.{length, getD}
-use Rattle.words.specs.Limits.{maxKinds}
+use Rattle.words.specs.Limits.{maxLabels}
 use Rattle.words.specs.Sizes.{maxGrid}
 use Rattle.words.specs.Reading.{accepted}
 use Rattle.words.proofs.Readings.{accepted-same}
@@ -55,7 +55,7 @@ module _ {template script names : List ℕ} {e : Extent} (k : Known template scr
   pub tabled : Tabled (k .opened .parts) names
   tabled = k .table shaped (k .opened .template-read)
 
-  pub rows : e .shapes * maxKinds ≤ length names
+  pub rows : e .shapes * maxLabels ≤ length names
   rows = omega (arith, read .shapes .shapes-high, k .room)
 
   pub ready : Ready script names (e .shapes)

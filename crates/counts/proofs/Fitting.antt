@@ -15,7 +15,7 @@ use borrow.Author.Tests.{le-leb, lt-leb, le-ltb, lt-ltb, eq-eqb, ne-eqb}
 use lib.ListN.{length, getD, take, drop, length-drop}
 use lib.Seq.{length-take-le, getD-take, getD-drop}
 use Rattle.words.specs.Said.{Said, refusal}
-use Rattle.words.specs.Limits.{maxKinds, maxDepth}
+use Rattle.words.specs.Limits.{maxLabels, maxDepth}
 use Rattle.words.specs.Sizes.{tableSize}
 use Rattle.words.specs.Reading.{Reading, accepted, turnedDown}
 use Rattle.bags.specs.Part.{Part}
@@ -49,7 +49,7 @@ module _ (words : List ℕ) (t : Template) (e : readTemplate words ≡ accepted 
   -- What `fits` asks, with the shape's row of the table of names.
   pub fits-asks :
       (counts names : List ℕ) (at base n : ℕ) → Tabled (t .parts) names → length names ≡ tableSize →
-      length counts ≡ t .kinds → at ≡ shapePlace words s 2 → base ≡ s * maxKinds → n ≡ maxKinds →
+      length counts ≡ t .kinds → at ≡ shapePlace words s 2 → base ≡ s * maxLabels → n ≡ maxLabels →
       Testable words at (take n (drop base names)) (length counts)
   fits-asks counts names at base n table all whole q b w =
       let a = template-accepted words t e in
@@ -62,7 +62,7 @@ module _ (words : List ℕ) (t : Template) (e : readTemplate words ≡ accepted 
         row-of =
             λ k h.
             let i : k < n = omega (arith, a .kinds-high) in
-            let j : k < maxKinds = omega arith in
+            let j : k < maxLabels = omega arith in
             let l : s < length (t .parts) = omega (arith, a .trees-length) in
             getD-take n (drop base names) k 0 i ∙ getD-drop base names k 0
             ∙ ap (λ (m : ℕ). getD names (m + k) 0) b ∙ table s k l j

@@ -32,7 +32,7 @@ use template::TemplateAnswer;
 use template::read_names;
 use words::MAX_COUNT;
 use words::MAX_DEPTH;
-use words::MAX_KINDS;
+use words::MAX_LABELS;
 use words::TABLE_SIZE;
 use words::wide;
 
@@ -278,8 +278,8 @@ fn fit_accepted(
     if over < counts.len() {
         return FitAnswer::Refused(43, over);
     }
-    let base = wide(n) * MAX_KINDS;
-    let end = base + MAX_KINDS;
+    let base = wide(n) * MAX_LABELS;
+    let end = base + MAX_LABELS;
     let at = shape_place(template, n);
     if fits(template, at, &names[base..end], counts) {
         FitAnswer::Yes

@@ -18,7 +18,7 @@ use native.Mathlib.Nat.{le-of-suc-le-suc}
 use lib.Dec.{eqb}
 use lib.ListN.{length, getD, replicate}
 use borrow.Author.Tests.{eqb-true}
-use Rattle.words.specs.Limits.{maxKinds}
+use Rattle.words.specs.Limits.{maxLabels}
 use Rattle.words.specs.Said.{values}
 use Rattle.words.specs.Reading.{Reading, accepted}
 use Rattle.words.proofs.Bools.{never-both, or-cases, false-true, false-of-not}
@@ -144,7 +144,7 @@ names = 2 ∷ 1 ∷ replicate 126 0
 
 -- The entry at a place is what the place's shape names for its label.
 abbrev entryTest : ℕ → Bool
-entryTest p = eqb (getD names p 0) (named (getD (worked .parts) (p / maxKinds) Part.nothing) (p % maxKinds))
+entryTest p = eqb (getD names p 0) (named (getD (worked .parts) (p / maxLabels) Part.nothing) (p % maxLabels))
 
 entries-computed : all entryTest 128 ≡ true
 unfolding all tally bit
@@ -152,12 +152,12 @@ entries-computed = refl
 
 names-tabled : Tabled (worked .parts) names
 names-tabled t k lt lk =
-    let some : 0 < maxKinds = omega arith in
-    let p = t * maxKinds + k in
-    eqb-true (getD names p 0) (named (getD (worked .parts) (p / maxKinds) Part.nothing) (p % maxKinds))
-    (all-at entryTest 128 entries-computed p (place-in 2 maxKinds t k lt lk))
-    ∙ ap₂ (λ (x y : ℕ). named (getD (worked .parts) x Part.nothing) y) (card-of maxKinds some t k lk)
-    (shape-of maxKinds some t k lk)
+    let some : 0 < maxLabels = omega arith in
+    let p = t * maxLabels + k in
+    eqb-true (getD names p 0) (named (getD (worked .parts) (p / maxLabels) Part.nothing) (p % maxLabels))
+    (all-at entryTest 128 entries-computed p (place-in 2 maxLabels t k lt lk))
+    ∙ ap₂ (λ (x y : ℕ). named (getD (worked .parts) x Part.nothing) y) (card-of maxLabels some t k lk)
+    (shape-of maxLabels some t k lk)
 
 -- How many links of each kind a card has.
 abbrev countsAt : ℕ → List ℕ
@@ -199,7 +199,7 @@ fits-right = fits-grid read fitting (λ n t ln lt. (
 abbrev pub board : Board
 board = boardOf script names 2 fitting
 
-names-room : 2 * maxKinds ≤ length names
+names-room : 2 * maxLabels ≤ length names
 names-room = omega arith
 
 pub stands : Represents worked board

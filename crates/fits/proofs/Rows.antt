@@ -22,7 +22,7 @@ use lib.Seq.{getD-take, getD-drop, getD-set-same, getD-set-other}
 use Rattle.bags.specs.Part.{Part}
 use Rattle.bags.specs.Named.{named}
 use Rattle.template.specs.Template.{readTemplate}
-use Rattle.words.specs.Limits.{maxKinds, maxShapes, maxTemplate, maxDepth}
+use Rattle.words.specs.Limits.{maxLabels, maxShapes, maxTemplate, maxDepth}
 use Rattle.words.specs.Sizes.{tableSize}
 use Rattle.words.specs.Reading.{accepted}
 use Rattle.template.specs.Machine.{shapePlace}
@@ -48,7 +48,7 @@ byte-is r b x e t = ap (λ (y : Bool). cond {A = ℕ} y 1 0) (sym t ∙ e)
 
 -- The row of the shape t in a table of names.
 abbrev rowAt : List ℕ → ℕ → List ℕ
-rowAt names t = take (t * maxKinds + maxKinds - t * maxKinds) (drop (t * maxKinds) names)
+rowAt names t = take (t * maxLabels + maxLabels - t * maxLabels) (drop (t * maxLabels) names)
 
 -- Where the words of a shape lie whose count of words stands at `at`.
 pub record ShapeWithin (template : List ℕ) (shapes at : ℕ) : Type 0 where
@@ -87,19 +87,19 @@ module _ (template : List ℕ) (shapes : ℕ) (counts row : List ℕ) where
 
     pub shape-row :
         (names : List ℕ) → Shaped template shapes → length names ≡ tableSize →
-        length (rowAt names t) ≡ maxKinds
+        length (rowAt names t) ≡ maxLabels
     shape-row names s size =
         let few = shape-within s .few in
-        mid-len (t * maxKinds) (t * maxKinds + maxKinds) names (omega arith) ∙ omega arith
+        mid-len (t * maxLabels) (t * maxLabels + maxLabels) names (omega arith) ∙ omega arith
 
     pub shape-names :
         (names : List ℕ) → Shaped template shapes → TableOf template names → length names ≡ tableSize →
-        (k : ℕ) → k < maxKinds →
+        (k : ℕ) → k < maxLabels →
         getD (rowAt names t) k 0 ≡ named (treeAt maxDepth template (at + 1) .value) k
     shape-names names s table size k h =
         let w = template-accepted template (templateAs (s .kinds) shapes (s .parts)) (s .read) in
-        let base = t * maxKinds in
-        getD-take (base + maxKinds - base) (drop base names) k 0 (omega arith) ∙ getD-drop base names k 0
+        let base = t * maxLabels in
+        getD-take (base + maxLabels - base) (drop base names) k 0 (omega arith) ∙ getD-drop base names k 0
         ∙ table (templateAs (s .kinds) shapes (s .parts)) (s .read) t k (omega (arith, w .trees-length)) h
         ∙ ap (λ (p : Part). named p k) (sym (tree-is (s .kinds) (s .parts) (s .read)))
 

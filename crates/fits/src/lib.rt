@@ -12,6 +12,7 @@ use counts::fits;
 use script::count_kinds;
 use sheet::Extent;
 use words::MAX_KINDS;
+use words::MAX_LABELS;
 use words::wide;
 
 // Tests each shape on the counts of one card's kinds: its byte of the row is 1 where they fit, else 0.
@@ -22,8 +23,8 @@ fn fit_card(template: &[u16], names: &[u8], shapes: usize, counts: &[u16], row: 
     let mut at = 2;
     let mut t = 0;
     while t < shapes {
-        let base = t * MAX_KINDS;
-        let end = base + MAX_KINDS;
+        let base = t * MAX_LABELS;
+        let end = base + MAX_LABELS;
         if fits(template, at, &names[base..end], counts) {
             row[t] = 1;
         } else {

@@ -15,7 +15,7 @@ use borrow.Author.Tests.{eq-eqb, ne-eqb}
 use Rattle.board.specs.Work.{Work, Swept}
 use Rattle.words.proofs.Bools.{eq-or-ne}
 use Rattle.board.proofs.Worklist.{swept-same}
-use Rattle.words.specs.Limits.{maxKinds, maxShapes}
+use Rattle.words.specs.Limits.{maxLabels, maxShapes}
 use Rattle.words.specs.Sizes.{tableSize}
 use Rattle.typing.specs.Needs.{Ready}
 use Rattle.typing.proofs.Boards.{entries-bound}
@@ -32,56 +32,56 @@ module _ (names : List ℕ) (p : ℕ) where
   unfolding entryKey
   key-none e = rw (eq-eqb (getD names p 0) 0 e) refl
 
-  pub key-of : (getD names p 0 ≡ 0 → ⊥) → entryKey names p ≡ p % maxKinds * maxShapes + (getD names p 0 - 1)
+  pub key-of : (getD names p 0 ≡ 0 → ⊥) → entryKey names p ≡ p % maxLabels * maxShapes + (getD names p 0 - 1)
   unfolding entryKey
   key-of ne = rw (ne-eqb (getD names p 0) 0 ne) refl
 
-  module _ (label u : ℕ) (ll : label < maxKinds) (lu : u < maxShapes) where
+  module _ (label u : ℕ) (ll : label < maxLabels) (lu : u < maxShapes) where
     key-names : getD names p 0 ≤ maxShapes → entryKey names p ≡ label * maxShapes + u
-        → (p % maxKinds ≡ label) × (getD names p 0 ≡ suc u)
+        → (p % maxLabels ≡ label) × (getD names p 0 ≡ suc u)
     key-names few e = ⊎-elim
         (λ z. absurd (omega (arith, key-none z, e, ll, lu)))
         (λ ne. (omega (arith, key-of ne, e, few, lu), omega (arith, key-of ne, e, few, lu)))
         (eq-or-ne (getD names p 0) 0)
 
-    names-key : p % maxKinds ≡ label → getD names p 0 ≡ suc u → entryKey names p ≡ label * maxShapes + u
+    names-key : p % maxLabels ≡ label → getD names p 0 ≡ suc u → entryKey names p ≡ label * maxShapes + u
     names-key el eu = omega (arith, key-of (λ z. absurd (omega (arith, z, eu))), el, eu)
 
 -- The place i of the table makes good the pair at `base` of the shape whose row it is in.
 abbrev pub RowGood : ℕ → ℕ → ℕ → Type 0
-RowGood base i p = p ≡ base + i / maxKinds
+RowGood base i p = p ≡ base + i / maxLabels
 
 -- The pairs of the first rows are those of the card's shapes.
 pub row-in : (shapes base : ℕ) {key : ℕ → ℕ} {m n lo p : ℕ} → base + shapes ≤ n
-    → Later key m (shapes * maxKinds) (RowGood base) lo p → p < n
-row-in shapes base l g = omega (arith, g .good, card-in maxKinds (omega arith) shapes (g .number) (g .below))
+    → Later key m (shapes * maxLabels) (RowGood base) lo p → p < n
+row-in shapes base l g = omega (arith, g .good, card-in maxLabels (omega arith) shapes (g .number) (g .below))
 
 module _ (names : List ℕ) (shapes label base u : ℕ)
-    (table : Table names shapes) (ll : label < maxKinds) (lu : u < maxShapes) where
+    (table : Table names shapes) (ll : label < maxLabels) (lu : u < maxShapes) where
   abbrev Chain : ℕ → Type 0
-  Chain p = Later (entryKey names) (label * maxShapes + u) (shapes * maxKinds) (RowGood base) 0 p
+  Chain p = Later (entryKey names) (label * maxShapes + u) (shapes * maxLabels) (RowGood base) 0 p
 
   later-named : (p : ℕ) → Chain p → NamedGood names shapes label base u p
   later-named p g =
       let here = key-names names (g .number) label u ll lu (table .entries (g .number) (g .below)) (g .has-key) in
       record {
-        by = g .number / maxKinds;
-        below = card-in maxKinds (omega arith) shapes (g .number) (g .below);
+        by = g .number / maxLabels;
+        below = card-in maxLabels (omega arith) shapes (g .number) (g .below);
         names-it = ap (λ (x : ℕ). getD names x 0)
-            (ap (λ (x : ℕ). g .number / maxKinds * maxKinds + x) (sym (here .0))
-            ∙ place-of maxKinds (omega arith) (g .number))
+            (ap (λ (x : ℕ). g .number / maxLabels * maxLabels + x) (sym (here .0))
+            ∙ place-of maxLabels (omega arith) (g .number))
             ∙ here .1;
         at = g .good;
       }
 
   named-later : (p : ℕ) → NamedGood names shapes label base u p → Chain p
   named-later p g = record {
-    number = g .by * maxKinds + label;
+    number = g .by * maxLabels + label;
     low = omega arith;
     below = omega (arith, g .below, ll);
-    has-key = names-key names (g .by * maxKinds + label) label u ll lu
-        (shape-of maxKinds (omega arith) (g .by) label ll) (g .names-it);
-    good = g .at ∙ ap (λ (x : ℕ). base + x) (sym (card-of maxKinds (omega arith) (g .by) label ll));
+    has-key = names-key names (g .by * maxLabels + label) label u ll lu
+        (shape-of maxLabels (omega arith) (g .by) label ll) (g .names-it);
+    good = g .at ∙ ap (λ (x : ℕ). base + x) (sym (card-of maxLabels (omega arith) (g .by) label ll));
   }
 
   pub named-exact : {w v : Work} → Swept Chain w v → Swept (NamedGood names shapes label base u) w v

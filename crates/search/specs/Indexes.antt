@@ -15,7 +15,7 @@ use mathlib.Core.List.{List}
 use mathlib.Core.Bool.{cond}
 use lib.ListN.{length, getD}
 use lib.Dec.{eqb}
-use Rattle.words.specs.Limits.{maxKinds, maxShapes, maxLinks}
+use Rattle.words.specs.Limits.{maxLabels, maxShapes, maxLinks}
 use Rattle.words.specs.Sizes.{tableSize}
 use Rattle.script.specs.Link.{near, far}
 use Rattle.script.specs.Steps.{Ascending}
@@ -24,7 +24,7 @@ use Rattle.search.specs.Chain.{Chained}
 
 -- Shapes × label + shape for a place of the table that names a shape; the last key for one that does not.
 unfoldable pub entryKey : List ℕ → ℕ → ℕ
-entryKey names p = cond (eqb (getD names p 0) 0) tableSize (p % maxKinds * maxShapes + (getD names p 0 - 1))
+entryKey names p = cond (eqb (getD names p 0) 0) tableSize (p % maxLabels * maxShapes + (getD names p 0 - 1))
 
 -- A key for each label and shape, and the last one.
 abbrev pub nameKeys : ℕ
@@ -33,8 +33,8 @@ nameKeys = tableSize + 1
 -- A table of names with a row of labels for each shape. An entry is a shape plus one, or 0.
 pub record Table (names : List ℕ) (shapes : ℕ) : Type 0 where
   pub few-shapes : shapes ≤ maxShapes
-  pub rows : shapes * maxKinds ≤ length names
-  pub entries : (p : ℕ) → p < shapes * maxKinds → getD names p 0 ≤ maxShapes
+  pub rows : shapes * maxLabels ≤ length names
+  pub entries : (p : ℕ) → p < shapes * maxLabels → getD names p 0 ≤ maxShapes
 
 -- What a chain of so many numbers is built in: heads that are all 0, and room for the numbers.
 pub record Blank (first next : List ℕ) (numbers : ℕ) : Type 0 where
@@ -50,7 +50,7 @@ pub record EntryAsked (names : List ℕ) (p : ℕ) : Type 0 where
 pub record NamesAsked (names : List ℕ) (shapes : ℕ) (first next : List ℕ) : Type 0 where
   pub table : Table names shapes
   pub keys : length first ≡ nameKeys
-  pub blank : Blank first next (shapes * maxKinds)
+  pub blank : Blank first next (shapes * maxLabels)
 
 -- What chaining the links asks.
 pub record LinksAsked (script : List ℕ) (links : ℕ) (first next : List ℕ) : Type 0 where
@@ -67,8 +67,8 @@ pub record StartsAsked (script : List ℕ) (links cards : ℕ) (starts : List �
 -- The table's places are chained by their keys.
 pub record NameIndex (names : List ℕ) (shapes : ℕ) (first next : List ℕ) : Type 0 where
   pub keys : length first ≡ nameKeys
-  pub places : shapes * maxKinds ≤ length next
-  pub chained : Chained (entryKey names) first next (shapes * maxKinds)
+  pub places : shapes * maxLabels ≤ length next
+  pub chained : Chained (entryKey names) first next (shapes * maxLabels)
 
 -- The links are chained by their targets.
 pub record LinkIndex (script first next : List ℕ) : Type 0 where

@@ -10,7 +10,7 @@ use mathlib.Core.Path.{_≡_}
 use mathlib.Core.List.{List}
 use mathlib.Core.Bool.{Bool}
 use lib.ListN.{length, getD}
-use Rattle.words.specs.Limits.{maxKinds, maxShapes}
+use Rattle.words.specs.Limits.{maxLabels, maxShapes}
 use Rattle.words.specs.Sizes.{maxGrid}
 use Rattle.script.specs.Link.{near, label, far}
 use Rattle.board.specs.Grid.{on}
@@ -38,7 +38,7 @@ pub record TargetGood (script names : List ℕ) (shapes m u p : ℕ) : Type 0 wh
 pub record NamedAsked (names : List ℕ) (shapes : ℕ) (named alike : List ℕ) (k base u : ℕ) (w : Work) : Type 0 where
   pub table : Table names shapes
   pub places : NameIndex names shapes named alike
-  pub label-in : k < maxKinds
+  pub label-in : k < maxLabels
   pub shape-in : u < maxShapes
   pub few-places : length (w .grid) ≤ maxGrid
   -- the card's pairs are on the board

@@ -2,7 +2,7 @@
 ghost use Rattle.board.specs.Work.{work, Swept};
 ghost use Rattle.search.specs.Follows.{CardGood, CardAsked, FloodAsked, Followed};
 use board::strike_one;
-use words::MAX_KINDS;
+use words::MAX_LABELS;
 use words::byte;
 use words::wide;
 
@@ -27,7 +27,7 @@ fn strike_needs(
     while i < hi {
         let kind = wide(script[3 + 3 * i]);
         let m = wide(script[4 + 3 * i]);
-        let entry = byte(names[t * MAX_KINDS + kind]);
+        let entry = byte(names[t * MAX_LABELS + kind]);
         if 0 < entry {
             end = strike_one(grid, queue, end, m * shapes + (entry - 1));
         }

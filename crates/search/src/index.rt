@@ -9,7 +9,7 @@ ghost use Rattle.search.specs.Chain.{Chained};
 ghost use Rattle.search.specs.Indexes.{entryKey, nameKeys, NameIndex, EntryAsked, NamesAsked};
 ghost use Rattle.search.specs.Indexes.{LinksAsked, StartsAsked};
 use script::count_below;
-use words::MAX_KINDS;
+use words::MAX_LABELS;
 use words::MAX_SHAPES;
 use words::TABLE_SIZE;
 use words::byte;
@@ -24,7 +24,7 @@ fn entry_key(names: &[u8], p: usize) -> usize
     if entry == 0 {
         return TABLE_SIZE;
     }
-    p % MAX_KINDS * MAX_SHAPES + (entry - 1)
+    p % MAX_LABELS * MAX_SHAPES + (entry - 1)
 }
 
 // Chains the table's places by label and shape named.
@@ -33,7 +33,7 @@ pub fn index_names(names: &[u8], shapes: usize, first: &mut [u16], next: &mut [u
     ensures { λ _. ⌜ NameIndex (now (names .entry)) shapes (now (first .exit)) (now (next .exit)) ⌝ }
 {
     let mut p = 0;
-    while p < shapes * MAX_KINDS {
+    while p < shapes * MAX_LABELS {
         let key = entry_key(names, p);
         next[p] = first[key];
         first[key] = (p + 1) as u16;

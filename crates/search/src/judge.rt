@@ -7,7 +7,7 @@ ghost use Rattle.words.specs.First.{First};
 ghost use Rattle.board.specs.Grid.{on};
 ghost use Rattle.typing.specs.Needs.{metTest};
 ghost use Rattle.search.specs.Judging.{NeedsHad, NeedsAsked, GridAsked, PairAsked, Failing, HeldAsked, Missing};
-use words::MAX_KINDS;
+use words::MAX_LABELS;
 use words::byte;
 use words::wide;
 
@@ -29,7 +29,7 @@ fn needs_had(
     while i < hi {
         let kind = wide(script[3 + 3 * i]);
         let m = wide(script[4 + 3 * i]);
-        let entry = byte(names[t * MAX_KINDS + kind]);
+        let entry = byte(names[t * MAX_LABELS + kind]);
         if 0 < entry && grid[m * shapes + (entry - 1)] != 1 {
             return false;
         }

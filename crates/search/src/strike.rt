@@ -12,7 +12,7 @@ use crate::index::index_names;
 use board::list_off;
 use board::strike_one;
 use words::MAX_CARDS;
-use words::MAX_KINDS;
+use words::MAX_LABELS;
 use words::MAX_LINKS;
 use words::MAX_SHAPES;
 use words::TABLE_SIZE;
@@ -40,7 +40,7 @@ fn strike_named(
     let mut at = wide(named[label * MAX_SHAPES + u]);
     while 0 < at {
         let p = at - 1;
-        end = strike_one(grid, queue, end, base + p / MAX_KINDS);
+        end = strike_one(grid, queue, end, base + p / MAX_LABELS);
         at = wide(alike[p]);
     }
     end

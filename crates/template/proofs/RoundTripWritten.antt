@@ -11,7 +11,7 @@ use mathlib.Core.List.{List, [], _∷_, _++_}
 use native.Mathlib.Omega.{arith}
 use borrow.Author.Tests.{le-ltb, le-leb, lt-leb, eq-eqb, ne-eqb}
 use lib.ListN.{length, getD, set, length-append}
-use Rattle.words.specs.Limits.{maxKinds, maxDepth, minGroup, maxGroup, noLimit}
+use Rattle.words.specs.Limits.{maxKinds, maxLabels, maxDepth, minGroup, maxGroup, noLimit}
 use Rattle.words.specs.Reading.{Reading, accepted}
 use Rattle.bags.specs.Part.{Limit, at-most, no-limit, Part, Parts, Names, RunNames, Single, RunSingle, depth}
 use Rattle.bags.specs.Part.{runDepth, ShapesBelow, RunShapesBelow, LabelsBelow, RunLabelsBelow, limitOf}
@@ -237,7 +237,7 @@ module _ (kinds shapes : ℕ) (few : kinds ≤ maxKinds) (words : List ℕ) wher
         targets = f .targets;
         deep = f .deep;
         limits = f .limits;
-        fresh = λ k named. no-entry maxKinds k;
+        fresh = λ k named. no-entry maxLabels k;
       })
       (stands-after words at n (writePart p) s) (omega arith) in
       let over : at + 1 + n ≤ at + 1 + n = omega arith in

@@ -22,7 +22,7 @@ use Rattle.template.specs.declared.Read.the-variants.{Next, Refused}
 use Rattle.template.specs.declared.Sizes.{Sizes}
 use Rattle.template.specs.Template.{Placed, placed, noNames, readShape, readShapes}
 use Rattle.template.specs.Machine.{Tabled, readOf, RowNames}
-use Rattle.words.specs.Limits.{maxKinds, maxShapes}
+use Rattle.words.specs.Limits.{maxLabels, maxShapes}
 use Rattle.words.specs.Sizes.{tableSize}
 use Rattle.words.specs.Reading.{accepted}
 use Rattle.words.proofs.Bools.{bool-case}
@@ -33,10 +33,10 @@ use Rattle.template.proofs.ShapeLaws.{FirstRead, shapes-first, shapes-l
 
 -- Where the row of the shape t starts and ends in the table, and its length as the code has it.
 abbrev rowStart : ℕ → ℕ
-rowStart t = t * maxKinds
+rowStart t = t * maxLabels
 
 abbrev rowEnd : ℕ → ℕ
-rowEnd t = t * maxKinds + maxKinds
+rowEnd t = t * maxLabels + maxLabels
 
 abbrev rowSpan : ℕ → ℕ
 rowSpan t = rowEnd t - rowStart t
@@ -46,7 +46,7 @@ pub record Filling (sizes : Sizes) (words names : List ℕ) (at t : ℕ) : Type 
   pub size : length names ≡ tableSize
   pub within : t ≤ sizes .shapes
   -- the rows from t on are all 0
-  pub rest : (j : ℕ) → t * maxKinds ≤ j → getD names j 0 ≡ 0
+  pub rest : (j : ℕ) → t * maxLabels ≤ j → getD names j 0 ≡ 0
   -- the answer for the shapes that are left is the answer for all
   pub answer :
       readOf (readShapes sizes words (sizes .shapes - t) at)
@@ -58,7 +58,7 @@ pub record Filling (sizes : Sizes) (words names : List ℕ) (at t : ℕ) : Type 
   -- and the rows before t have the names of their parts
   pub filled :
       (all : Placed (List Part)) → readShapes sizes words (sizes .shapes) 2 ≡ accepted all →
-      (s k : ℕ) → s < t → k < maxKinds → getD names (s * maxKinds + k) 0 ≡ named (getD (all .value) s Part.nothing) k
+      (s k : ℕ) → s < t → k < maxLabels → getD names (s * maxLabels + k) 0 ≡ named (getD (all .value) s Part.nothing) k
 
 -- What is left of a list starts with its next element.
 drop-first :
@@ -85,7 +85,7 @@ module _ (sizes : Sizes) (words : List ℕ) where
   module _
       (names : List ℕ) (at t : ℕ) (f : Filling sizes words names at t) (h : t < sizes .shapes)
       (i : sizes .shapes ≤ maxShapes) where
-    row-bounds : (rowEnd t ≤ length names) × (rowSpan t ≡ maxKinds)
+    row-bounds : (rowEnd t ≤ length names) × (rowSpan t ≡ maxLabels)
     row-bounds = omega (arith, f .size)
 
     pub filling-row : take (rowSpan t) (drop (rowStart t) names) ≡ noNames
@@ -95,7 +95,7 @@ module _ (sizes : Sizes) (words : List ℕ) where
         ext-getD 0 _ noNames (l ∙ row-bounds .1)
         (λ j b.
         getD-take (rowSpan t) (drop (rowStart t) names) j 0 (omega (arith, l)) ∙ getD-drop (rowStart t) names j 0
-        ∙ f .rest (t * maxKinds + j) (omega arith) ∙ sym (no-entry maxKinds j))
+        ∙ f .rest (t * maxLabels + j) (omega arith) ∙ sym (no-entry maxLabels j))
 
     one-less : sizes .shapes - t ≡ suc (sizes .shapes - (t + 1))
     one-less = omega arith
@@ -151,13 +151,13 @@ module _ (sizes : Sizes) (words : List ℕ) where
 
       next-filled :
           (all : Placed (List Part)) → readShapes sizes words (sizes .shapes) 2 ≡ accepted all →
-          (s k : ℕ) → s < t + 1 → k < maxKinds →
-          getD (putMid (rowStart t) (rowSpan t) names row) (s * maxKinds + k) 0
+          (s k : ℕ) → s < t + 1 → k < maxLabels →
+          getD (putMid (rowStart t) (rowSpan t) names row) (s * maxLabels + k) 0
           ≡ named (getD (all .value) s Part.nothing) k
       next-filled all q s k j l =
           bool-case (ltb s t)
           (λ o.
-          put-before (rowStart t) (rowSpan t) names row (s * maxKinds + k) (omega (arith, row-bounds))
+          put-before (rowStart t) (rowSpan t) names row (s * maxLabels + k) (omega (arith, row-bounds))
           (omega (arith, ltb-true s t o)) ∙ f .filled all q s k (ltb-true s t o) l)
           (λ o.
           let w = next-first all q in

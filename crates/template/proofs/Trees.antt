@@ -23,7 +23,7 @@ use Rattle.template.specs.declared.Sizes.{Sizes}
 use Rattle.template.specs.Reading.{Code, single, wrapped, gathered, codeOf, Found, found, into, after, limitsOk}
 use Rattle.template.specs.Reading.{readLink, readRun, readGroup, readCode, readPart}
 use Rattle.template.specs.Template.{noNames}
-use Rattle.words.specs.Limits.{maxKinds, maxCount, noLimit, minGroup, maxGroup}
+use Rattle.words.specs.Limits.{maxKinds, maxLabels, maxCount, noLimit, minGroup, maxGroup}
 use Rattle.words.specs.Reading.{Reading, accepted, turnedDown, then, mapped}
 use Rattle.words.proofs.Bools.{cond-case, bool-case, never-both}
 use Rattle.words.proofs.Readings.{refuse-case}
@@ -360,4 +360,4 @@ module _ (sizes : Sizes) where
         readPart left words end sizes at noNames ≡ accepted (found p next after) → (k : ℕ) → getD after k 0 ≡ named p k
     reads-names left at p next after b e k =
         let w = reads-part left at noNames p next after b e in
-        w .entries k ∙ ap (λ (n : ℕ). firstEntry n (named p k)) (no-entry maxKinds k)
+        w .entries k ∙ ap (λ (n : ℕ). firstEntry n (named p k)) (no-entry maxLabels k)

@@ -11,7 +11,7 @@ use Prim.Native.Nat.{ℕ, zero, suc, _+_, _*_, _≤_, _<_}
 use mathlib.Core.Path.{_≡_}
 use mathlib.Core.List.{List}
 use lib.ListN.{length, getD, replicate}
-use Rattle.words.specs.Limits.{maxKinds, maxShapes}
+use Rattle.words.specs.Limits.{maxKinds, maxLabels, maxShapes}
 use Rattle.words.specs.Sizes.{tableSize}
 use Rattle.words.specs.Reading.{Reading, accepted, turnedDown, mapped}
 use Rattle.bags.specs.Part.{Part}
@@ -69,11 +69,11 @@ pub record Empty (sizes : Sizes) (names : List ℕ) : Type 0 where
   pub shapes-high : sizes .shapes ≤ maxShapes
   pub unnamed : names ≡ replicate tableSize 0
 
--- A table has a row of 64 labels for each shape: the shape that the part names for the label plus one, or 0 for none.
+-- A table has a row of labels for each shape: the shape that the part names for the label plus one, or 0 for none.
 abbrev pub Tabled : List Part → List ℕ → Type 0
 Tabled parts names =
-    (t k : ℕ) → t < length parts → k < maxKinds
-    → getD names (t * maxKinds + k) 0 ≡ named (getD parts t Part.nothing) k
+    (t k : ℕ) → t < length parts → k < maxLabels
+    → getD names (t * maxLabels + k) 0 ≡ named (getD parts t Part.nothing) k
 
 -- A table has the names of all shapes that were read.
 abbrev pub Filled : Reading (Placed (List Part)) → List ℕ → Type 0

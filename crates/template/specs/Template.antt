@@ -10,7 +10,7 @@ use mathlib.Core.List.{List, [], _∷_}
 use lib.ListN.{length, getD, replicate}
 use lib.Dec.{ltb, leb}
 use Rattle.words.specs.Said.{Said}
-use Rattle.words.specs.Limits.{maxKinds, maxShapes, maxTemplate, maxDepth}
+use Rattle.words.specs.Limits.{maxKinds, maxLabels, maxShapes, maxTemplate, maxDepth}
 use Rattle.words.specs.Reading.{Reading, accepted, refuse, then, mapped, saidOf}
 use Rattle.bags.specs.Part.{Part}
 use Rattle.template.specs.declared.Sizes.{Sizes}
@@ -30,7 +30,7 @@ onto f t = placed (f (t .value)) (t .next)
 
 -- No label has been named yet.
 abbrev pub noNames : List ℕ
-noNames = replicate maxKinds 0
+noNames = replicate maxLabels 0
 
 -- A shape's words are one part exactly. 12: words are left after it, at the first.
 abbrev pub wholePart : ℕ → Found Part → Reading (Placed Part)

@@ -15,6 +15,7 @@ use words::MAX_COUNT;
 use words::MAX_DEPTH;
 use words::MAX_GROUP;
 use words::MAX_KINDS;
+use words::MAX_LABELS;
 use words::MAX_SHAPES;
 use words::MAX_TEMPLATE;
 use words::MIN_GROUP;
@@ -221,8 +222,8 @@ fn all_shapes(words: &[u16], sizes: Sizes, names: &mut [u8]) -> Read
     let mut at = 2;
     let mut t = 0;
     while t < shapes {
-        let base = t * MAX_KINDS;
-        let end = base + MAX_KINDS;
+        let base = t * MAX_LABELS;
+        let end = base + MAX_LABELS;
         let first = one_shape(words, at, sizes, &mut names[base..end]);
         match first {
             Read::Next(next) => {

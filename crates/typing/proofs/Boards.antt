@@ -18,7 +18,7 @@ use lib.Dec.{eqb}
 use lib.ListN.{getD}
 use borrow.Author.Tests.{eqb-true, eq-eqb}
 use Rattle.script.specs.Link.{near, label, far}
-use Rattle.words.specs.Limits.{maxKinds, maxShapes}
+use Rattle.words.specs.Limits.{maxLabels, maxShapes}
 use Rattle.words.specs.Sizes.{maxGrid}
 use Rattle.board.specs.Grid.{on}
 use Rattle.board.specs.Machine.{all}
@@ -108,12 +108,12 @@ module _ {script names : List ℕ} {shapes : ℕ} (ready : Ready script names sh
   pub pairs-bound : getD script 0 0 * shapes ≤ maxGrid
   pairs-bound = omega (arith, mul-le-mul (ready .few-cards) (ready .few-shapes))
 
-  pub entries-bound : (p : ℕ) → p < shapes * maxKinds → getD names p 0 ≤ maxShapes
+  pub entries-bound : (p : ℕ) → p < shapes * maxLabels → getD names p 0 ≤ maxShapes
   entries-bound p l =
-      let some : 0 < maxKinds = omega arith in
-      let row = card-in maxKinds some shapes p l in
-      let here = ready .entry-in (p / maxKinds) (p % maxKinds) row (shape-in maxKinds some p) in
-      omega (arith, here, ap (λ (x : ℕ). getD names x 0) (place-of maxKinds some p), ready .few-shapes)
+      let some : 0 < maxLabels = omega arith in
+      let row = card-in maxLabels some shapes p l in
+      let here = ready .entry-in (p / maxLabels) (p % maxLabels) row (shape-in maxLabels some p) in
+      omega (arith, here, ap (λ (x : ℕ). getD names x 0) (place-of maxLabels some p), ready .few-shapes)
 
   pub entry-shape : (t i u : ℕ) → t < shapes → i < getD script 1 0 → entryAt names t (label script i) ≡ suc u
       → u < shapes

@@ -12,7 +12,7 @@ use mathlib.Core.List.{List, [], _∷_}
 use native.Mathlib.Omega.{arith}
 use native.Mathlib.Nat.{le-of-suc-le-suc, not-suc-le-zero}
 use lib.ListN.{length, getD}
-use Rattle.words.specs.Limits.{maxKinds}
+use Rattle.words.specs.Limits.{maxLabels}
 use Rattle.bags.specs.Named.{named}
 use Rattle.bags.specs.Bag.{count}
 use Rattle.bags.specs.Interval.{fits}
@@ -63,7 +63,7 @@ on-bit grid p b e = ⊎-elim
 
 -- A sheet's table of names.
 namesOf : Sheet → List ℕ
-namesOf s = listOf (λ p. named (partOf s (p / maxKinds)) (p % maxKinds)) (s .shapes * maxKinds)
+namesOf s = listOf (λ p. named (partOf s (p / maxLabels)) (p % maxLabels)) (s .shapes * maxLabels)
 
 -- The counts of the labels of card n.
 countsOf : Sheet → ℕ → ℕ → List ℕ
@@ -80,16 +80,16 @@ module _ {words : List ℕ} {kinds : ℕ} {s : Sheet} (read : SheetAccepted word
   names-tabled : Tabled (s .parts) (namesOf s)
   unfolding namesOf
   names-tabled t k lt lk =
-      let some : 0 < maxKinds = omega arith in
+      let some : 0 < maxLabels = omega arith in
       let here : t < s .shapes = omega (arith, read .shapes .trees-length) in
-      list-at (λ p. named (partOf s (p / maxKinds)) (p % maxKinds)) (s .shapes * maxKinds) (t * maxKinds + k)
-      (place-in (s .shapes) maxKinds t k here lk)
-      ∙ ap (λ (x : ℕ). named (partOf s x) ((t * maxKinds + k) % maxKinds)) (card-of maxKinds some t k lk)
-      ∙ ap (λ (x : ℕ). named (partOf s t) x) (shape-of maxKinds some t k lk)
+      list-at (λ p. named (partOf s (p / maxLabels)) (p % maxLabels)) (s .shapes * maxLabels) (t * maxLabels + k)
+      (place-in (s .shapes) maxLabels t k here lk)
+      ∙ ap (λ (x : ℕ). named (partOf s x) ((t * maxLabels + k) % maxLabels)) (card-of maxLabels some t k lk)
+      ∙ ap (λ (x : ℕ). named (partOf s t) x) (shape-of maxLabels some t k lk)
 
-  names-room : s .shapes * maxKinds ≤ length (namesOf s)
+  names-room : s .shapes * maxLabels ≤ length (namesOf s)
   unfolding namesOf
-  names-room = omega (arith, list-length (λ p. named (partOf s (p / maxKinds)) (p % maxKinds)) (s .shapes * maxKinds))
+  names-room = omega (arith, list-length (λ p. named (partOf s (p / maxLabels)) (p % maxLabels)) (s .shapes * maxLabels))
 
   counts-right : (n : ℕ) → CountsOf s n (countsOf s kinds n)
   unfolding countsOf

@@ -13,7 +13,7 @@ use mathlib.Core.Bool.{true}
 use mathlib.Core.List.{List, List·Memᴰ}
 use native.Mathlib.Omega.{arith}
 use lib.ListN.{length, getD, List·getD-eq-default}
-use Rattle.words.specs.Limits.{maxKinds}
+use Rattle.words.specs.Limits.{maxLabels}
 use Rattle.bags.specs.Part.{Names, Declares}
 use Rattle.bags.specs.Bag.{Fits, count}
 use Rattle.bags.specs.Interval.{fits}
@@ -95,7 +95,7 @@ module _ {words : List ℕ} {kinds : ℕ} {s : Sheet} (read : SheetAccepted word
           absurd (omega (arith, exact .0 f .1 name h, label-counted (neighboursOf s n t) name card m))
 
   -- ---- the table
-  kind-in : (i : ℕ) → i < s .links → label (s .script) i < maxKinds
+  kind-in : (i : ℕ) → i < s .links → label (s .script) i < maxLabels
   kind-in i l = omega (arith, read .links .kind-below i l, read .shapes .kinds-high)
 
   -- the script's own count of links
@@ -103,14 +103,14 @@ module _ {words : List ℕ} {kinds : ℕ} {s : Sheet} (read : SheetAccepted word
   links-below {i} l = subst (λ (x : ℕ). i < x) (sym (read .links .links)) l
 
   module _ (names : List ℕ) (table : Tabled (s .parts) names) where
-    entry-exact : (t k u : ℕ) → t < s .shapes → k < maxKinds
+    entry-exact : (t k u : ℕ) → t < s .shapes → k < maxLabels
         → (entryAt names t k ≡ suc u) ↔ Declares (partOf s t) k u
     entry-exact t k u lt lk =
         let here = table t k (omega (arith, read .shapes .trees-length)) lk in
         let exact = named-exact (partOf s t) (read .shapes .single t lt) k u in
         (λ e. exact .0 (sym here ∙ e), λ d. here ∙ exact .1 d)
 
-    entry-in : (t k : ℕ) → t < s .shapes → k < maxKinds → entryAt names t k ≤ s .shapes
+    entry-in : (t k : ℕ) → t < s .shapes → k < maxLabels → entryAt names t k ≤ s .shapes
     entry-in t k lt lk = bounded (entryAt names t k) refl
       where
         bounded : (e : ℕ) → entryAt names t k ≡ e → e ≤ s .shapes
@@ -118,7 +118,7 @@ module _ {words : List ℕ} {kinds : ℕ} {s : Sheet} (read : SheetAccepted word
         bounded (suc u) e =
             declares-below (s .shapes) (partOf s t) (read .shapes .shapes-below t lt) k u (entry-exact t k u lt lk .0 e)
 
-    pub ready : s .shapes * maxKinds ≤ length names → Ready (s .script) names (s .shapes)
+    pub ready : s .shapes * maxLabels ≤ length names → Ready (s .script) names (s .shapes)
     ready room = record {
       one-shape = read .shapes .shapes-low;
       few-shapes = read .shapes .shapes-high;
@@ -160,7 +160,7 @@ module _ {words : List ℕ} {kinds : ℕ} {s : Sheet} (read : SheetAccepted word
     }
 
     -- ---- Proposition 8.1 on the board
-    module _ (room : s .shapes * maxKinds ≤ length names) (grid : List ℕ) (right : FitsGrid s grid) where
+    module _ (room : s .shapes * maxLabels ≤ length names) (grid : List ℕ) (right : FitsGrid s grid) where
       abbrev law : Lawful (boardOf (s .script) names (s .shapes) grid)
       law = board-lawful (ready room) grid
 

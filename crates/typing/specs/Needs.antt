@@ -13,7 +13,7 @@ use mathlib.Core.List.{List}
 use mathlib.Core.Bool.{Bool, true, _&&_, cond}
 use lib.ListN.{length, getD}
 use lib.Dec.{eqb}
-use Rattle.words.specs.Limits.{maxKinds, maxShapes, maxCards, maxLinks}
+use Rattle.words.specs.Limits.{maxLabels, maxShapes, maxCards, maxLinks}
 use Rattle.board.specs.Grid.{on}
 use Rattle.board.specs.Machine.{all}
 use Rattle.board.specs.Board.{Board}
@@ -21,7 +21,7 @@ use Rattle.script.specs.Link.{near, label, far}
 
 -- The entry of the shape t for the label k.
 abbrev pub entryAt : List ℕ → ℕ → ℕ → ℕ
-entryAt names t k = getD names (t * maxKinds + k) 0
+entryAt names t k = getD names (t * maxLabels + k) 0
 
 -- A link of p's card leads to q's card, and p's shape names q's shape for the link's label.
 pub record Needs (script names : List ℕ) (shapes p q : ℕ) : Type 0 where
@@ -65,7 +65,7 @@ pub record Ready (script names : List ℕ) (shapes : ℕ) : Type 0 where
   pub few-links : getD script 1 0 ≤ maxLinks
   pub words : 2 + 3 * getD script 1 0 ≤ length script
   pub near-in : (i : ℕ) → i < getD script 1 0 → near script i < getD script 0 0
-  pub label-in : (i : ℕ) → i < getD script 1 0 → label script i < maxKinds
+  pub label-in : (i : ℕ) → i < getD script 1 0 → label script i < maxLabels
   pub far-in : (i : ℕ) → i < getD script 1 0 → far script i < getD script 0 0
-  pub table : shapes * maxKinds ≤ length names
-  pub entry-in : (t k : ℕ) → t < shapes → k < maxKinds → entryAt names t k ≤ shapes
+  pub table : shapes * maxLabels ≤ length names
+  pub entry-in : (t k : ℕ) → t < shapes → k < maxLabels → entryAt names t k ≤ shapes

@@ -6,6 +6,10 @@ use Prim.Native.Nat.{ℕ}
 abbrev pub maxKinds : ℕ
 maxKinds = 64
 
+-- Labels of a template: those of its kinds.
+abbrev pub maxLabels : ℕ
+maxLabels = maxKinds
+
 -- Shapes of a template.
 abbrev pub maxShapes : ℕ
 maxShapes = 32

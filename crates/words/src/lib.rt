@@ -4,6 +4,8 @@ ghost use Rattle.words.specs.Bounded.{Bounded};
 // The limits, as specs/Limits and specs/Sizes have them.
 pub const MAX_KINDS: usize = 64;
 
+pub const MAX_LABELS: usize = MAX_KINDS;
+
 pub const MAX_SHAPES: usize = 32;
 
 pub const MAX_TEMPLATE: usize = 4096;
@@ -26,7 +28,7 @@ pub const MAX_BOOKINGS: usize = 1024;
 
 pub const MAX_INPUT: usize = 65536;
 
-pub const TABLE_SIZE: usize = MAX_SHAPES * MAX_KINDS;
+pub const TABLE_SIZE: usize = MAX_SHAPES * MAX_LABELS;
 
 pub const MAX_GRID: usize = MAX_CARDS * MAX_SHAPES;
 

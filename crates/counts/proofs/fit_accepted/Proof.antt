@@ -2,7 +2,7 @@
 use native.Mathlib.Omega.{arith}
 use Prim.Native.Nat.{_+_, _-_, _*_}
 use mathlib.Core.Path.{_≡_}
-use Rattle.words.specs.Limits.{maxKinds}
+use Rattle.words.specs.Limits.{maxLabels}
 use Rattle.template.proofs.Accepted.{template-accepted}
 use Rattle.template.proofs.Answers.{template-read}
 use Rattle.counts.proofs.Fitting.{fits-asks, fit-shape, fit-length, fit-over, fit-yes, fit-no}
@@ -63,9 +63,9 @@ fits-requires : tie.Need-fits-requires
 fits-requires c κs =
     let start = c .before .before .before .before .before .before .before .before .before .before .before in
     let (t, e, kinds, shapes) = template-read _ _ _ (start .pre .said) in
-    let row = c .before .before .wide2 .result * maxKinds in
-    let base : row ≡ start .args .shape .0 * maxKinds = omega arith in
-    let size : row + maxKinds - row ≡ maxKinds = omega arith in
+    let row = c .before .before .wide2 .result * maxLabels in
+    let base : row ≡ start .args .shape .0 * maxLabels = omega arith in
+    let size : row + maxLabels - row ≡ maxLabels = omega arith in
     fits-asks _ t e _ (omega arith) (start .args .counts .now) (start .args .names .now) _ _ _ (start .pre .table t e)
     (start .pre .size) (omega arith) (c .before .shape-place .ensures) base size
 

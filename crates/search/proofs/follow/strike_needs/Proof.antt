@@ -7,7 +7,7 @@ use native.Mathlib.Omega.{arith}
 use lib.ListN.{length, getD}
 use denote.Ref.{now}
 use borrow.Author.Needs.{needs}
-use Rattle.words.specs.Limits.{maxKinds}
+use Rattle.words.specs.Limits.{maxLabels}
 use Rattle.script.specs.Link.{label, far}
 use Rattle.board.specs.Work.{Work, work, strikeOne, Swept}
 use Rattle.board.proofs.Worklist.{swept-grid, swept-queue, swept-room}
@@ -65,7 +65,7 @@ kind-is a =
     let l = Loop a in
     a .wide .ensures .same ∙ label-word (now (Start l .args .script)) (l .loop .i)
 
-kind-in : (a : tie.After-wide Inv-loop μ-loop) → a .wide .result < maxKinds
+kind-in : (a : tie.After-wide Inv-loop μ-loop) → a .wide .result < maxLabels
 kind-in a =
     let i = a .before .before in
     omega (arith, kind-is a, Start (i .before) .pre .ready .label-in (i .before .loop .i) (link-in i))
@@ -84,7 +84,7 @@ entry-is : (a : tie.After-byte Inv-loop μ-loop) → let l = Turn a .before in
 entry-is a =
     let s = Start (Turn a .before) in
     a .byte .ensures .same
-    ∙ ap (λ (x : ℕ). getD (now (s .args .names)) (s .args .t * maxKinds + x) 0) (kind-is (Kind (Target a)))
+    ∙ ap (λ (x : ℕ). getD (now (s .args .names)) (s .args .t * maxLabels + x) 0) (kind-is (Kind (Target a)))
 
 entry-suc : (a : tie.After-byte Inv-loop μ-loop) → 0 < a .byte .result → let l = Turn a .before in
     let s = Start l in

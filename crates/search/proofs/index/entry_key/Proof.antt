@@ -4,7 +4,7 @@ use Prim.Native.Nat.{ℕ, _+_, _-_, _*_, _%_}
 use native.Mathlib.Omega.{arith}
 use denote.Ref.{now}
 use borrow.Author.Needs.{needs}
-use Rattle.words.specs.Limits.{maxKinds, maxShapes}
+use Rattle.words.specs.Limits.{maxLabels, maxShapes}
 use Rattle.search.proofs.Names.{key-none, key-of}
 use Rattle.search.proofs.index.entry_key.Statement.{statement}
 use Rattle.search.proofs.index.entry_key.Tie as tie
@@ -44,7 +44,7 @@ returns-2 c =
     let p = start .args .p in
     let is = c .before .byte .ensures .same in
     record {
-      same = ap (λ (x : ℕ). p % maxKinds * maxShapes + (x - 1)) is ∙ sym (key-of names p (λ e. c .if1 .left (is ∙ e)));
+      same = ap (λ (x : ℕ). p % maxLabels * maxShapes + (x - 1)) is ∙ sym (key-of names p (λ e. c .if1 .left (is ∙ e)));
       small = omega (arith, is, start .pre .entry, c .if1 .left);
     }
 

@@ -5,7 +5,7 @@ use native.Mathlib.Omega.{arith}
 use lib.ListN.{length-set, length, getD}
 use denote.Ref.{now}
 use borrow.Author.Needs.{needs}
-use Rattle.words.specs.Limits.{maxKinds}
+use Rattle.words.specs.Limits.{maxLabels}
 use Rattle.search.specs.Chain.{Chained}
 use Rattle.search.specs.Indexes.{entryKey}
 use Rattle.search.proofs.Chains.{chained-none, chained-more}
@@ -14,11 +14,11 @@ use Rattle.search.proofs.index.index_names.Tie as tie
 
 abbrev Inv-loop : tie.InvT-loop
 Inv-loop names shapes first₀ next₀ p₀ first next p =
-    (p ≤ shapes * maxKinds) × (length first ≡ length first₀) × (length next ≡ length next₀)
+    (p ≤ shapes * maxLabels) × (length first ≡ length first₀) × (length next ≡ length next₀)
     × Chained (entryKey names) first next p
 
 abbrev μ-loop : tie.MeasureT-loop
-μ-loop names shapes first₀ next₀ p₀ first next p = shapes * maxKinds - p
+μ-loop names shapes first₀ next₀ p₀ first next p = shapes * maxLabels - p
 
 -- the function's entry
 abbrev Start : tie.At-loop Inv-loop μ-loop → tie.Start Inv-loop μ-loop
@@ -103,7 +103,7 @@ returns c =
     let at-loop = c .before in
     let start = Start at-loop in
     let key = entryKey (now (start .args .names)) in
-    let e : at-loop .loop .p ≡ start .args .shapes * maxKinds = omega arith in
+    let e : at-loop .loop .p ≡ start .args .shapes * maxLabels = omega arith in
     record {
       keys = at-loop .loop .inv .1 ∙ start .pre .keys;
       places = omega (arith, at-loop .loop .inv .2, start .pre .blank .room);

@@ -8,7 +8,7 @@ use lib.ListN.{length, getD}
 use denote.Ref.{now}
 use borrow.Author.Needs.{needs}
 use borrow.Author.Tests.{not-true, not-false}
-use Rattle.words.specs.Limits.{maxKinds}
+use Rattle.words.specs.Limits.{maxLabels}
 use Rattle.script.specs.Link.{label, far}
 use Rattle.board.specs.Grid.{on}
 use Rattle.typing.specs.Needs.{entryAt}
@@ -71,7 +71,7 @@ entry-is : (a : tie.After-byte Inv-loop μ-loop) → let l = Turn a .before in
 entry-is a =
     let s = Start (Turn a .before) in
     a .byte .ensures .same
-    ∙ ap (λ (x : ℕ). getD (now (s .args .names)) (s .args .t * maxKinds + x) 0) (kind-is (Kind (Target a)))
+    ∙ ap (λ (x : ℕ). getD (now (s .args .names)) (s .args .t * maxLabels + x) 0) (kind-is (Kind (Target a)))
 
 -- the place that is read
 abbrev Place : tie.After-byte Inv-loop μ-loop → ℕ

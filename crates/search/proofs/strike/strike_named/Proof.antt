@@ -5,7 +5,7 @@ use native.Mathlib.Omega.{arith}
 use lib.ListN.{length}
 use denote.Ref.{now}
 use borrow.Author.Needs.{needs}
-use Rattle.words.specs.Limits.{maxKinds, maxShapes}
+use Rattle.words.specs.Limits.{maxLabels, maxShapes}
 use Rattle.search.specs.Chain.{lastAt}
 use Rattle.board.specs.Work.{Work, work, Swept}
 use Rattle.board.proofs.Worklist.{swept-grid, swept-queue, swept-room}
@@ -18,7 +18,7 @@ use Rattle.search.proofs.strike.strike_named.Tie as tie
 
 abbrev Inv-loop : tie.InvT-loop
 Inv-loop names shapes named alike label base u grid₀ queue₀ tail end₀ at₀ grid queue end at =
-    Walking (entryKey names) (label * maxShapes + u) (shapes * maxKinds) (RowGood base)
+    Walking (entryKey names) (label * maxShapes + u) (shapes * maxLabels) (RowGood base)
     (work grid₀ queue₀ tail) (work grid queue end) at
 
 abbrev μ-loop : tie.MeasureT-loop
@@ -40,13 +40,13 @@ Turn c = Struck c .before .before .before
 
 -- the pair that a turn strikes is on the board
 pair-in : (c : tie.In-loop Inv-loop μ-loop) → let s = Start (c .before) in
-    s .args .base + (c .before .loop .at - 1) / maxKinds < length (now (s .args .grid))
+    s .args .base + (c .before .loop .at - 1) / maxLabels < length (now (s .args .grid))
 pair-in c =
     let s = Start (c .before) in
     omega (
       arith,
       s .pre .pairs,
-      card-in maxKinds (omega arith) (s .args .shapes) (c .before .loop .at - 1)
+      card-in maxLabels (omega arith) (s .args .shapes) (c .before .loop .at - 1)
           (walk-in (c .before .loop .inv) (c .loop-test .taken)),
     )
 
@@ -123,7 +123,7 @@ loop-again c =
     let l = i .before in
     let s = Start l in
     let w = work (l .loop .grid) (l .loop .queue) (l .loop .end) in
-    let p = s .args .base + (l .loop .at - 1) / maxKinds in
+    let p = s .args .base + (l .loop .at - 1) / maxLabels in
     walk-next (l .loop .inv) (i .loop-test .taken) (next-is c)
     (subst (λ (v : Work). Swept (RowGood (s .args .base) (l .loop .at - 1)) w v) (sym (struck .ensures))
     (swept-strike w p (omega (arith, pair-in i, swept-grid (l .loop .inv .swept)))))
