@@ -43,8 +43,8 @@
 #include <stdint.h>
 
 /* The version of this header; prep_version gives the library's. */
-#define PREP_VERSION_MAJOR 1
-#define PREP_VERSION_MINOR 1
+#define PREP_VERSION_MAJOR 2
+#define PREP_VERSION_MINOR 0
 #define PREP_VERSION_PATCH 0
 #define PREP_VERSION (PREP_VERSION_MAJOR * 10000 + PREP_VERSION_MINOR * 100 + PREP_VERSION_PATCH)
 
@@ -58,13 +58,14 @@ enum {
     PREP_MAX_SCRIPT_WORDS = 2 + 3 * 8192,
     PREP_MAX_BOOKINGS = 1024,
     PREP_MAX_BOOKING_WORDS = 1 + 2 * 1024,
-    PREP_MAX_COUNT = 8192,
+    PREP_MAX_COUNTS = 2 * 64, /* how many counts */
+    PREP_MAX_COUNT = 8192,    /* how large each is */
     PREP_MAX_GRID_BYTES = 1024 * 32
 };
 
 /*
  * A stack that is enough for any call, for callers with small stacks. This figure is measured, not
- * proved: on inputs at the limits no call took more than some 135,000 bytes, and the rest is room to
+ * proved: on inputs at the limits no call took more than some 156,000 bytes, and the rest is room to
  * spare. The example stack.c measures it again.
  */
 enum { PREP_STACK_BYTES = 160 * 1024 };
@@ -168,22 +169,25 @@ extern "C" {
 struct prep_template_answer prep_read_template(const uint16_t *template_words, size_t template_length);
 
 /*
- * Whether counts of links, one for each kind, are those of a bag of the shape. Refusals: the
- * template's, then 42 and 41 at place 0, and 43 at the first count over 8,192.
+ * Whether counts of links fit a shape. There are 2 x kinds counts: for each kind the links that
+ * start at a card, then for each kind those that arrive there. A kind that the shape does not name
+ * as outgoing has to count 0 in the first half; one that it does not name as incoming is ignored in
+ * the second half, whatever it counts. Refusals: the template's, then 42 and 41 at place 0, and 43
+ * at the first count over 8,192, in either half.
  */
 struct prep_fit_answer prep_fit_counts(const uint16_t *template_words, size_t template_length, uint16_t shape_number,
-                                       const uint16_t *kind_counts, size_t counts_length);
+                                       const uint16_t *label_counts, size_t counts_length);
 
 /* Reads a script with its template. Refusals: the template's, then 20 to 25. */
 struct prep_script_answer prep_read_script(const uint16_t *template_words, size_t template_length,
                                            const uint16_t *script_words, size_t script_length);
 
 /*
- * The links that start at a card, three words each (from, kind, to), in the script's order. Writes
- * as many words as `link_words` has room for, leaves the rest of it as it was, and returns how many
- * words there are, which may be more. A length of 0 only asks how many. Returns 0 if the template
- * or the script is refused, or if there is no such card or it has no links; prep_read_script tells
- * which.
+ * The links that start at a card, three words each (from, kind, to), in the script's order; those
+ * that arrive at it are not among them. Writes as many words as `link_words` has room for, leaves
+ * the rest of it as it was, and returns how many words there are, which may be more. A length of 0
+ * only asks how many. Returns 0 if the template or the script is refused, or if there is no such
+ * card or no link starts at it; prep_read_script tells which.
  */
 size_t prep_links_of_card(const uint16_t *template_words, size_t template_length, const uint16_t *script_words,
                           size_t script_length, uint16_t card_number, uint16_t *link_words, size_t links_length);

@@ -1,7 +1,7 @@
 /*
- * Checks of the library as a C caller sees it: an answer and a refusal of each function, arrays that
- * a refusal leaves alone, empty arrays given as NULL, refusals in words, and the layout of answers.
- * Builds as C and as C++.
+ * Checks of the library as a C caller sees it: an answer and a refusal of each function, links that
+ * arrive, arrays that a refusal leaves alone, empty arrays given as NULL, refusals in words, and the
+ * layout of answers. Builds as C and as C++.
  */
 #include "prep.h"
 
@@ -19,6 +19,7 @@ static const uint16_t sheet_bookings[] = {1, 2, 1};
 static const uint16_t unmet_bookings[] = {1, 0, 0};
 static const uint8_t sheet_grid[] = {0, 0, 0, 0, 0, 1};
 static const uint16_t small_template[] = {1, 1, 1, 0};
+static const uint16_t guests_template[] = {1, 2, 4, 256, 1, 1, 65535, 4, 320, 0, 1, 65535};
 static const uint16_t two_cards[] = {2, 0};
 static const uint16_t no_cards[] = {0, 0};
 static const uint16_t no_bookings[] = {0};
@@ -68,23 +69,96 @@ static void check_readings(void)
     CHECK(s.number == PREP_TEMPLATE_SIZE && s.place == 0);
 }
 
+/* Codes of links that start at a card and of links that arrive there, and what is refused behind them. */
+static void check_codes(void)
+{
+    uint16_t link[] = {1, 1, 4, 320, 0, 0, 1};
+    uint16_t two_links[] = {1, 1, 10, 17, 2, 256, 0, 0, 1, 320, 0, 0, 1};
+    struct prep_template_answer t = prep_read_template(LENT(guests_template));
+    CHECK(t.number == 0 && t.kinds == 1 && t.shapes == 2 && t.place == 0);
+    t = prep_read_template(LENT(link));
+    CHECK(t.number == 0 && t.kinds == 1 && t.shapes == 1);
+    link[3] = 321;
+    t = prep_read_template(LENT(link));
+    CHECK(t.number == PREP_TEMPLATE_NO_KIND && t.place == 3);
+    link[3] = 383;
+    t = prep_read_template(LENT(link));
+    CHECK(t.number == PREP_TEMPLATE_NO_KIND && t.place == 3);
+    link[0] = PREP_MAX_KINDS;
+    t = prep_read_template(LENT(link));
+    CHECK(t.number == 0 && t.kinds == PREP_MAX_KINDS && t.shapes == 1);
+    link[3] = 384;
+    t = prep_read_template(LENT(link));
+    CHECK(t.number == PREP_TEMPLATE_CODE && t.place == 3);
+    t = prep_read_template(LENT(two_links));
+    CHECK(t.number == 0 && t.kinds == 1 && t.shapes == 1);
+    two_links[5] = 320;
+    t = prep_read_template(LENT(two_links));
+    CHECK(t.number == PREP_TEMPLATE_KIND_TWICE && t.place == 9);
+    two_links[5] = two_links[9] = 256;
+    t = prep_read_template(LENT(two_links));
+    CHECK(t.number == PREP_TEMPLATE_KIND_TWICE && t.place == 9);
+}
+
+/* Every number of an answer to prep_fit_counts. */
+static int fitted(struct prep_fit_answer f, uint16_t number, uint16_t fits, size_t place)
+{
+    return f.number == number && f.fits == fits && f.place == place;
+}
+
 static void check_counts(void)
 {
-    static const uint16_t fitting[] = {1, 1};
-    static const uint16_t unfitting[] = {2, 1};
+    static const uint16_t fitting[] = {1, 1, 0, 0};
+    static const uint16_t unfitting[] = {2, 1, 0, 0};
+    static const uint16_t arriving[] = {1, 1, 8192, 8192};
+    static const uint16_t over[] = {1, 8193, 0, 8193};
+    static const uint16_t over_arriving[] = {1, 1, 0, 8193};
+    static const uint16_t five[] = {1, 1, 0, 8193, 0};
+    CHECK(fitted(prep_fit_counts(LENT(sheet_template), 0, LENT(fitting)), 0, 1, 0));
+    CHECK(fitted(prep_fit_counts(LENT(sheet_template), 0, LENT(unfitting)), 0, 0, 0));
+    CHECK(fitted(prep_fit_counts(LENT(sheet_template), 0, LENT(arriving)), 0, 1, 0));
+    CHECK(fitted(prep_fit_counts(LENT(sheet_template), 2, NULL, 0), PREP_COUNTS_NO_SHAPE, 0, 0));
+    CHECK(fitted(prep_fit_counts(LENT(sheet_template), 0, NULL, 0), PREP_COUNTS_SIZE, 0, 0));
+    CHECK(fitted(prep_fit_counts(LENT(sheet_template), 0, over, 2), PREP_COUNTS_SIZE, 0, 0));
+    CHECK(fitted(prep_fit_counts(LENT(sheet_template), 0, over, 3), PREP_COUNTS_SIZE, 0, 0));
+    CHECK(fitted(prep_fit_counts(LENT(sheet_template), 0, LENT(five)), PREP_COUNTS_SIZE, 0, 0));
+    CHECK(fitted(prep_fit_counts(LENT(sheet_template), 0, LENT(over)), PREP_COUNTS_TOO_BIG, 0, 1));
+    CHECK(fitted(prep_fit_counts(LENT(sheet_template), 0, LENT(over_arriving)), PREP_COUNTS_TOO_BIG, 0, 3));
+    CHECK(fitted(prep_fit_counts(NULL, 0, 0, LENT(fitting)), PREP_TEMPLATE_SIZE, 0, 0));
+}
+
+/* Items and guests of FORMAT.md: outgoing kinds that are not named count 0, incoming ones are ignored. */
+static void check_guest_counts(void)
+{
+    static const uint16_t pointed_at[] = {0, 1};
+    static const uint16_t nobody[] = {0, 0};
+    static const uint16_t both_ways[] = {1, 1};
+    static const uint16_t ignored[] = {1, 7};
     static const uint16_t over[] = {1, 8193};
-    struct prep_fit_answer f = prep_fit_counts(LENT(sheet_template), 0, LENT(fitting));
-    CHECK(f.number == 0 && f.fits == 1 && f.place == 0);
-    f = prep_fit_counts(LENT(sheet_template), 0, LENT(unfitting));
-    CHECK(f.number == 0 && f.fits == 0 && f.place == 0);
-    f = prep_fit_counts(LENT(sheet_template), 2, NULL, 0);
-    CHECK(f.number == PREP_COUNTS_NO_SHAPE && f.place == 0);
-    f = prep_fit_counts(LENT(sheet_template), 0, NULL, 0);
-    CHECK(f.number == PREP_COUNTS_SIZE && f.place == 0);
-    f = prep_fit_counts(LENT(sheet_template), 0, LENT(over));
-    CHECK(f.number == PREP_COUNTS_TOO_BIG && f.place == 1 && f.fits == 0);
-    f = prep_fit_counts(NULL, 0, 0, LENT(fitting));
-    CHECK(f.number == PREP_TEMPLATE_SIZE && f.place == 0);
+    CHECK(fitted(prep_fit_counts(LENT(guests_template), 1, LENT(pointed_at)), 0, 1, 0));
+    CHECK(fitted(prep_fit_counts(LENT(guests_template), 1, LENT(nobody)), 0, 0, 0));
+    CHECK(fitted(prep_fit_counts(LENT(guests_template), 1, LENT(both_ways)), 0, 0, 0));
+    CHECK(fitted(prep_fit_counts(LENT(guests_template), 0, LENT(ignored)), 0, 1, 0));
+    CHECK(fitted(prep_fit_counts(LENT(guests_template), 0, ignored, 1), PREP_COUNTS_SIZE, 0, 0));
+    CHECK(fitted(prep_fit_counts(LENT(guests_template), 0, LENT(over)), PREP_COUNTS_TOO_BIG, 0, 1));
+}
+
+/* As many counts as there may be, for a shape that names the last kind as incoming. */
+static void check_most_counts(void)
+{
+    static const uint16_t last_kind[] = {64, 1, 4, 383, 0, 1, 8192};
+    uint16_t counts[PREP_MAX_COUNTS + 1];
+    memset(counts, 0, sizeof counts);
+    CHECK(fitted(prep_fit_counts(LENT(last_kind), 0, counts, PREP_MAX_COUNTS), 0, 0, 0));
+    counts[PREP_MAX_COUNTS - 1] = PREP_MAX_COUNT;
+    CHECK(fitted(prep_fit_counts(LENT(last_kind), 0, counts, PREP_MAX_COUNTS), 0, 1, 0));
+    CHECK(fitted(prep_fit_counts(LENT(last_kind), 0, counts, PREP_MAX_KINDS), PREP_COUNTS_SIZE, 0, 0));
+    CHECK(fitted(prep_fit_counts(LENT(last_kind), 0, counts, PREP_MAX_COUNTS - 1), PREP_COUNTS_SIZE, 0, 0));
+    CHECK(fitted(prep_fit_counts(LENT(last_kind), 0, counts, PREP_MAX_COUNTS + 1), PREP_COUNTS_SIZE, 0, 0));
+    counts[PREP_MAX_COUNTS - 1] = PREP_MAX_COUNT + 1;
+    CHECK(fitted(prep_fit_counts(LENT(last_kind), 0, counts, PREP_MAX_COUNTS), PREP_COUNTS_TOO_BIG, 0, 127));
+    counts[PREP_MAX_KINDS - 1] = 65535;
+    CHECK(fitted(prep_fit_counts(LENT(last_kind), 0, counts, PREP_MAX_COUNTS), PREP_COUNTS_TOO_BIG, 0, 63));
 }
 
 static void check_links(void)
@@ -98,6 +172,7 @@ static void check_links(void)
     CHECK(prep_links_of_card(LENT(sheet_template), LENT(sheet_script), 0, few, 2) == 6);
     CHECK(memcmp(few, two_words, sizeof few) == 0);
     CHECK(prep_links_of_card(LENT(sheet_template), LENT(sheet_script), 0, NULL, 0) == 6);
+    /* A link arrives at card 2, and none starts there. */
     CHECK(prep_links_of_card(LENT(sheet_template), LENT(sheet_script), 2, links, 7) == 0);
     CHECK(prep_links_of_card(LENT(sheet_template), LENT(sheet_script), 9, links, 7) == 0);
     CHECK(prep_links_of_card(NULL, 0, NULL, 0, 0, NULL, 0) == 0);
@@ -149,6 +224,47 @@ static void check_both(void)
     CHECK(all_are(LENT(grid), 0) && memcmp(other, sheet_grid, 6) == 0);
     b = prep_both_typings(LENT(sheet_template), LENT(no_cards), LENT(no_bookings), NULL, 0, NULL, 0);
     CHECK(b.number == 0 && b.rounds == 1 && b.pairs == 0);
+}
+
+/* A booking reaches along a link and against it, and a guest that nobody points at is none. */
+static void check_guests(void)
+{
+    static const uint16_t one_guest[] = {2, 1, 0, 0, 1};
+    static const uint16_t lonely_guest[] = {3, 1, 0, 0, 1};
+    static const uint16_t guest_booked[] = {1, 1, 1};
+    static const uint16_t lonely_booked[] = {1, 2, 1};
+    static const uint8_t item_and_guest[] = {1, 0, 0, 1, 0, 0};
+    static const uint8_t guest_alone[] = {0, 0, 0, 1};
+    uint8_t small[6], large[6];
+    struct prep_largest_answer l = prep_largest(LENT(guests_template), LENT(one_guest), large, 4);
+    struct prep_smallest_answer s;
+    struct prep_both_answer b;
+    struct prep_judge_answer j;
+    CHECK(l.number == 0 && l.rounds == 2 && l.struck == 2 && l.bare == 0);
+    CHECK(memcmp(large, item_and_guest, 4) == 0);
+    s = prep_smallest(LENT(guests_template), LENT(one_guest), LENT(guest_booked), small, 4);
+    CHECK(s.number == 0 && s.pairs == 2 && memcmp(small, item_and_guest, 4) == 0);
+    j = prep_judge(LENT(guests_template), LENT(one_guest), LENT(guest_booked), small, 4);
+    CHECK(j.number == PREP_NOT_REFUSED);
+    j = prep_judge(LENT(guests_template), LENT(one_guest), LENT(guest_booked), LENT(guest_alone));
+    CHECK(j.number == PREP_GRID_NOT_MET && j.card == 1 && j.shape == 1);
+
+    memset(small, 9, sizeof small);
+    s = prep_smallest(LENT(guests_template), LENT(lonely_guest), LENT(lonely_booked), LENT(small));
+    CHECK(s.number == PREP_NOT_MET && s.card == 2 && s.shape == 1 && s.pairs == 0 && all_are(LENT(small), 0));
+    b = prep_both_typings(LENT(guests_template), LENT(lonely_guest), LENT(lonely_booked), LENT(small), LENT(large));
+    CHECK(b.number == PREP_NOT_MET && b.card == 2 && b.shape == 1);
+    CHECK(b.rounds == 2 && b.struck == 4 && b.bare == 0 && memcmp(large, item_and_guest, 6) == 0);
+}
+
+/* A link from a card to itself counts both ways. */
+static void check_self_link(void)
+{
+    static const uint16_t both_ways[] = {1, 1, 10, 17, 2, 256, 0, 1, 1, 320, 0, 1, 1};
+    static const uint16_t to_itself[] = {1, 1, 0, 0, 0};
+    uint8_t grid[1] = {9};
+    struct prep_largest_answer l = prep_largest(LENT(both_ways), LENT(to_itself), LENT(grid));
+    CHECK(l.number == 0 && l.rounds == 1 && l.struck == 0 && l.bare == 0 && grid[0] == 1);
 }
 
 /* Every number of an answer to prep_judge. */
@@ -264,11 +380,16 @@ int main(void)
 {
     check_layout();
     check_readings();
+    check_codes();
     check_counts();
+    check_guest_counts();
+    check_most_counts();
     check_links();
     check_largest();
     check_smallest();
     check_both();
+    check_guests();
+    check_self_link();
     check_judge();
     check_judge_refuses();
     check_judge_reads();

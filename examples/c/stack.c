@@ -24,7 +24,7 @@ static uint16_t deep_template[PREP_MAX_TEMPLATE_WORDS];
 static size_t deep_length;
 static uint16_t full_script[PREP_MAX_SCRIPT_WORDS];
 static uint16_t full_bookings[PREP_MAX_BOOKING_WORDS];
-static uint16_t zero_counts[PREP_MAX_KINDS];
+static uint16_t zero_counts[PREP_MAX_COUNTS];
 static uint16_t some_links[PREP_MAX_SCRIPT_WORDS];
 static uint8_t smallest_grid[PREP_MAX_GRID_BYTES];
 static uint8_t largest_grid[PREP_MAX_GRID_BYTES];
@@ -46,12 +46,13 @@ static size_t put_deep_shape(uint16_t *words)
 }
 
 /*
- * 16 deep shapes, and 16 that are an optional star of one link of kind 0: eight of them to shape 0,
- * which no card can have, and eight to themselves, so that every card keeps these.
+ * 16 deep shapes, and 16 that are an optional star of one link of kind 0 each way. Of these eight
+ * ask for themselves both ways, so that every card keeps them. Four ask for shape 0, which no card
+ * can have, where a link leads, and four where one comes from.
  */
 static void fill_template(void)
 {
-    static const uint16_t plain[] = {6, 3, 1, 256, 0, 1, 1};
+    static const uint16_t plain[] = {14, 17, 2, 3, 1, 256, 0, 1, 1, 3, 1, 320, 0, 1, 1};
     uint16_t shape;
     deep_template[0] = PREP_MAX_KINDS;
     deep_template[1] = PREP_MAX_SHAPES;
@@ -61,7 +62,8 @@ static void fill_template(void)
             deep_length += put_deep_shape(deep_template + deep_length);
         } else {
             memcpy(deep_template + deep_length, plain, sizeof plain);
-            deep_template[deep_length + 4] = shape < 24 ? 0 : shape;
+            deep_template[deep_length + 6] = shape < 20 ? 0 : shape;
+            deep_template[deep_length + 12] = shape >= 20 && shape < 24 ? 0 : shape;
             deep_length += LENGTH(plain);
         }
     }

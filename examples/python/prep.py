@@ -15,6 +15,10 @@ Or from parts and links, so that nobody counts words:
     template = prep.Template.of(2, [prep.all_of(prep.link(0, 1, 1, 1), prep.link(1, 0, 0, 1)), prep.nothing()])
     script = prep.Script.of(template, 3, [(1, 0, 0), (0, 1, 1), (0, 0, 2)])
 
+A shape may also name links that arrive. Here an item points at guests, and a guest is one at whom items point:
+
+    template = prep.Template.of(1, [prep.link(0, 1, 1), prep.incoming(0, 0, 1)])
+
 What the library turns down is a Refused, which says in words what is wrong and where. The library is libprep.so in
 the folder that PREP_LIB_DIR names, or in the lib folder of the package that this file came with, or where the system
 looks. Python 3.8 or later; nothing but the standard library. Other threads run while the library works.
@@ -26,8 +30,8 @@ import os
 from typing import Iterable, List, NamedTuple, Sequence, Tuple
 
 # The versions that this file is for: this major one, with this minor one or a later one.
-MAJOR = 1
-MINOR = 1
+MAJOR = 2
+MINOR = 0
 
 # The refusals that have a card and a shape instead of a place.
 NOT_MET = 50
@@ -221,9 +225,20 @@ def all_of(*parts: Part) -> Part:
     return [17, len(parts)] + [word for part in parts for word in part]
 
 
+def _code(first: int, kind: int) -> int:
+    """The code of a link, from that of kind 0 the same way; the greatest word, which is refused, if there is none."""
+    return first + kind if 0 <= kind < 64 else 65535
+
+
 def link(kind: int, shape: int, low: int, high: int = 65535) -> Part:
     """Low to high links of a kind, each to a card of a shape; no limit without a high."""
-    return [256 + kind, shape, low, high]
+    return [_code(256, kind), shape, low, high]
+
+
+def incoming(kind: int, shape: int, low: int, high: int = 65535) -> Part:
+    """Low to high links of a kind that arrive, each from a card of a shape; no limit without a high. Those of a kind
+    that a shape does not name so are ignored."""
+    return [_code(320, kind), shape, low, high]
 
 
 class Typing:
@@ -290,7 +305,9 @@ class Template:
         return cls([kinds, len(shapes)] + counted)
 
     def fits(self, shape: int, counts: Iterable[int]) -> bool:
-        """Whether counts of links, one for each kind, fit a shape. Refusals: 42, 41, 43."""
+        """Whether counts of links fit a shape: for each kind those that start at a card, then for each kind those that
+        arrive there. A kind that the shape does not name has to count 0 as outgoing and is ignored as incoming.
+        Refusals: 42, 41 if there are not two counts for each kind, 43."""
         (number,) = _words([shape])
         answer = _library.prep_fit_counts(*_lend(self._words), number, *_lend(_words(counts)))
         return _accept(answer).fits == 1
@@ -317,7 +334,7 @@ class Script:
         return cls(template, [cards, len(ascending)] + [word for one in ascending for word in one])
 
     def links_of(self, card: int) -> List[Link]:
-        """The links that start at a card, ascending; none if there is no such card."""
+        """The links that start at a card, ascending, not those that arrive there; none if there is no such card."""
         return list(self._of[card]) if 0 <= card < self.cards else []
 
     def largest(self) -> Largest:

@@ -8,6 +8,8 @@ import prep
 
 TEMPLATE = [2, 2, 10, 17, 2, 256, 1, 1, 1, 257, 0, 0, 1, 1, 0]
 SCRIPT = [3, 3, 0, 0, 2, 0, 1, 1, 1, 0, 0]
+# An item points at guests, and a guest is pointed at by items.
+GUESTS = [1, 2, 4, 256, 1, 1, 65535, 4, 320, 0, 1, 65535]
 
 
 def include() -> pathlib.Path:
@@ -32,6 +34,14 @@ class Words(unittest.TestCase):
         self.assertEqual(str(told), "a part of the template has an unknown code (refusal 5, word 3)")
         self.assertEqual(told.file, "template")
 
+    def test_codes_are_refused(self):
+        for kinds, code in ((1, 320), (64, 383)):
+            self.assertEqual(prep.Template([kinds, 1, 4, code, 0, 0, 1]).kinds, kinds)
+        self.refused(7, 3, prep.Template, [1, 1, 4, 321, 0, 0, 1])
+        self.refused(5, 3, prep.Template, [64, 1, 4, 384, 0, 0, 1])
+        self.assertEqual(prep.Template([1, 1, 10, 17, 2, 256, 0, 0, 1, 320, 0, 0, 1]).shapes, 1)
+        self.refused(8, 9, prep.Template, [1, 1, 10, 17, 2, 320, 0, 0, 1, 320, 0, 0, 1])
+
     def test_script_is_refused(self):
         template = prep.Template(TEMPLATE)
         self.refused(20, 0, prep.Script, template, [])
@@ -42,8 +52,13 @@ class Words(unittest.TestCase):
     def test_counts_are_refused(self):
         template = prep.Template(TEMPLATE)
         self.refused(42, 0, template.fits, 2, [])
-        self.refused(41, 0, template.fits, 0, [0])
-        self.refused(43, 1, template.fits, 0, [0, 8193])
+        for length in (0, 1, 2, 3, 5):
+            self.refused(41, 0, template.fits, 0, [8193] * length)
+        self.refused(43, 1, template.fits, 0, [0, 8193, 0, 8193])
+        self.refused(43, 2, template.fits, 0, [0, 0, 8193, 0])
+        guests = prep.Template(GUESTS)
+        self.refused(41, 0, guests.fits, 0, [1])
+        self.refused(43, 1, guests.fits, 0, [1, 8193])
 
     def test_bookings_are_refused(self):
         script = prep.Script(prep.Template(TEMPLATE), SCRIPT)
@@ -105,8 +120,16 @@ class Answers(unittest.TestCase):
 
     def test_counts(self):
         self.assertEqual((self.template.kinds, self.template.shapes), (2, 2))
-        self.assertIs(self.template.fits(0, [1, 1]), True)
-        self.assertIs(self.template.fits(0, [2, 1]), False)
+        self.assertIs(self.template.fits(0, [1, 1, 0, 0]), True)
+        self.assertIs(self.template.fits(0, [2, 1, 0, 0]), False)
+        self.assertIs(self.template.fits(1, [0, 0, 8192, 8192]), True)
+
+    def test_arriving_counts(self):
+        guests = prep.Template(GUESTS)
+        self.assertIs(guests.fits(1, [0, 1]), True)
+        self.assertIs(guests.fits(1, [0, 0]), False)
+        self.assertIs(guests.fits(1, [1, 1]), False)
+        self.assertIs(guests.fits(0, [1, 7]), True)
 
     def test_largest(self):
         largest = self.script.largest()
@@ -127,6 +150,19 @@ class Answers(unittest.TestCase):
         self.assertEqual((both.largest.rounds, both.smallest.pairs, both.not_met), (4, 1, None))
         both = self.script.both([(0, 0)])
         self.assertEqual((both.largest.bare, both.smallest, both.not_met.number), (2, None, prep.NOT_MET))
+
+    def test_guests(self):
+        script = prep.Script(prep.Template(GUESTS), [2, 1, 0, 0, 1])
+        both = script.both([(1, 1)])
+        self.assertEqual((both.largest.rounds, both.largest.struck, both.largest.bare), (2, 2, 0))
+        self.assertEqual((both.smallest.pairs, both.smallest.typing.grid), (2, bytes([1, 0, 0, 1])))
+        self.assertEqual(both.largest.typing.grid, both.smallest.typing.grid)
+        self.assertIsNone(script.judge([(1, 1)], both.smallest.typing.grid))
+        self.assertRaises(prep.GridNotMet, script.judge, [(1, 1)], [0, 0, 0, 1])
+        # Nobody points at card 2.
+        with self.assertRaises(prep.NotMet) as caught:
+            prep.Script(prep.Template(GUESTS), [3, 1, 0, 0, 1]).smallest([(2, 1)])
+        self.assertEqual((caught.exception.card, caught.exception.shape), (2, 1))
 
     def test_judge(self):
         self.assertIsNone(self.script.judge([(2, 1)], [0, 0, 0, 0, 0, 1]))
@@ -158,6 +194,15 @@ class Builders(unittest.TestCase):
         part = prep.choice(prep.star(prep.link(0, 0, 2)), prep.plus(prep.nothing()))
         template = prep.Template.of(2, [prep.optional(prep.nothing()), part])
         self.assertEqual(list(template.words), [2, 2, 2, 3, 0, 9, 16, 2, 1, 256, 0, 2, 65535, 2, 0])
+        guests = prep.Template.of(1, [prep.link(0, 1, 1), prep.incoming(0, 0, 1)])
+        self.assertEqual(list(guests.words), GUESTS)
+
+    def test_no_kinds(self):
+        for kind in (-1, 64, 128):
+            for part in (prep.link(kind, 0, 1), prep.incoming(kind, 0, 1)):
+                with self.assertRaises(prep.Refused) as caught:
+                    prep.Template.of(64, [part])
+                self.assertEqual((caught.exception.number, caught.exception.place), (5, 3))
 
     def test_script(self):
         links = [(1, 0, 0), (0, 1, 1), (0, 0, 2), (0, 1, 1)]

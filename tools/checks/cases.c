@@ -1,8 +1,8 @@
 /*
  * A sheet printer over the library's C functions. Standard input holds printer inputs, each after its length in four
  * bytes, low first; the text of each goes to standard output. On the way it checks that the calls agree with each
- * other: both typings with each typing alone and with how they are judged, the links of the cards with the script, and
- * that a refusal leaves the grids alone.
+ * other: both typings with each typing alone, with how they are judged and with the counts that fit, the links of the
+ * cards with the script, and that a refusal leaves the grids alone.
  */
 #include "prep.h"
 
@@ -20,7 +20,7 @@ struct words {
 
 static struct words sheet_template, script, bookings;
 static uint8_t smallest[PREP_MAX_GRID_BYTES], largest[PREP_MAX_GRID_BYTES], alone[PREP_MAX_GRID_BYTES];
-static uint16_t links[PREP_MAX_SCRIPT_WORDS];
+static uint16_t links[PREP_MAX_SCRIPT_WORDS], counts[PREP_MAX_COUNTS];
 
 /* What every call is lent. */
 #define TEMPLATE sheet_template.word, sheet_template.length
@@ -130,6 +130,32 @@ static void check_links(size_t cards)
     REQUIRE(at == script.length);
 }
 
+/* Counts the links of a card by kind: those that start there, then those that arrive. */
+static void count_links(size_t card, size_t kinds)
+{
+    size_t at;
+    memset(counts, 0, sizeof counts);
+    for (at = 2; at < script.length; at += 3) {
+        counts[script.word[at + 1]] += script.word[at] == card;
+        counts[kinds + script.word[at + 1]] += script.word[at + 2] == card;
+    }
+}
+
+/* The counts of each card fit every shape that it has in the largest typing. */
+static void check_counts(size_t cards, size_t kinds, size_t shapes)
+{
+    size_t card, shape;
+    for (card = 0; card < cards; card++) {
+        count_links(card, kinds);
+        for (shape = 0; shape < shapes; shape++) {
+            if (largest[card * shapes + shape]) {
+                struct prep_fit_answer fit = prep_fit_counts(TEMPLATE, (uint16_t)shape, counts, 2 * kinds);
+                REQUIRE(fit.number == 0 && fit.fits == 1);
+            }
+        }
+    }
+}
+
 /* A refusal of both typings leaves the grids alone, and a grid is refused for the same fault. */
 static void check_refused(const struct prep_both_answer *both, size_t size)
 {
@@ -166,6 +192,7 @@ static void print_sheet(void)
     check_alone(&both, size);
     check_judged(&both, size);
     check_links(s.cards);
+    check_counts(s.cards, t.kinds, t.shapes);
 }
 
 /* The next input's bytes in memory of its own size, or NULL at the end of the stream. */

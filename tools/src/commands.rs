@@ -4,6 +4,7 @@ use crate::files::{read, show, write};
 use crate::usage::{self, perhaps, Command, Given, Outcome, Switch};
 use prep_tools::numbers::{Card, Shape};
 use prep_tools::refusal::Refusal;
+use prep_tools::sheet::Files;
 use prep_tools::text::form::{form, Form};
 use prep_tools::text::load::{load_input, load_sheet, tell_refusal};
 use prep_tools::text::roots::Roots;
@@ -106,7 +107,8 @@ const COMMANDS: &[Command] = &[
         forms: &[&[]],
         options: &[],
         about: "answer lines `T w w ... | shape | c c c` from standard input, by intervals",
-        more: "The words after T are those of a template; the counts are one per kind.",
+        more: "The words after T are those of a template. The counts are those of the links that start at a card,\n\
+               kind by kind, and then those of the links that arrive there.",
         run: run_fit,
     },
     Command {
@@ -122,7 +124,7 @@ const COMMANDS: &[Command] = &[
         forms: &[&["SEED", "COUNT"]],
         options: &[],
         about: "print small samples, answered by enumeration of bags",
-        more: "",
+        more: "Fixed samples come first, some of which are refused; then random ones.",
         run: run_fit_samples,
     },
     Command {
@@ -173,9 +175,13 @@ const COMMANDS: &[Command] = &[
     Command {
         name: "longest",
         forms: &[&["CARDS", "SHAPES"]],
-        options: &[],
+        options: &[Switch {
+            name: "--back",
+            value: None,
+            about: "strike against the links; all cards keep one shape more",
+        }],
         about: "write an input on which each round strikes one pair until none is left",
-        more: "",
+        more: "CARDS and SHAPES must have no common factor.",
         run: run_longest,
     },
 ];
@@ -370,10 +376,8 @@ fn run_samples(_: &Given) -> Result<Outcome, String> {
 }
 
 fn run_fit_samples(given: &Given) -> Result<Outcome, String> {
-    show(samples::questions_text(
-        given.number(0, "SEED")?,
-        given.number(1, "COUNT")?,
-    )?)?;
+    let (seed, count) = (given.number(0, "SEED")?, given.number(1, "COUNT")?);
+    show(samples::questions::text(seed, count))?;
     Ok(Outcome::Fine)
 }
 
@@ -418,10 +422,14 @@ fn run_page(given: &Given) -> Result<Outcome, String> {
 
 fn run_longest(given: &Given) -> Result<Outcome, String> {
     let (cards, shapes) = (given.number(0, "CARDS")?, given.number(1, "SHAPES")?);
-    if !(2..=1024).contains(&cards) || !(1..=32).contains(&shapes) {
-        return Err("the cards must be 2 to 1024 and the shapes 1 to 32".to_string());
+    let (most, make): (u16, fn(u16, u16) -> Files) = match given.has("--back") {
+        true => (31, generate::turns::longest_back),
+        false => (32, generate::special::longest),
+    };
+    if !(2..=1024).contains(&cards) || !(1..=most).contains(&shapes) {
+        return Err(format!("the cards must be 2 to 1024 and the shapes 1 to {most}"));
     }
-    show(generate::special::longest(cards, shapes).bytes())?;
+    show(make(cards, shapes).bytes())?;
     Ok(Outcome::Fine)
 }
 

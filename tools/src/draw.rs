@@ -59,8 +59,10 @@ pub mod tracks;
 pub mod verify;
 pub mod wrap;
 
+use crate::labels::{Label, Way};
+use crate::numbers::Card;
 use crate::text::check::Sheet;
-use crate::text::reasons::way;
+use crate::text::reasons::path;
 use choice::Choice;
 use graph::{Arrow, Graph};
 use layout::{layout, Layout};
@@ -248,19 +250,30 @@ fn choice_note(whole: &Whole, choice: Choice, drawn: usize) -> Option<String> {
     ))
 }
 
-/// The links from a booking to the unmet pair of 50.
+/// The links on the path from a booking to the unmet pair of 50. The path may run against them.
 fn blamed(sheet: &Sheet) -> Vec<Arrow> {
     let Some(goal) = sheet.not_met() else {
         return Vec::new();
     };
-    let steps = way(&sheet.setting, &sheet.booked, goal).unwrap_or_default();
-    let targets = steps.iter().skip(1).map(|((card, _), _)| *card).chain([goal.0]);
-    let arrow = |(((card, _), kind), target): (&crate::text::reasons::Step, crate::numbers::Card)| Arrow {
-        from: card.index(),
-        kind: kind.index(),
-        to: target.index(),
+    let steps = path(&sheet.setting, &sheet.booked, goal).unwrap_or_default();
+    let next = steps.iter().skip(1).map(|((card, _), _)| *card).chain([goal.0]);
+    let arrows = steps.iter().zip(next);
+    arrows
+        .map(|(((card, _), label), next)| arrow(*card, *label, next))
+        .collect()
+}
+
+/// The link with this label, seen from a card, whose other end is at the far card.
+fn arrow(card: Card, label: Label, far: Card) -> Arrow {
+    let (from, to) = match label.way {
+        Way::Outgoing => (card, far),
+        Way::Incoming => (far, card),
     };
-    steps.iter().zip(targets).map(arrow).collect()
+    Arrow {
+        from: from.index(),
+        kind: label.kind.index(),
+        to: to.index(),
+    }
 }
 
 impl Drawing {

@@ -1,11 +1,12 @@
-//! *Fit counts*: are these counts, one per kind, those of a bag of a shape's part?
-//! Refusals: the template's, then 42, 41, 43.
+//! *Fit counts*: are these counts, one for each kind each way, those of a bag of a shape's part? The incoming kinds
+//! that the shape doesn't name are ignored. Refusals: the template's, then 42, 41, 43.
 
 pub mod bags;
 pub mod intervals;
 pub mod lines;
 pub mod ready;
 
+use crate::labels::Labelled;
 use crate::numbers::Shape;
 use crate::refusal::Refusal;
 use crate::template::{self, Part, MOST_COUNT};
@@ -22,7 +23,7 @@ pub fn fit_by_bags(template_words: &[u16], shape: u16, counts: &[u16]) -> Result
 
 /// The refusals, then the answer of one of the two methods.
 fn fit_by(
-    fits: fn(&Part, &[u16]) -> bool,
+    fits: fn(&Part, &Labelled<u16>) -> bool,
     template_words: &[u16],
     shape: u16,
     counts: &[u16],
@@ -31,11 +32,12 @@ fn fit_by(
     if shape >= template.shapes() {
         return Err(Refusal::at(42, 0));
     }
-    if counts.len() != usize::from(template.kinds) {
+    if counts.len() != 2 * usize::from(template.kinds) {
         return Err(Refusal::at(41, 0));
     }
     if let Some(place) = counts.iter().position(|count| *count > MOST_COUNT) {
         return Err(Refusal::at(43, place));
     }
-    Ok(fits(template.part(Shape(shape)), counts))
+    let counts = Labelled::from(counts.to_vec());
+    Ok(fits(template.part(Shape(shape)), &counts))
 }

@@ -5,29 +5,37 @@
 //! |------------|-------------------------------------------------------------------|
 //! | `parts`    | random parts and templates, and random bags of a part             |
 //! | `scripts`  | scripts derived from the shapes, and loose ones                   |
+//! | `matched`  | sheets whose shapes are made to fit their links                   |
 //! | `sparse`   | cards that few links touch or none, with and without a shape      |
 //! | `bookings` | bookings that are met, and others                                 |
 //! | `heavy`    | the sheets that take longest, for timing                          |
 //! | `special`  | the worked sheet, long chains, everything at its limit            |
+//! | `turns`    | sheets on which strikes and closures run against the links        |
+//! | `counted`  | sheets that put a question of *Fit counts* to the printer         |
 //! | `layout`   | where the parts, links and groups of a template stand             |
 //! | `damage`   | faults aimed at one refusal, or several at once                   |
 //! | `knots`    | faults that meet at one place                                     |
 //! | `edges`    | each limit from both sides, the same in every run                 |
 //! | `blanks`   | blank cards and cards beside them, the same in every run          |
+//! | `arriving` | links that arrive, the same in every run                          |
 //! | `judging`  | sheets with grids for *Judge a grid*, fixed and random ones       |
 
+pub mod arriving;
 pub mod blanks;
 pub mod bookings;
+pub mod counted;
 pub mod damage;
 pub mod edges;
 pub mod heavy;
 pub mod judging;
 pub mod knots;
 pub mod layout;
+pub mod matched;
 pub mod parts;
 pub mod scripts;
 pub mod sparse;
 pub mod special;
+pub mod turns;
 
 use crate::random::Random;
 use crate::sheet::Files;
@@ -52,8 +60,8 @@ pub struct Scale {
     pub kinds: u16,
     /// The most shapes.
     pub shapes: u16,
-    /// The most kinds that one shape names.
-    pub kinds_in_shape: usize,
+    /// The most labels that one shape names, apart from those that mirror others.
+    pub labels_in_shape: usize,
     /// The most cards.
     pub cards: u16,
     /// The most links.
@@ -67,7 +75,7 @@ pub const TINY: Scale = Scale {
     name: "tiny",
     kinds: 3,
     shapes: 3,
-    kinds_in_shape: 3,
+    labels_in_shape: 3,
     cards: 5,
     links: 12,
     bookings: 4,
@@ -77,7 +85,7 @@ pub const SMALL: Scale = Scale {
     name: "small",
     kinds: 6,
     shapes: 6,
-    kinds_in_shape: 4,
+    labels_in_shape: 4,
     cards: 30,
     links: 120,
     bookings: 12,
@@ -87,7 +95,7 @@ pub const MIDDLE: Scale = Scale {
     name: "middle",
     kinds: 20,
     shapes: 12,
-    kinds_in_shape: 10,
+    labels_in_shape: 10,
     cards: 200,
     links: 1500,
     bookings: 60,
@@ -97,7 +105,7 @@ pub const FULL: Scale = Scale {
     name: "full",
     kinds: 64,
     shapes: 32,
-    kinds_in_shape: 64,
+    labels_in_shape: 128,
     cards: 1024,
     links: 8192,
     bookings: 1024,
@@ -110,8 +118,13 @@ pub fn fixed() -> usize {
 
 /// The inputs that are the same for every seed.
 fn fixed_cases() -> impl Iterator<Item = Case> {
-    let special = special::fixed().into_iter();
-    special.chain(edges::edges()).chain(blanks::blanks())
+    let lists = [
+        special::fixed(),
+        edges::edges(),
+        blanks::blanks(),
+        arriving::arriving(),
+    ];
+    lists.into_iter().flatten()
 }
 
 /// The inputs of one seed: the fixed ones first, then as many random ones as are asked for.
@@ -125,20 +138,9 @@ pub fn cases(seed: u64, count: usize) -> impl Iterator<Item = Case> {
 /// One random input.
 pub fn case(random: &mut Random) -> Case {
     match random.below(100) {
-        0..=39 => {
-            let scale = scale(random);
-            Case {
-                name: format!("derived-{}", scale.name),
-                bytes: derived(random, scale).bytes(),
-            }
-        }
-        40..=51 => {
-            let scale = scale(random);
-            Case {
-                name: format!("loose-{}", scale.name),
-                bytes: loose(random, scale).bytes(),
-            }
-        }
+        0..=21 => sound(random, "derived", derived),
+        22..=41 => sound(random, "matched", matched::matched),
+        42..=51 => sound(random, "loose", loose),
         52..=57 => special::random(random),
         58..=84 => aimed(random),
         85..=92 => {
@@ -150,6 +152,15 @@ pub fn case(random: &mut Random) -> Case {
             }
         }
         _ => several_faults(random),
+    }
+}
+
+/// A sheet without faults, of any scale.
+fn sound(random: &mut Random, name: &str, make: fn(&mut Random, Scale) -> Files) -> Case {
+    let scale = scale(random);
+    Case {
+        name: format!("{name}-{}", scale.name),
+        bytes: make(random, scale).bytes(),
     }
 }
 
@@ -173,6 +184,12 @@ pub fn loose(random: &mut Random, scale: Scale) -> Files {
     sheet_with(random, scale, scripts::loose)
 }
 
+/// A sheet that is made in one of these ways.
+pub fn any(random: &mut Random, scale: Scale) -> Files {
+    let make = random.pick(&[derived, matched::matched, loose]);
+    make(random, scale)
+}
+
 /// A sheet with a script that is made in this way. Many have cards that few links touch or none.
 fn sheet_with(
     random: &mut Random,
@@ -187,7 +204,12 @@ fn sheet_with(
     if random.chance(1, 2) {
         script = sparse::thin(random, &script, template.kinds, scale.links);
     }
-    let template = template::write(&template);
+    booked(random, &template, script, scale)
+}
+
+/// A template and a script that belong together, with bookings.
+fn booked(random: &mut Random, template: &Template, script: Vec<u16>, scale: Scale) -> Files {
+    let template = template::write(template);
     let bookings = match Setting::read(&template, &script) {
         Ok(setting) => bookings::bookings(random, &setting, scale.bookings),
         Err(refusal) => panic!("a generated sheet has a fault, {refusal}"),
@@ -202,11 +224,7 @@ fn sheet_with(
 /// A sheet, small most of the time, for damage.
 fn whole(random: &mut Random) -> Files {
     let scale = random.pick(&[TINY, TINY, SMALL, SMALL, SMALL, MIDDLE]);
-    if random.chance(1, 3) {
-        loose(random, scale)
-    } else {
-        derived(random, scale)
-    }
+    any(random, scale)
 }
 
 /// A sheet with one fault, aimed at one refusal.

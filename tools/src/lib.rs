@@ -4,6 +4,7 @@
 //! | module     | section of docs/FORMAT.md, or purpose                                       |
 //! |------------|-----------------------------------------------------------------------------|
 //! | `numbers`  | card, kind and shape numbers: three lists, three types                      |
+//! | `labels`   | kinds with a way, outgoing or incoming, and values for each                 |
 //! | `refusal`  | a refusal's number, place and meaning                                       |
 //! | `template` | *Read a template*, refusals 1 to 12; also writes templates                  |
 //! | `fit`      | *Fit counts*, refusals 41 to 43; by intervals and by enumeration of bags    |
@@ -25,6 +26,7 @@ pub mod compare;
 pub mod draw;
 pub mod fit;
 pub mod generate;
+pub mod labels;
 pub mod numbers;
 pub mod page;
 pub mod random;

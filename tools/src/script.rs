@@ -1,5 +1,6 @@
 //! *Read a script* (refusals 20 to 25, after the template's) and *Links of a card*.
 
+use crate::labels::{Label, Labelled, Way};
 use crate::numbers::{Card, Kind};
 use crate::refusal::Refusal;
 use crate::template::{self, Template};
@@ -16,6 +17,10 @@ pub struct Script {
     pub cards: u16,
     /// The links, strictly ascending; their number is M.
     pub links: Vec<ScriptLink>,
+    /// For each card, where the ends of links at it start; then where the last ones end.
+    starts: Vec<usize>,
+    /// The ends of all links, card by card.
+    ends: Vec<End>,
 }
 
 /// One link of the script. The order is that of comparison: from, kind, to.
@@ -29,19 +34,63 @@ pub struct ScriptLink {
     pub to: Card,
 }
 
+/// An end of a link, seen from the card there. A link from a card to itself has both its ends at that card.
+#[derive(Clone, Copy, PartialEq, Eq, PartialOrd, Ord, Debug)]
+pub struct End {
+    /// The link's kind, and whether it starts or arrives here.
+    pub label: Label,
+    /// The card at its other end.
+    pub far: Card,
+}
+
+impl ScriptLink {
+    /// One of its two ends, with the card there.
+    fn end(&self, way: Way) -> (Card, End) {
+        let (here, far) = match way {
+            Way::Outgoing => (self.from, self.to),
+            Way::Incoming => (self.to, self.from),
+        };
+        let label = Label { way, kind: self.kind };
+        (here, End { label, far })
+    }
+}
+
 impl Script {
-    /// The links of one card.
-    pub fn links_of(&self, card: Card) -> &[ScriptLink] {
-        let start = self.links.partition_point(|link| link.from < card);
-        let end = self.links.partition_point(|link| link.from <= card);
-        &self.links[start..end]
+    /// The script of these links, which ascend.
+    fn new(cards: u16, links: Vec<ScriptLink>) -> Script {
+        let of_way = |way| links.iter().map(move |link| link.end(way));
+        let ends: Vec<(Card, End)> = Way::BOTH.into_iter().flat_map(of_way).collect();
+        let mut starts = vec![0; usize::from(cards) + 1];
+        for (card, _) in &ends {
+            starts[card.index() + 1] += 1;
+        }
+        for card in 1..starts.len() {
+            starts[card] += starts[card - 1];
+        }
+        let mut next = starts.clone();
+        let mut by_card: Vec<End> = ends.iter().map(|(_, end)| *end).collect();
+        for (card, end) in ends {
+            by_card[next[card.index()]] = end;
+            next[card.index()] += 1;
+        }
+        Script {
+            cards,
+            links,
+            starts,
+            ends: by_card,
+        }
     }
 
-    /// How many links of each of this many kinds a card has.
-    pub fn counts_of(&self, card: Card, kinds: u16) -> Vec<u16> {
-        let mut counts = vec![0; usize::from(kinds)];
-        for link in self.links_of(card) {
-            counts[link.kind.index()] += 1;
+    /// The ends of links at one card: first of those that start there, then of those that arrive.
+    pub fn ends_of(&self, card: Card) -> &[End] {
+        &self.ends[self.starts[card.index()]..self.starts[card.index() + 1]]
+    }
+
+    /// How many ends of links with each label there are at a card, of the labels of so many kinds.
+    pub fn counts_of(&self, card: Card, kinds: u16) -> Labelled<u16> {
+        let mut counts = Labelled::new(kinds, 0);
+        for end in self.ends_of(card) {
+            counts[end.label] += 1;
         }
         counts
     }
@@ -98,7 +147,7 @@ pub fn read_under(template: &Template, words: &[u16]) -> Result<Script, Refusal>
         }
         links.push(link);
     }
-    Ok(Script { cards, links })
+    Ok(Script::new(cards, links))
 }
 
 /// The links of one card, as the part of the script's words that holds them. Empty if the template or the

@@ -1,6 +1,7 @@
 //! *Read a template*: the words of a template become a list of parts, one per shape, or the first fault is told.
 //! Refusals 1 to 12, in the order of docs/FORMAT.md: left to right, shape by shape.
 
+use crate::labels::{Label, Labelled, Way};
 use crate::numbers::{Kind, Shape};
 use crate::refusal::Refusal;
 
@@ -31,8 +32,28 @@ pub const OPTIONAL: u16 = 3;
 pub const CHOICE: u16 = 16;
 /// The code of all.
 pub const ALL: u16 = 17;
-/// The code of a link of kind 0.
-pub const LINK: u16 = 256;
+/// The code of an outgoing link of kind 0.
+pub const OUTGOING: u16 = 256;
+/// The code of an incoming link of kind 0.
+pub const INCOMING: u16 = 320;
+
+/// The code of links with this label.
+pub fn code_of(label: Label) -> u16 {
+    let first = match label.way {
+        Way::Outgoing => OUTGOING,
+        Way::Incoming => INCOMING,
+    };
+    first + label.kind.0
+}
+
+/// The label of the links with this code; none if it isn't the code of links.
+pub fn label_of(code: u16) -> Option<Label> {
+    match code {
+        256..=319 => Some(Label::outgoing(Kind(code - OUTGOING))),
+        320..=383 => Some(Label::incoming(Kind(code - INCOMING))),
+        _ => None,
+    }
+}
 
 /// A template that was read: its count of kinds, and a part for each shape.
 #[derive(Clone, PartialEq, Eq, Debug)]
@@ -58,22 +79,25 @@ pub enum Part {
     Choice(Vec<Part>),
     /// The sums of one bag from each part.
     All(Vec<Part>),
-    /// Low to high copies of (kind, shape).
+    /// Low to high copies of (label, shape).
     Link(Link),
 }
 
 /// A link part.
 #[derive(Clone, Copy, PartialEq, Eq, Debug)]
 pub struct Link {
-    /// The kind of the links that it takes.
-    pub kind: Kind,
-    /// The shape that their targets have.
+    /// The label of the links that it takes.
+    pub label: Label,
+    /// The shape of the cards at their far ends.
     pub shape: Shape,
     /// The fewest copies.
     pub low: u16,
     /// The most copies; none for no limit.
     pub high: Option<u16>,
 }
+
+/// For each label, the shape that it is named with, if it is named.
+pub type Named = Labelled<Option<Shape>>;
 
 impl Template {
     /// The count of shapes, S.
@@ -86,13 +110,42 @@ impl Template {
         &self.parts[shape.index()]
     }
 
-    /// For each shape, for each kind, the shape with which the first names the kind.
-    pub fn named(&self) -> Vec<Vec<Option<Shape>>> {
+    /// For each shape, what its part names.
+    pub fn named(&self) -> Vec<Named> {
         self.parts.iter().map(|part| part.named(self.kinds)).collect()
     }
 }
 
 impl Part {
+    /// A link part.
+    pub fn link(label: Label, shape: Shape, low: u16, high: Option<u16>) -> Part {
+        Part::Link(Link {
+            label,
+            shape,
+            low,
+            high,
+        })
+    }
+
+    /// All of these parts, of which there are at most 256; groups of them where they are too many for one.
+    pub fn all_of(parts: Vec<Part>) -> Part {
+        let most = usize::from(MOST_GROUP);
+        match &parts[..] {
+            [] => Part::Nothing,
+            [part] => part.clone(),
+            _ if parts.len() <= most => Part::All(parts),
+            _ => {
+                let each = parts.len().div_ceil(most);
+                Part::All(
+                    parts
+                        .chunks(each)
+                        .map(|some| Part::all_of(some.to_vec()))
+                        .collect(),
+                )
+            }
+        }
+    }
+
     /// The links in this part, left to right.
     pub fn links(&self) -> Vec<Link> {
         match self {
@@ -103,11 +156,11 @@ impl Part {
         }
     }
 
-    /// For each of this many kinds, the shape with which this part names it.
-    pub fn named(&self, kinds: u16) -> Vec<Option<Shape>> {
-        let mut named = vec![None; usize::from(kinds)];
+    /// What this part names, of the labels of so many kinds.
+    pub fn named(&self, kinds: u16) -> Named {
+        let mut named = Labelled::new(kinds, None);
         for link in self.links() {
-            named[link.kind.index()] = Some(link.shape);
+            named[link.label] = Some(link.shape);
         }
         named
     }
@@ -146,7 +199,7 @@ impl Part {
             Part::Choice(parts) => write_group(CHOICE, parts, words),
             Part::All(parts) => write_group(ALL, parts, words),
             Part::Link(link) => words.extend([
-                LINK + link.kind.0,
+                code_of(link.label),
                 link.shape.0,
                 link.low,
                 link.high.unwrap_or(NO_LIMIT),
@@ -224,8 +277,8 @@ struct Reader<'a> {
     end: usize,
     kinds: u16,
     shapes: u16,
-    /// The kinds that this shape has named so far.
-    seen: Vec<Kind>,
+    /// The labels that this shape has named so far.
+    seen: Vec<Label>,
 }
 
 impl Reader<'_> {
@@ -266,6 +319,9 @@ impl Reader<'_> {
         if depth > MOST_DEPTH {
             return Err(Refusal::at(6, place));
         }
+        if let Some(label) = label_of(code) {
+            return Ok(Part::Link(self.link(place, label)?));
+        }
         match code {
             0 => Ok(Part::Nothing),
             1 => Ok(Part::Star(Box::new(self.part(depth + 1)?))),
@@ -273,8 +329,7 @@ impl Reader<'_> {
             3 => Ok(Part::Optional(Box::new(self.part(depth + 1)?))),
             16 => Ok(Part::Choice(self.group(depth + 1)?)),
             17 => Ok(Part::All(self.group(depth + 1)?)),
-            256..=319 => Ok(Part::Link(self.link(place, Kind(code - 256))?)),
-            4..=15 | 18..=255 | 320.. => Err(Refusal::at(5, place)),
+            _ => Err(Refusal::at(5, place)),
         }
     }
 
@@ -289,12 +344,12 @@ impl Reader<'_> {
     }
 
     /// A link's shape, low and high; `place` is that of its code.
-    fn link(&mut self, place: usize, kind: Kind) -> Result<Link, Refusal> {
+    fn link(&mut self, place: usize, label: Label) -> Result<Link, Refusal> {
         let (shape, low, high) = (self.word()?, self.word()?, self.word()?);
-        if kind.0 >= self.kinds {
+        if label.kind.0 >= self.kinds {
             return Err(Refusal::at(7, place));
         }
-        if self.seen.contains(&kind) {
+        if self.seen.contains(&label) {
             return Err(Refusal::at(8, place));
         }
         if shape >= self.shapes {
@@ -304,10 +359,10 @@ impl Reader<'_> {
         if low > MOST_COUNT || !high_is_right {
             return Err(Refusal::at(10, place + 2));
         }
-        self.seen.push(kind);
+        self.seen.push(label);
         let high = if high == NO_LIMIT { None } else { Some(high) };
         Ok(Link {
-            kind,
+            label,
             shape: Shape(shape),
             low,
             high,

@@ -52,6 +52,7 @@ pub mod told;
 pub mod trouble;
 pub mod write;
 
+use crate::labels::Way;
 use std::fmt;
 
 /// A line and a column of a text, both from 1.
@@ -129,13 +130,15 @@ pub enum Expression {
     Wrap(u16, Box<Expression>, Spot),
     /// `choice(…)` or `all(…)`; the spot is the word's.
     Group(u16, Vec<Expression>, Spot),
-    /// `kind[low;high]@Shape`.
+    /// `kind[low;high]@Shape`, or the same with `^` before it.
     Link(LinkExpression),
 }
 
 /// A link part as it is written.
 #[derive(Clone, PartialEq, Eq, Debug)]
 pub struct LinkExpression {
+    /// Which way the links run; the spot is that of the part's start.
+    pub way: (Way, Spot),
     /// The kind.
     pub kind: Name,
     /// The shape at the far end.

@@ -5,7 +5,7 @@
 //! | `Setting`     | a template and a script that belong together                      |
 //! | `met`         | when a pair is met; sound typings, and typings in between         |
 //! | `rounds`      | the largest typing, round by round as the definition says         |
-//! | `links`       | the largest typing, breadth-first backwards over the links        |
+//! | `links`       | the largest typing, breadth-first from strike to strike           |
 //! | `counting`    | whether a card's counts fit a shape, card after card              |
 //! | `bookings`    | reads a booking list, refusals 30 to 33                           |
 //! | `closure`     | the smallest typing                                               |

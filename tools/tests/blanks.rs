@@ -3,7 +3,7 @@
 
 use prep_tools::draw::choice::Choice;
 use prep_tools::draw::draw;
-use prep_tools::generate::{derived, loose, MIDDLE, SMALL, TINY};
+use prep_tools::generate::{self, MIDDLE, SMALL, TINY};
 use prep_tools::numbers::Card;
 use prep_tools::random::Random;
 use prep_tools::sheet::{print, Files};
@@ -68,10 +68,9 @@ fn touched(setting: &Setting, card: Card) -> bool {
 fn both_methods_count_the_cards_with_some_link_and_no_shape() {
     let mut random = Random::new(51);
     let mut blank_and_bare = 0;
-    for number in 0..400 {
+    for _ in 0..500 {
         let scale = random.pick(&[TINY, TINY, SMALL, MIDDLE]);
-        let make = if number % 3 == 0 { loose } else { derived };
-        let files = make(&mut random, scale);
+        let files = generate::any(&mut random, scale);
         let setting =
             Setting::read(&files.template, &files.script).expect("a generated sheet is well-formed");
         let (answer, grid) = links::largest(&setting);

@@ -7,15 +7,18 @@ use prep_tools::text::check::Sheet;
 use prep_tools::text::load::{load_input, load_sheet, tell_refusal};
 use prep_tools::text::{judged, machine, write};
 
-const TEXTS: [&str; 3] = [
+const TEXTS: [&str; 4] = [
     include_str!("../../examples/prep/programme.txt"),
     include_str!("../../examples/prep/draft.txt"),
     "kinds: a b\nshape A = choice(all(a[1;2]@B, nothing)*, b[0;]@A)+\nshape B = (nothing)?\ncard x \"t \\\" \\\\\"\n\
      card y\nlink x a y x\nlink y b x\nbook x A\ntitle \"T\"\n",
+    "kinds: a b\nshape A = all(a[0;2]@B, ^b[0;]@A)\nshape B = choice(^a[1;]@A, all(^b[1;1]@B, b[1;]@A)+)?\n\
+     card x\ncard y\ncard z\nlink x a y z\nlink x b x\nlink z b y\nbook y B\n",
 ];
 
 /// Pieces that a text is made of, and some that it isn't.
-const PIECES: [&str; 24] = [
+const PIECES: [&str; 25] = [
+    "^",
     "(",
     ")",
     "[",
@@ -111,7 +114,7 @@ fn damaged_texts_never_panic() {
     let mut random = Random::new(61);
     let mut sheets = 0;
     for number in 0..3000 {
-        let mut bytes = TEXTS[number % 3].as_bytes().to_vec();
+        let mut bytes = TEXTS[number % TEXTS.len()].as_bytes().to_vec();
         for _ in 0..random.between(1, 3) {
             damage(&mut random, &mut bytes);
         }

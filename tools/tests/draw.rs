@@ -4,11 +4,13 @@
 mod sheets;
 
 use prep_tools::draw::choice::Choice;
-use prep_tools::draw::layout::{Layout, Rect};
+use prep_tools::draw::layout::{Layout, Rect, Route};
 use prep_tools::draw::page::{HEIGHT, WIDTH};
+use prep_tools::draw::picture::BLAME;
+use prep_tools::draw::svg::{head, round_path};
 use prep_tools::draw::verify::{arrows_through_cards, texts_over_texts};
 use prep_tools::draw::{draw, Drawing};
-use prep_tools::generate::{self, derived, SMALL, TINY};
+use prep_tools::generate::{self, SMALL, TINY};
 use prep_tools::random::Random;
 use prep_tools::text::check::{run, Sheet};
 use prep_tools::text::write;
@@ -195,11 +197,7 @@ fn generated_sheets_are_sound() {
     let mut random = Random::new(41);
     for number in 0..40 {
         let scale = if number % 3 == 0 { SMALL } else { TINY };
-        let files = if number % 2 == 0 {
-            generate::loose(&mut random, scale)
-        } else {
-            derived(&mut random, scale)
-        };
+        let files = generate::any(&mut random, scale);
         let text = write::text(&files.bytes()).expect("a generated sheet is well-formed");
         is_sound(&format!("generated sheet {number}"), &sheet(&text));
     }
@@ -230,6 +228,58 @@ fn each_mark_is_drawn() {
         let labels = met.matches(&format!(">{kind}<")).count();
         assert!(labels >= 3, "the label {kind} stands {labels} times");
     }
+}
+
+/// A film that two items show. One is booked for its guest; the other one can't be an Item.
+const AGAINST: &str = "\
+kinds: guest film
+shape Item = all(guest[0;]@Guest, film[0;1]@Film)
+shape Guest = ^guest[1;]@Item
+shape Film = ^film[1;]@Item
+card quiz
+card ann
+card f1
+card f2
+card night
+link quiz guest ann
+link quiz film f1
+link night film f1 f2
+book ann Guest
+";
+
+#[test]
+fn the_way_to_the_unmet_pair_is_marked_against_arrows_too() {
+    let sheet = sheet(AGAINST);
+    let drawing = is_sound("against", &sheet);
+    let (layout, _) = picture(&drawing);
+    let text = page(&drawing);
+    assert!(text.contains("“night” can't be Item (50)."));
+    // The way is ann, quiz, f1, night: against an arrow, along one and against one. The legend shows the sign.
+    assert_eq!(text.matches(BLAME).count(), 3 + 1);
+    for (from, kind, to) in [(0, 0, 1), (0, 1, 2), (4, 1, 2), (4, 1, 3)] {
+        let is_it = |route: &&Route| (route.arrow.from, route.arrow.kind, route.arrow.to) == (from, kind, to);
+        let route = layout.routes.iter().find(is_it).expect("the link is drawn");
+        let marked = format!("<path d=\"{}\" {BLAME}", round_path(&route.points, 1.8));
+        assert_eq!(text.contains(&marked), to != 3, "{from} {to}");
+        // The head is at the card where the link points.
+        assert!(text.contains(&format!("<path d=\"{}\"", head(&route.points, 2.5))));
+    }
+}
+
+#[test]
+fn what_arrives_stands_in_the_shapes() {
+    let met = AGAINST
+        .replace("night film f1 f2", "night film f1")
+        .replace("card f2\n", "");
+    let drawing = draw(&sheet(&met), Choice::All);
+    let text = page(&drawing);
+    assert!(
+        text.contains("= ^guest[1;]@Item<") && text.contains("= ^film[1;]@Item<"),
+        "{text}"
+    );
+    let booked = draw(&sheet(&met), Choice::Booked);
+    // The other item is asked for by the film.
+    assert!(page(&booked).contains(">night<"));
 }
 
 #[test]

@@ -1,48 +1,131 @@
-//! Fit counts: the intervals of section 8.2 against the bags of section 2.1 written out.
+//! Fit counts: the intervals of section 8.2 against the bags of section 2.1 written out, both ways.
 
-use prep_tools::fit::ready::Ready;
+use prep_tools::fit::ready::{bit, Ready};
 use prep_tools::fit::{self, bags, intervals};
+use prep_tools::generate::arriving::GUESTS;
+use prep_tools::labels::{Label, Labelled, Way};
 use prep_tools::numbers::{Kind, Shape};
 use prep_tools::random::Random;
-use prep_tools::samples;
-use prep_tools::template::{Link, Part};
+use prep_tools::refusal::Refusal;
+use prep_tools::samples::{self, questions};
+use prep_tools::template::{self, Part};
 
 #[test]
 fn intervals_and_enumeration_agree_on_random_samples() {
     let mut random = Random::new(11);
-    let mut yes = 0;
     let samples = 20_000;
+    let (mut yes, mut arriving, mut ignoring) = (0, 0, 0);
     for _ in 0..samples {
-        let question = samples::question(&mut random);
+        let question = questions::question(&mut random);
         let by_intervals = fit::fit(&question.template, question.shape, &question.counts);
         let by_bags = fit::fit_by_bags(&question.template, question.shape, &question.counts);
         assert_eq!(by_intervals, by_bags, "{question:?}");
-        yes += usize::from(by_bags == Ok(true));
+        if by_bags != Ok(true) {
+            continue;
+        }
+        yes += 1;
+        let template = template::read(&question.template).expect("a sample's template is well-formed");
+        let named = template.part(Shape(question.shape)).named(template.kinds);
+        let counts = Labelled::from(question.counts);
+        let arrives = |is_named: bool| {
+            let mut labels = counts.iter().filter(|(_, count)| **count > 0);
+            labels.any(|(label, _)| label.way == Way::Incoming && named[label].is_some() == is_named)
+        };
+        arriving += usize::from(arrives(true));
+        ignoring += usize::from(arrives(false));
     }
-    assert!(
-        yes > samples / 4 && yes < samples * 3 / 4,
-        "the samples are one-sided: {yes} yes"
-    );
+    let told = format!("{yes} fit, {arriving} with arriving links, {ignoring} with ignored ones");
+    assert!(yes > samples / 4 && yes < samples * 3 / 4, "{told}");
+    assert!(arriving > samples / 10 && ignoring > samples / 10, "{told}");
+}
+
+#[test]
+fn intervals_and_enumeration_agree_on_the_fixed_samples() {
+    let mut refused = std::collections::BTreeMap::new();
+    for question in questions::fixed() {
+        let by_intervals = fit::fit(&question.template, question.shape, &question.counts);
+        let by_bags = fit::fit_by_bags(&question.template, question.shape, &question.counts);
+        assert_eq!(by_intervals, by_bags, "{question:?}");
+        if let Err(refusal) = by_bags {
+            *refused.entry(refusal.number).or_insert(0) += 1;
+        }
+    }
+    assert_eq!(refused.keys().copied().collect::<Vec<u16>>(), [41, 42, 43]);
+    assert!(refused.values().all(|count| *count >= 3), "{refused:?}");
+}
+
+#[test]
+fn samples_fit_alike_whichever_way_their_kinds_run() {
+    let turned = samples::turned();
+    for sample in samples::table() {
+        let start = format!("{}-{}-{}-", sample.label, sample.counts[0], sample.counts[1]);
+        for (name, part, counts) in turned.iter().filter(|(name, _, _)| name.starts_with(&start)) {
+            let named = part.named(2);
+            // What arrives and isn't named is ignored, so then the sample says nothing.
+            let is_ignored = |label: Label| label.way == Way::Incoming && named[label].is_none();
+            if !counts
+                .iter()
+                .any(|(label, count)| *count > 0 && is_ignored(label))
+            {
+                assert_eq!(intervals::fits(part, counts), sample.fits, "{name}");
+            }
+            assert_eq!(intervals::fits(part, counts), bags::fits(part, counts), "{name}");
+        }
+    }
+    assert!(turned.len() > 30, "only {} samples", turned.len());
+}
+
+#[test]
+fn items_and_guests() {
+    let fit = |shape, counts: &[u16]| fit::fit(&GUESTS, shape, counts);
+    assert_eq!(fit(1, &[0, 1]), Ok(true));
+    assert_eq!(fit(1, &[0, 0]), Ok(false));
+    assert_eq!(fit(1, &[1, 1]), Ok(false));
+    assert_eq!(fit(0, &[1, 7]), Ok(true));
+    assert_eq!(fit(0, &[1]), Err(Refusal::at(41, 0)));
+    assert_eq!(fit(0, &[1, 8193]), Err(Refusal::at(43, 1)));
 }
 
 #[test]
 fn intervals_and_enumeration_agree_on_all_counts_of_small_parts() {
-    for part in small_parts() {
-        for first in 0..=4 {
-            for second in 0..=3 {
-                let counts = [first, second];
+    let labels = [
+        [Label::outgoing(Kind(0)), Label::outgoing(Kind(1))],
+        [Label::outgoing(Kind(0)), Label::incoming(Kind(0))],
+        [Label::incoming(Kind(0)), Label::incoming(Kind(1))],
+    ];
+    for labels in labels {
+        for part in small_parts(labels) {
+            let ready = Ready::new(&part, 2);
+            for counts in some_counts(labels) {
                 let answer = bags::fits(&part, &counts);
                 assert_eq!(intervals::fits(&part, &counts), answer, "{part:?} {counts:?}");
-                let present = u64::from(first > 0) | u64::from(second > 0) << 1;
-                let ready = Ready::new(&part, 2);
+                let present = counts.iter().filter(|(_, count)| **count > 0);
+                let present = present.fold(0, |bits, (label, _)| bits | bit(label));
                 assert_eq!(ready.fits(&counts, present), answer, "{part:?} {counts:?}");
             }
         }
     }
 }
 
+/// Counts of two labels, alone and with one more link of a kind that starts or arrives and isn't one of the two.
+fn some_counts([first, second]: [Label; 2]) -> Vec<Labelled<u16>> {
+    let mut all = Vec::new();
+    for number in 0..20 {
+        let mut counts = Labelled::new(2, 0);
+        (counts[first], counts[second]) = (number % 5, number / 5);
+        all.push(counts.clone());
+        let others = Label::all(2).filter(|label| number % 4 == 0 && *label != first && *label != second);
+        for other in others {
+            let mut more = counts.clone();
+            more[other] = 1;
+            all.push(more);
+        }
+    }
+    all
+}
+
 /// Every wrap of every wrap of a group of two wrapped links, for some bounds.
-fn small_parts() -> Vec<Part> {
+fn small_parts([first, second]: [Label; 2]) -> Vec<Part> {
     let bounds = [
         (0, Some(0)),
         (0, Some(1)),
@@ -55,11 +138,11 @@ fn small_parts() -> Vec<Part> {
     for one in bounds {
         for two in &bounds[1..5] {
             for wrap in 0..4 {
-                let left = wrapped(wrap, link(0, one));
+                let (left, right) = (wrapped(wrap, link(first, one)), link(second, *two));
                 let groups = [
-                    Part::Choice(vec![left.clone(), link(1, *two)]),
-                    Part::All(vec![left.clone(), link(1, *two)]),
-                    Part::Choice(vec![Part::Nothing, left, link(1, *two)]),
+                    Part::Choice(vec![left.clone(), right.clone()]),
+                    Part::All(vec![left.clone(), right.clone()]),
+                    Part::Choice(vec![Part::Nothing, left, right]),
                 ];
                 for group in groups {
                     for outer in 0..16 {
@@ -81,25 +164,27 @@ fn wrapped(wrap: usize, part: Part) -> Part {
     }
 }
 
-fn link(kind: u16, (low, high): (u16, Option<u16>)) -> Part {
-    Part::Link(Link {
-        kind: Kind(kind),
-        shape: Shape(0),
-        low,
-        high,
-    })
+fn link(label: Label, (low, high): (u16, Option<u16>)) -> Part {
+    Part::link(label, Shape(0), low, high)
 }
 
 #[test]
 fn large_counts_fit_by_intervals() {
-    let fits = |low, high, count| intervals::fits(&link(0, (low, high)), &[count]);
-    assert!(fits(8192, Some(8192), 8192));
-    assert!(!fits(8192, Some(8192), 8191));
-    assert!(fits(0, None, 8192));
-    assert!(fits(1, None, 8192));
-    assert!(!fits(0, Some(8191), 8192));
-    let star = |low, high, count| intervals::fits(&wrapped(1, link(0, (low, high))), &[count]);
-    assert!(star(4096, Some(4096), 8192));
-    assert!(!star(4097, Some(8191), 8192));
-    assert!(star(4095, Some(4096), 8191));
+    for label in Label::all(1) {
+        let fits = |part: Part, count| {
+            let mut counts = Labelled::new(1, 0);
+            counts[label] = count;
+            intervals::fits(&part, &counts)
+        };
+        let one = |low, high, count| fits(link(label, (low, high)), count);
+        assert!(one(8192, Some(8192), 8192));
+        assert!(!one(8192, Some(8192), 8191));
+        assert!(one(0, None, 8192));
+        assert!(one(1, None, 8192));
+        assert!(!one(0, Some(8191), 8192));
+        let star = |low, high, count| fits(wrapped(1, link(label, (low, high))), count);
+        assert!(star(4096, Some(4096), 8192));
+        assert!(!star(4097, Some(8191), 8192));
+        assert!(star(4095, Some(4096), 8191));
+    }
 }

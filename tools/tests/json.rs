@@ -127,7 +127,8 @@ fn a_sheet_that_is_not_met() {
     let sheet = run("x.txt", &source).expect("the text is a sheet");
     let written = machine::outcome(&sheet, "x.txt").to_string();
     assert!(is_json(&written));
-    let lacks = "\"lacks\":[{\"kind\":\"guest\",\"low\":2,\"high\":2,\"there\":1}]";
+    let lacks =
+        "\"lacks\":[{\"kind\":\"guest\",\"direction\":\"outgoing\",\"low\":2,\"high\":2,\"there\":1}]";
     let unmet = format!(
         "\"outcome\":\"unmet\",\"title\":\"Say \\\"hello\\\"\",\"kinds\":[\"guest\"],\
          \"shapes\":[\"Item\",\"Guest\"],\"links\":1,\
@@ -141,6 +142,29 @@ fn a_sheet_that_is_not_met() {
          \"reason\":\"2 guest wanted, 1 there\",{lacks}}}}},"
     );
     assert!(written.contains(&unmet), "{written}");
+}
+
+#[test]
+fn what_arrives_is_told_by_its_direction() {
+    let source = SHEET
+        .replace("guest[1;2]@Guest", "guest[1;1]@Guest")
+        .replace("Guest = nothing", "Guest = ^guest[2;]@Item")
+        .replace(
+            "book quiz Item",
+            "book quiz Item\ncard bob\nlink bob guest ann\nlink bob guest bob",
+        );
+    let sheet = run("x.txt", &source).expect("the text is a sheet");
+    let written = machine::outcome(&sheet, "x.txt").to_string();
+    assert!(is_json(&written));
+    for told in [
+        "\"way\":[{\"card\":0,\"card_name\":\"quiz\",\"shape\":0,\"shape_name\":\"Item\",\
+         \"kind\":\"guest\",\"direction\":\"outgoing\"},\
+         {\"card\":1,\"card_name\":\"ann\",\"shape\":1,\"shape_name\":\"Guest\",\
+         \"kind\":\"guest\",\"direction\":\"incoming\"}]",
+        "{\"kind\":\"guest\",\"direction\":\"incoming\",\"low\":2,\"high\":null,\"there\":1}",
+    ] {
+        assert!(written.contains(told), "{written}");
+    }
 }
 
 #[test]

@@ -3,13 +3,14 @@
 
 use prep_tools::generate::judging::{grids, samples};
 use prep_tools::generate::special::{document, DOCUMENT_SCRIPT, DOCUMENT_TEMPLATE};
-use prep_tools::generate::{damage, derived, loose, Scale, SMALL, TINY};
+use prep_tools::generate::{self, damage, Scale, SMALL, TINY};
+use prep_tools::labels::{Label, Way};
 use prep_tools::page::examples::{self, Operation};
 use prep_tools::random::Random;
 use prep_tools::refusal::Refusal;
 use prep_tools::sheet::Files;
 use prep_tools::typing::judge::{answer, can_be_tried, judge, judge_by_choices, Judged};
-use prep_tools::typing::met::{holds, lies_below, met_by_choices};
+use prep_tools::typing::met::{chosen_for, holds, lies_below, met_by_choices};
 use prep_tools::typing::{bookings, closure, links, Grid, Pair, Setting, Smallest};
 use std::collections::BTreeMap;
 use std::fs;
@@ -23,7 +24,7 @@ const TINIEST: Scale = Scale {
     name: "tiniest",
     kinds: 2,
     shapes: 3,
-    kinds_in_shape: 2,
+    labels_in_shape: 2,
     cards: 4,
     links: 8,
     bookings: 3,
@@ -31,10 +32,7 @@ const TINIEST: Scale = Scale {
 
 /// A random sheet that is well-formed.
 fn sheet(random: &mut Random, scale: Scale) -> (Files, Setting, Vec<Pair>) {
-    let files = match random.chance(1, 3) {
-        true => loose(random, scale),
-        false => derived(random, scale),
-    };
+    let files = generate::any(random, scale);
     let setting = Setting::read(&files.template, &files.script).expect("a generated sheet is well-formed");
     let booked = bookings::read(&setting, &files.bookings).expect("generated bookings are well-formed");
     (files, setting, booked)
@@ -79,8 +77,8 @@ fn the_examples_of_the_page_are_the_samples() {
 #[test]
 fn both_methods_agree() {
     let mut random = Random::new(71);
-    let (mut accepted, mut not_met, mut tried, mut left) = (0, 0, 0, 0);
-    for number in 0..3000 {
+    let (mut accepted, mut not_met, mut tried, mut left, mut arriving) = (0, 0, 0, 0, 0);
+    for number in 0..4000 {
         let scale = if number % 4 == 0 { SMALL } else { TINY };
         let (files, setting, booked) = sheet(&mut random, scale);
         let (_, grid) = grids::grid(&mut random, &setting, &booked);
@@ -90,15 +88,19 @@ fn both_methods_agree() {
             Err(_) => continue,
         }
         for pair in setting.pairs().filter(|pair| grid[setting.place(*pair)] == 1) {
-            match can_be_tried(&setting, &grid, pair.0) {
+            match can_be_tried(&setting, &grid, pair) {
                 true => tried += 1,
                 false => left += 1,
             }
+            let ends = chosen_for(&setting, pair);
+            arriving += usize::from(ends.iter().any(|end| end.label.way == Way::Incoming));
         }
     }
-    let told = format!("{accepted} accepted, {not_met} not met; {tried} pairs tried, {left} not");
+    let told = format!(
+        "{accepted} accepted, {not_met} not met; {tried} pairs tried, {left} not; {arriving} arriving"
+    );
     assert!(accepted > 700 && not_met > 700, "{told}");
-    assert!(tried > 10 * left && tried > 10_000, "{told}");
+    assert!(tried > 8 * left && tried > 10_000 && arriving > 3000, "{told}");
 }
 
 /// All grids of this many bytes 0 or 1.
@@ -163,6 +165,17 @@ fn first_booking(booked: &[Pair], pair: Pair) -> Option<usize> {
     booked.iter().position(|other| *other == pair)
 }
 
+/// Whether a pair asks for another one over some link, along it or against it.
+fn asks_for(setting: &Setting, (card, shape): Pair, (far, needed): Pair) -> bool {
+    let named = setting.template.part(shape).named(setting.template.kinds);
+    setting.script.links.iter().any(|link| {
+        let along = (link.from, link.to) == (card, far) && named[Label::outgoing(link.kind)] == Some(needed);
+        let against =
+            (link.to, link.from) == (card, far) && named[Label::incoming(link.kind)] == Some(needed);
+        along || against
+    })
+}
+
 /// Each change of an accepted grid that is one byte or one pair away, and what must be said about it.
 fn changes(setting: &Setting, booked: &[Pair], grid: &[u8]) -> Vec<(Grid, Result<Judged, Refusal>)> {
     let mut changes = Vec::new();
@@ -185,15 +198,9 @@ fn changes(setting: &Setting, booked: &[Pair], grid: &[u8]) -> Vec<(Grid, Result
             continue;
         }
         let less = with(0);
-        let named = setting.template.named();
-        let asks = |(card, shape): &Pair| {
-            let links = setting.script.links_of(*card).iter();
-            let has = less[setting.place((*card, *shape))] == 1;
-            has && links
-                .filter_map(|link| Some((link.to, named[shape.index()][link.kind.index()]?)))
-                .any(|far| far == pair)
-        };
-        let asking = setting.pairs().find(asks);
+        let asking = setting
+            .pairs()
+            .find(|other| less[setting.place(*other)] == 1 && asks_for(setting, *other, pair));
         let said = match (asking, first_booking(booked, pair)) {
             (Some((card, shape)), _) => Ok(Judged::NotMet(card, shape)),
             (None, Some(booking)) => Err(Refusal::at(63, 1 + 2 * booking)),
@@ -439,6 +446,59 @@ fn the_command_counts_bookings_and_far_cards() {
     assert!(said.contains("a sound typing that holds all 2 bookings\n  it has 7 pairs; "));
 }
 
+/// Two items that point at a guest, who asks for both.
+const ARRIVING: &str = "\
+kinds: guest
+shape Item = guest[1;1]@Guest
+shape Guest = ^guest[2;]@Item
+card quiz \"The quiz\"
+card night
+card ann
+link quiz guest ann
+link night guest ann
+book ann Guest
+";
+
+#[test]
+fn the_command_tells_which_card_points_at_another() {
+    let desk = Desk::new("arriving", ARRIVING);
+    for (grid, told) in [
+        (
+            [0, 0, 0, 0, 0, 1],
+            "sheet.txt:6:6: ann isn't a Guest under the grid: \"The quiz\", which points at it by guest, isn't an \
+             Item; night, which points at it by guest, isn't an Item\n  refused 62 2 1: ",
+        ),
+        (
+            [1, 0, 1, 0, 0, 0],
+            "sheet.txt:4:6: The quiz isn't an Item under the grid: its guest ann isn't a Guest\n  refused 62 0 0: ",
+        ),
+        (
+            [1, 1, 1, 0, 0, 1],
+            "sheet.txt:4:6: The quiz can't be a Guest: at least 2 arriving guest links wanted, 0 there; \
+             no guest wanted, 1 there\n  refused 62 0 1: ",
+        ),
+        (
+            [0, 0, 0, 0, 0, 0],
+            "sheet.txt:9:6: refused 63 1: a booking isn't held by the grid\n",
+        ),
+        (
+            [1, 0, 1, 0, 0, 1],
+            "sheet.txt: the grid is accepted: a sound typing that holds the one booking\n",
+        ),
+    ] {
+        let (said, _, _) = desk.judge("sheet.txt", &grid);
+        assert!(said.starts_with(told), "{said}");
+    }
+    let (said, _, _) = desk.run(&["explain", "62", "2", "1", "sheet.txt"]);
+    assert!(
+        said.contains(
+            "  \"The quiz\", which points at it by guest, must be an Item; night, which points at it by guest, \
+             must be an Item; `judge FILE GRID` tells"
+        ),
+        "{said}"
+    );
+}
+
 #[test]
 fn a_file_that_is_no_sheet_cannot_be_judged() {
     let desk = Desk::new("no-sheet", &TEXT.replace("[1;1]", "[2;1]"));
@@ -475,7 +535,7 @@ fn a_refusal_of_a_grid_is_explained_without_it() {
     );
     assert_eq!(
         explained(&["62", "2", "1"]),
-        "sheet.txt:6:6: two has no links and can be a Second under every grid, so 62 isn't about it\n"
+        "sheet.txt:6:6: two needs no other card and can be a Second under every grid, so 62 isn't about it\n"
     );
     let pair = explained(&["62", "1", "0"]);
     assert!(

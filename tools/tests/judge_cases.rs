@@ -3,10 +3,14 @@
 
 use prep_tools::cases;
 use prep_tools::generate::judging::{self, JudgeCase};
+use prep_tools::labels::{Label, Way};
+use prep_tools::numbers::{Card, Shape};
 use prep_tools::sheet::Files;
+use prep_tools::template::Part;
+use prep_tools::text::reasons::{asked_for, own_misfit};
 use prep_tools::typing::judge::{answer, judge};
-use prep_tools::typing::{bookings, Smallest};
-use prep_tools::typing::{closure, links, Setting};
+use prep_tools::typing::met::chosen_for;
+use prep_tools::typing::{bookings, closure, links, Pair, Setting, Smallest};
 use std::collections::BTreeMap;
 use std::env;
 use std::fs;
@@ -155,6 +159,31 @@ fn many_grids_are_accepted_that_are_neither_typing() {
     assert!(top > 50 && bottom > 50 && neither > 50, "{told}");
 }
 
+/// Cases at the limits, and what is said about them.
+const LIMITS: [(&str, &str); 21] = [
+    ("full-accepted", "accepted"),
+    ("full-last-pair", "refused 62 1023 31"),
+    ("full-both-ways-accepted", "accepted"),
+    ("full-both-ways-last-pair", "refused 62 1023 31"),
+    ("last-byte", "refused 61 32767"),
+    ("last-byte-missing", "refused 40 0"),
+    ("booked-each-last-card", "refused 63 2047"),
+    ("booked-backwards-last-card", "refused 63 1"),
+    ("booked-same-last-card", "refused 63 1"),
+    ("booked-each-held", "accepted"),
+    ("booked-one-more-held", "refused 31 0"),
+    ("ring-1024", "accepted"),
+    ("ring-1024-last-card", "refused 62 1022 0"),
+    ("chain-1024", "refused 62 1023 0"),
+    ("back-ring-1024", "accepted"),
+    ("back-ring-1024-last-card", "refused 62 0 0"),
+    ("back-chain-1024", "refused 62 0 0"),
+    ("longest-grid", "refused 40 0"),
+    ("longest-file", "refused 30 0"),
+    ("template-4096", "accepted"),
+    ("template-4097", "refused 1 0"),
+];
+
 #[test]
 fn the_limits_are_reached() {
     let fixed = judging::fixed();
@@ -162,27 +191,10 @@ fn the_limits_are_reached() {
         let case = fixed.iter().find(|case| case.name == name);
         case.expect("there is such a case")
     };
-    for (name, answer) in [
-        ("full-accepted", "accepted"),
-        ("full-last-pair", "refused 62 1023 31"),
-        ("last-byte", "refused 61 32767"),
-        ("last-byte-missing", "refused 40 0"),
-        ("booked-each-last-card", "refused 63 2047"),
-        ("booked-backwards-last-card", "refused 63 1"),
-        ("booked-same-last-card", "refused 63 1"),
-        ("booked-each-held", "accepted"),
-        ("booked-one-more-held", "refused 31 0"),
-        ("ring-1024", "accepted"),
-        ("ring-1024-last-card", "refused 62 1022 0"),
-        ("chain-1024", "refused 62 1023 0"),
-        ("longest-grid", "refused 40 0"),
-        ("longest-file", "refused 30 0"),
-        ("template-4096", "accepted"),
-        ("template-4097", "refused 1 0"),
-    ] {
+    for (name, answer) in LIMITS {
         assert_eq!(named(name).answer(), answer, "{name}");
     }
-    for name in ["full-accepted", "full-last-pair"] {
+    for name in ["full-accepted", "full-last-pair", "full-both-ways-accepted"] {
         let Files {
             template,
             script,
@@ -190,6 +202,64 @@ fn the_limits_are_reached() {
         } = &named(name).files;
         assert_eq!((template.len(), &template[..2]), (4096, &[64, 32][..]));
         assert_eq!((&script[..2], bookings[0]), (&[1024, 8192][..], 1024));
+    }
+}
+
+/// What a case shows about links that arrive: an accepted grid that has a pair with one, or a pair that isn't met
+/// because of what arrives, because of the card at its start, or because of the card at which it points.
+fn shown(case: &JudgeCase) -> Option<&'static str> {
+    let line = case.answer();
+    let setting = Setting::read(&case.files.template, &case.files.script).ok()?;
+    if line == "accepted" {
+        let mut pairs = setting
+            .pairs()
+            .filter(|pair| case.grid[setting.place(*pair)] == 1);
+        let arrives = |pair: Pair| {
+            chosen_for(&setting, pair)
+                .iter()
+                .any(|end| end.label.way == Way::Incoming)
+        };
+        return pairs.any(arrives).then_some("accepted");
+    }
+    let place = line.strip_prefix("refused 62 ")?;
+    let (card, shape) = place.split_once(' ')?;
+    let pair = (Card(card.parse().ok()?), Shape(shape.parse().ok()?));
+    let misfit = own_misfit(&setting, pair);
+    let is_counted = misfit.is_some();
+    let labels = match misfit {
+        Some(misfit) => misfit.lacks.iter().map(|lack| lack.label).collect(),
+        None => missing(&setting, &case.grid, pair),
+    };
+    let mut named = setting.template.parts.iter().flat_map(Part::links);
+    let names_arriving = named.any(|link| link.label.way == Way::Incoming);
+    match (is_counted, labels.iter().map(|label| label.way).max()?) {
+        (true, Way::Incoming) => Some("counts"),
+        (false, Way::Incoming) => Some("the start"),
+        (false, Way::Outgoing) if names_arriving => Some("the target"),
+        _ => None,
+    }
+}
+
+/// The labels of what a pair needs and a grid lacks.
+fn missing(setting: &Setting, grid: &[u8], pair: Pair) -> Vec<Label> {
+    let asked = asked_for(setting, pair).into_iter();
+    asked
+        .filter(|(_, far)| grid[setting.place(*far)] == 0)
+        .map(|(label, _)| label)
+        .collect()
+}
+
+#[test]
+fn links_that_arrive_come_up_in_every_answer() {
+    let fixed = judging::fixed();
+    let random: Vec<JudgeCase> = judging::cases(35, fixed.len() + 1200).skip(fixed.len()).collect();
+    for (name, cases, least) in [("fixed", fixed, 10), ("random", random, 10)] {
+        let mut tally: BTreeMap<&str, usize> = BTreeMap::new();
+        for what in cases.iter().filter_map(shown) {
+            *tally.entry(what).or_default() += 1;
+        }
+        assert_eq!(tally.len(), 4, "{name}: {tally:?}");
+        assert!(tally.values().all(|count| *count >= least), "{name}: {tally:?}");
     }
 }
 
@@ -239,6 +309,6 @@ fn the_stored_cases_are_those_of_the_command() {
         assert_eq!(quick(files, grid), line, "{files:?}");
     }
     // tools/README.md names this seed and count.
-    let (again, lines) = written("stored", 7, 480);
+    let (again, lines) = written("stored", 7, 680);
     assert!(again == inputs && lines == answers, "the stored cases are older");
 }

@@ -1,6 +1,7 @@
 //! The page of the formats: every example on it is right, and a page that is wrong is noticed.
 
-use prep_tools::page::{self, answers, examples, Outcome};
+use prep_tools::page::examples::{self, Operation};
+use prep_tools::page::{self, answers, Outcome};
 use prep_tools::samples;
 use std::collections::BTreeSet;
 use std::env;
@@ -35,7 +36,7 @@ fn every_example_of_the_page_is_right() {
     let (outcome, told) = checked(&the_page());
     let outcome = outcome.expect("the page can be read");
     assert_eq!(outcome.differ, 0, "{told}");
-    assert!(outcome.checked >= 130, "{told}");
+    assert!(outcome.checked >= 200, "{told}");
 }
 
 #[test]
@@ -52,6 +53,46 @@ fn the_page_has_an_example_of_every_refusal() {
         .chain([50])
         .chain(60..=63);
     assert_eq!(shown, listed.map(|number: u16| number.to_string()).collect());
+}
+
+#[test]
+fn the_page_shows_links_that_arrive() {
+    let examples = examples::read(&the_page()).expect("the page can be read");
+    let arriving = examples
+        .iter()
+        .filter(|example| example.question.template.contains(&320));
+    let shown: Vec<Operation> = arriving.map(|example| example.question.operation).collect();
+    for operation in [
+        Operation::Template,
+        Operation::Fit,
+        Operation::Sheet,
+        Operation::Closure,
+        Operation::Met,
+        Operation::Judge,
+    ] {
+        assert!(shown.contains(&operation), "{operation:?}");
+    }
+}
+
+#[test]
+fn a_printer_is_shown_counts_both_ways() {
+    let head = "| template | shape | counts | answer |\n|---|---|---|---|\n";
+    for (row, wrong) in [
+        ("| `1 1 4 320 0 1 2` | 0 | `0 2` | `yes` |\n", 0),
+        ("| `1 1 4 320 0 1 2` | 0 | `0 3` | `no` |\n", 0),
+        ("| `1 1 4 320 0 1 2` | 0 | `1 2` | `no` |\n", 0),
+        ("| `2 1 4 320 0 1 2` | 0 | `0 0 2 9` | `yes` |\n", 0),
+        ("| `64 1 1 0` | 0 | `0*64 1*64` | `yes` |\n", 0),
+        ("| `1 1 4 320 0 1 2` | 0 | `0 3` | `yes` |\n", 1),
+    ] {
+        let mut told = Vec::new();
+        let printer = format!("{PROGRAM} print -");
+        let outcome = page::check("page", &format!("{head}{row}"), Some(&printer), &mut told);
+        let outcome = outcome.expect("the page can be read");
+        assert_eq!((outcome.shown, outcome.differ), (1, wrong), "{row}");
+        let told = String::from_utf8_lossy(&told);
+        assert_eq!(told.contains("the printer says `no`"), wrong == 1, "{told}");
+    }
 }
 
 #[test]
@@ -90,7 +131,7 @@ fn the_command_shows_the_page_to_a_printer() {
     let shown: usize = shown
         .and_then(|word| word.parse().ok())
         .expect("a number is told");
-    assert!(shown >= 90, "{text}");
+    assert!(shown >= 130, "{text}");
 }
 
 #[test]
@@ -103,7 +144,10 @@ fn an_option_that_is_not_known_is_an_error() {
 fn a_printer_that_prints_something_else_is_noticed() {
     let (output, text) = run(&["page", PAGE, "--printer", &format!("{PROGRAM} samples")]);
     assert_eq!(output.status.code(), Some(1));
-    assert!(text.contains("the printer says `P1 nothing: 0,0 yes"), "{text}");
+    assert!(
+        text.contains("the printer says `P1 nothing: 0,0,0,0 yes"),
+        "{text}"
+    );
 }
 
 #[test]

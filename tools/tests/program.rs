@@ -1,7 +1,8 @@
 //! The program: its commands, run as a user runs them.
 
+use prep_tools::fit::lines::answer;
 use prep_tools::generate::special::document;
-use prep_tools::samples;
+use prep_tools::samples::questions;
 use std::env;
 use std::fs;
 use std::path::PathBuf;
@@ -45,21 +46,34 @@ fn print_prints_the_sheet() {
 fn samples_prints_the_table() {
     let printed = text(&run(&["samples"]));
     assert_eq!(printed.lines().count(), 18);
-    assert!(printed.contains("P10 plus a[0;1]: 0,0 yes\n"));
-    assert!(printed.contains("P9 choice(a[1;1], b[1;1]): 1,1 no\n"));
+    assert!(printed.contains("P10 plus a[0;1]: 0,0,0,0 yes\n"));
+    assert!(printed.contains("P9 choice(a[1;1], b[1;1]): 1,1,0,0 no\n"));
 }
 
 #[test]
 fn fit_samples_prints_a_line_each() {
-    let printed = text(&run(&["fit-samples", "4", "50"]));
-    assert_eq!(printed.lines().count(), 50);
-    assert_eq!(Ok(printed.clone()), samples::questions_text(4, 50));
-    for line in printed.lines() {
+    let fixed = questions::fixed().len();
+    let count = fixed + 50;
+    let printed = text(&run(&["fit-samples", "4", &count.to_string()]));
+    assert_eq!(printed.lines().count(), count);
+    assert_eq!(printed, questions::text(4, count));
+    for (number, line) in printed.lines().enumerate() {
         let fields: Vec<&str> = line.split(" | ").collect();
+        let is_answer = ["yes", "no"].contains(&fields[3]);
+        let is_refused = number < fixed && fields[3].starts_with("refused 4");
         assert!(
-            fields.len() == 4 && fields[0].starts_with("T ") && ["yes", "no"].contains(&fields[3]),
+            fields.len() == 4 && fields[0].starts_with("T ") && (is_answer || is_refused),
             "{line}"
         );
+    }
+}
+
+#[test]
+fn fit_answers_the_lines_that_fit_samples_prints() {
+    let lines = questions::text(5, questions::fixed().len() + 100);
+    for line in lines.lines() {
+        let (asked, _) = line.rsplit_once(" | ").expect("a line has an answer");
+        assert_eq!(answer(asked), Ok(line.to_string()));
     }
 }
 
@@ -113,6 +127,22 @@ fn compare_keeps_the_inputs_that_differ() {
         let file = line.split(": ").next().expect("a file is named");
         fs::remove_file(file).expect("the file can be removed");
     }
+}
+
+#[test]
+fn longest_writes_sheets_that_strike_one_pair_a_round() {
+    let folder = folder("longest");
+    let file = folder.join("sheet");
+    for (words, start) in [
+        (&["longest", "7", "3"][..], "largest 22 21 7\n"),
+        (&["longest", "7", "3", "--back"], "largest 22 21 0\ncard 0: 3\n"),
+    ] {
+        fs::write(&file, run(words).stdout).expect("the file can be written");
+        let printed = text(&run(&["print", &file.to_string_lossy()]));
+        assert!(printed.starts_with(start), "{printed}");
+    }
+    assert!(error(&["longest", "7", "32", "--back"]).contains("the shapes 1 to 31"));
+    fs::remove_dir_all(folder).expect("the folder can be removed");
 }
 
 #[test]

@@ -2,9 +2,12 @@
 
 use prep_tools::fit::intervals::fits;
 use prep_tools::generate::parts::{small_bounds, PartMaker};
-use prep_tools::generate::{derived, loose, TINY};
+use prep_tools::generate::{self, TINY};
+use prep_tools::labels::{Label, Labelled, Way};
 use prep_tools::numbers::Kind;
 use prep_tools::random::Random;
+use prep_tools::script::ScriptLink;
+use prep_tools::template::Part;
 use prep_tools::text::check::{run, Sheet};
 use prep_tools::text::load::load_sheet;
 use prep_tools::text::misfit::misfit;
@@ -13,62 +16,88 @@ use prep_tools::text::report::bare;
 use prep_tools::text::roots::Roots;
 use prep_tools::text::sentences::cannot;
 
+/// Labels of two kinds, one of which starts and both of which arrive.
+const LABELS: [Label; 3] = [
+    Label {
+        way: Way::Outgoing,
+        kind: Kind(0),
+    },
+    Label {
+        way: Way::Incoming,
+        kind: Kind(0),
+    },
+    Label {
+        way: Way::Incoming,
+        kind: Kind(1),
+    },
+];
+
+/// The counts of these labels; no other link is there.
+fn counted(numbers: [u16; 3]) -> Labelled<u16> {
+    let mut counts = Labelled::new(2, 0);
+    for (label, number) in LABELS.into_iter().zip(numbers) {
+        counts[label] = number;
+    }
+    counts
+}
+
 /// How many links must be added or taken away at least, by trying all counts up to `most`.
-fn least_distance(part: &prep_tools::template::Part, counts: &[u16], most: u16) -> Option<u64> {
-    let kinds = counts.len() as u32;
-    let numbers = (0..(u32::from(most) + 1).pow(kinds)).map(|code| {
-        let digit = |kind: u32| (code / (u32::from(most) + 1).pow(kind) % (u32::from(most) + 1)) as u16;
-        (0..kinds).map(digit).collect::<Vec<u16>>()
-    });
-    let distance = |other: &Vec<u16>| -> u64 {
+fn least_distance(part: &Part, counts: [u16; 3], most: u16) -> Option<u64> {
+    let base = most + 1;
+    let numbers = (0..base.pow(3)).map(|code| [code % base, code / base % base, code / base / base]);
+    let distance = |other: [u16; 3]| -> u64 {
         let pairs = other.iter().zip(counts);
-        pairs.map(|(one, two)| u64::from(one.abs_diff(*two))).sum()
+        pairs.map(|(one, two)| u64::from(one.abs_diff(two))).sum()
     };
     numbers
-        .filter(|other| fits(part, other))
-        .map(|other| distance(&other))
+        .filter(|other| fits(part, &counted(*other)))
+        .map(distance)
         .min()
 }
 
 #[test]
 fn a_misfit_is_told_by_the_nearest_counts_that_fit() {
     let mut random = Random::new(21);
-    let kinds = [Kind(0), Kind(1), Kind(2)];
-    let mut missed = 0;
+    let (mut missed, mut arriving) = (0, 0);
     for _ in 0..3000 {
+        let mut labels = LABELS;
+        random.shuffle(&mut labels);
         let mut maker = PartMaker {
             random: &mut random,
             shapes: 1,
             bounds: small_bounds,
         };
-        let part = maker.part(&kinds, 4);
-        let counts: Vec<u16> = kinds.iter().map(|_| random.word(0, 4)).collect();
+        let part = maker.part(&labels, 4);
+        let numbers = [0; 3].map(|_: u16| random.word(0, 4));
+        let counts = counted(numbers);
         let told = misfit(&part, &counts);
         assert_eq!(told.is_none(), fits(&part, &counts), "{part:?} {counts:?}");
-        let distance = told.map_or(0, |misfit| misfit.distance());
+        let distance = told.as_ref().map_or(0, |misfit| misfit.distance());
         missed += u32::from(distance > 0);
+        let lacks = told.map_or(Vec::new(), |misfit| misfit.lacks);
+        arriving += u32::from(lacks.iter().any(|lack| lack.label.way == Way::Incoming));
         // Nearer counts than those told lie within this many links of the card's.
         let most = 4 + distance.min(7) as u16;
-        let least = least_distance(&part, &counts, most);
+        let least = least_distance(&part, numbers, most);
         if distance <= 7 {
             assert_eq!(Some(distance), least, "{part:?} {counts:?}");
         } else {
             assert!(least.is_none_or(|least| least > 7), "{part:?} {counts:?}");
         }
     }
-    assert!(missed > 500, "only {missed} counts don't fit");
+    let told = format!("{missed} counts don't fit, {arriving} of them by what arrives");
+    assert!(missed > 500 && arriving > 300, "{told}");
 }
 
 #[test]
 fn each_pair_that_is_struck_has_a_root() {
     let mut random = Random::new(22);
-    for number in 0..150 {
-        let files = match number % 2 {
-            0 => loose(&mut random, TINY),
-            _ => derived(&mut random, TINY),
-        };
+    let mut steps = [0, 0];
+    for _ in 0..300 {
+        let files = generate::any(&mut random, TINY);
         let sheet = load_sheet("x", &files.bytes()).expect("a generated sheet is well-formed");
         let roots = Roots::new(&sheet.setting);
+        let named = sheet.setting.template.named();
         let not_met = all_not_met(&sheet, &roots);
         assert_eq!(not_met.first().map(|reason| reason.pair), sheet.not_met());
         for pair in sheet.setting.pairs() {
@@ -77,37 +106,40 @@ fn each_pair_that_is_struck_has_a_root() {
             assert_eq!(reason.is_some(), struck);
             let Some(reason) = reason else { continue };
             assert!(!reason.misfit.lacks.is_empty() && reason.distance > 0);
-            let named = |shape| {
-                sheet
-                    .setting
-                    .template
-                    .part(shape)
-                    .named(sheet.setting.template.kinds)
-            };
             let mut at = pair;
-            for (kind, next) in &reason.steps {
-                let links = sheet.setting.script.links_of(at.0);
-                assert!(links.iter().any(|link| (link.kind, link.to) == (*kind, next.0)));
-                assert_eq!(named(at.1)[kind.index()], Some(next.1));
+            for (label, next) in &reason.steps {
+                let (from, to) = match label.way {
+                    Way::Outgoing => (at.0, next.0),
+                    Way::Incoming => (next.0, at.0),
+                };
+                let is_step = |link: &ScriptLink| (link.from, link.kind, link.to) == (from, label.kind, to);
+                assert!(sheet.setting.script.links.iter().any(is_step));
+                assert_eq!(named[at.1.index()][*label], Some(next.1));
                 assert!(!sheet.has(&sheet.both.largest.1, *next));
+                steps[label.way as usize] += 1;
                 at = *next;
             }
             let counts = sheet.setting.script.counts_of(at.0, sheet.setting.template.kinds);
             assert!(!fits(sheet.setting.template.part(at.1), &counts));
         }
     }
+    assert!(steps.iter().all(|count| *count > 30), "{steps:?}");
 }
 
-/// A card x with one link of each of these kinds to the card n, which is a None, and its one shape.
+/// A card x with one link for each of these letters to a card n, which is a None, and its one shape. A letter in upper
+/// case is a link that arrives from there.
 fn unfit(part: &str, links: &str) -> String {
+    let any = "all(a[0;]@Item, b[0;]@Item, c[0;]@Item)";
     let mut source =
-        format!("kinds: a b c\nshape None = nothing\nshape Item = {part}\ncard n1\ncard n2\ncard n3\n");
+        format!("kinds: a b c\nshape None = {any}\nshape Item = {part}\ncard n1\ncard n2\ncard n3\n");
     source += "card x \"The \\\"x\\\"\"\nbook x Item\n";
     for kind in ["a", "b", "c"] {
-        let targets = ["n1", "n2", "n3"];
-        let count = links.matches(kind).count();
-        if count > 0 {
-            source += &format!("link x {kind} {}\n", targets[..count].join(" "));
+        let cards = ["n1", "n2", "n3"];
+        for card in &cards[..links.matches(kind).count()] {
+            source += &format!("link x {kind} {card}\n");
+        }
+        for card in &cards[..links.matches(&kind.to_uppercase()).count()] {
+            source += &format!("link {card} {kind} x\n");
         }
     }
     let sheet = run("x.txt", &source).expect("the text is a sheet");
@@ -154,6 +186,29 @@ const SENTENCES: &[(&str, &str, &str)] = &[
         "b",
         "no b wanted, 1 there (without all(a[3;3]@None, b[1;1]@None))",
     ),
+    ("^a[1;1]@None", "", "1 arriving a link wanted, 0 there"),
+    ("^a[2;2]@None", "A", "2 arriving a links wanted, 1 there"),
+    ("^a[1;]@None", "", "at least 1 arriving a link wanted, 0 there"),
+    ("^a[2;]@None", "A", "at least 2 arriving a links wanted, 1 there"),
+    ("^a[0;1]@None", "AA", "at most 1 arriving a link wanted, 2 there"),
+    ("^a[1;3]@None", "", "1 to 3 arriving a links wanted, 0 there"),
+    ("^a[0;0]@None", "A", "no arriving a links wanted, 1 there"),
+    ("^a[1;1]@None", "aA", "no a wanted, 1 there"),
+    (
+        "all(a[1;1]@None, ^a[1;1]@None)",
+        "BB",
+        "1 a wanted, 0 there; 1 arriving a link wanted, 0 there",
+    ),
+    (
+        "choice(a[1;1]@None, all(b[1;1]@None, ^c[1;1]@None))",
+        "b",
+        "1 arriving c link wanted, 0 there (nearest choice: all(b[1;1]@None, ^c[1;1]@None))",
+    ),
+    (
+        "all(a[1;1]@None, ^b[1;1]@None)*",
+        "aaB",
+        "2 arriving b links wanted, 1 there (all(a[1;1]@None, ^b[1;1]@None) 2 times)",
+    ),
 ];
 
 #[test]
@@ -162,6 +217,66 @@ fn sentences_say_what_is_wanted_and_what_is_there() {
         let expected = format!("The \"x\" can't be an Item: {wrong}");
         assert_eq!(unfit(part, links), expected, "{part} {links}");
     }
+}
+
+/// Items that point at guests and films. One of them, which nobody has booked, has a film too many.
+const ARRIVING: &str = "\
+kinds: guest film next
+shape Item = all(guest[0;2]@Guest, film[0;1]@Film, next[0;1]@Item)
+shape Guest = ^guest[1;]@Item
+shape Film = ^film[1;]@Item
+card opening \"Opening\"
+card quiz
+card ann \"Ann Lee\"
+card f1 \"A film\"
+card f2
+card night \"Late night\"
+link opening next quiz
+link quiz guest ann
+link quiz film f1
+link night film f1 f2
+book ann Guest
+";
+
+#[test]
+fn cards_that_point_at_others_are_told_as_such() {
+    let sheet = run("x.txt", ARRIVING).expect("the text is a sheet");
+    let report = sheet.report("x.txt");
+    for told in [
+        "x.txt:10:6: Late night can't be an Item: at most 1 film wanted, 2 there\n  \
+         refused 50 5 0: the bookings ask for night to have shape Item\n  \
+         booked: ann Guest <-guest- quiz Item -film-> f1 Film <-film- night Item\n",
+        "x.txt:6:6: quiz has no shape\n  \
+         not an Item: \"Late night\" can't be an Item: at most 1 film wanted, 2 there; \
+         it leads there by film \"A film\", film from \"Late night\"\n",
+    ] {
+        assert!(report.contains(told), "{report}");
+    }
+    let films = ARRIVING.replace("film[0;1]@Film, next", "film[0;2]@Film, next");
+    assert!(run("x.txt", &films).is_ok_and(|sheet| sheet.not_met().is_none()));
+}
+
+#[test]
+fn a_card_asks_for_the_one_that_points_at_it() {
+    let source = "kinds: guest film\nshape Item = all(guest[1;]@Guest, film[1;1]@Film)\n\
+                  shape Guest = ^guest[1;1]@Item\nshape Film = nothing\ncard quiz \"The quiz\"\ncard ann\n\
+                  link quiz guest ann\nbook ann Guest\n";
+    let sheet = run("x.txt", source).expect("the text is a sheet");
+    let roots = Roots::new(&sheet.setting);
+    let told = |pair| {
+        cannot(
+            &sheet.text,
+            &reason(&sheet, &roots, pair).expect("the pair isn't met"),
+        )
+    };
+    assert_eq!(
+        told(sheet.booked[0]),
+        "ann can't be a Guest: \"The quiz\", which points at it by guest, can't be an Item: 1 film wanted, 0 there"
+    );
+    assert_eq!(
+        told(sheet.not_met().expect("the booking isn't met")),
+        "The quiz can't be an Item: 1 film wanted, 0 there"
+    );
 }
 
 fn draft() -> Sheet {

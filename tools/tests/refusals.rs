@@ -79,17 +79,19 @@ fn template_4_a_missing_word() {
     refused_part(&[256], 4, 4);
     refused_part(&[256, 0, 0], 4, 6);
     // All four words of a link come before its other faults.
-    refused_part(&[319, 9, 9999], 4, 6);
-    refused_part(&[1, 256, 7, 9999], 4, 7);
+    for code in [319, 383] {
+        refused_part(&[code, 9, 9999], 4, 6);
+        refused_part(&[1, code, 7, 9999], 4, 7);
+    }
 }
 
 #[test]
 fn template_5_an_unknown_code() {
-    for code in [4, 15, 18, 255, 320, 65535] {
+    for code in [4, 15, 18, 255, 384, 65535] {
         refused_part(&[code], 5, 3);
         refused_part(&[17, 2, 0, code], 5, 6);
     }
-    for code in [0, 256] {
+    for code in [0, 256, 320] {
         accepted(&template_of(
             1,
             &[&[code, 0, 0, 0][..if code == 0 { 1 } else { 4 }]],
@@ -121,37 +123,59 @@ fn template_6_the_depth() {
 
 #[test]
 fn template_7_to_10_a_link() {
-    accepted(&template_of(64, &[&[319, 0, 0, 0]]));
-    refused(&template_of(63, &[&[319, 0, 0, 0]]), 7, 3);
-    refused_part(&[257, 9, 9999, 0], 7, 3);
-    // 8: over branches of a choice too, and for links of [0;0]; but not across shapes.
-    let twice = [17, 2, 256, 0, 0, 0, 256, 0, 0, 0];
-    refused_part(&twice, 8, 9);
-    refused_part(&[&[16], &twice[1..]].concat(), 8, 9);
-    refused_part(&[17, 2, 256, 0, 0, 0, 256, 7, 9999, 0], 8, 9);
-    accepted(&template_of(1, &[&[256, 0, 0, 0], &[256, 1, 0, 0]]));
-    accepted(&template_of(2, &[&[16, 2, 256, 0, 0, 0, 257, 0, 0, 0]]));
-    // 9 comes before 10.
-    refused_part(&[256, 1, 1, 0], 9, 4);
-    accepted(&template_of(1, &[&[256, 1, 0, 0], &[0]]));
-    refused_part(&[256, 0, 1, 0], 10, 5);
+    for code in [256, 320] {
+        accepted(&template_of(64, &[&[code + 63, 0, 0, 0]]));
+        refused(&template_of(63, &[&[code + 63, 0, 0, 0]]), 7, 3);
+        refused_part(&[code + 1, 9, 9999, 0], 7, 3);
+        // 8: over branches of a choice too, and for links of [0;0]; but not across shapes.
+        let twice = [17, 2, code, 0, 0, 0, code, 0, 0, 0];
+        refused_part(&twice, 8, 9);
+        refused_part(&[&[16], &twice[1..]].concat(), 8, 9);
+        refused_part(&[17, 2, code, 0, 0, 0, code, 7, 9999, 0], 8, 9);
+        accepted(&template_of(1, &[&[code, 0, 0, 0], &[code, 1, 0, 0]]));
+        accepted(&template_of(2, &[&[16, 2, code, 0, 0, 0, code + 1, 0, 0, 0]]));
+        // 9 comes before 10.
+        refused_part(&[code, 1, 1, 0], 9, 4);
+        accepted(&template_of(1, &[&[code, 1, 0, 0], &[0]]));
+        refused_part(&[code, 0, 1, 0], 10, 5);
+    }
+}
+
+#[test]
+fn template_8_is_each_way() {
+    for group in [16, 17] {
+        for (first, second) in [(256, 320), (320, 256)] {
+            accepted(&template_of(1, &[&[group, 2, first, 0, 0, 1, second, 0, 0, 1]]));
+            // A third link stands there the same way as one of the two, wherever it is.
+            for third in [first, second] {
+                let part = [
+                    group, 2, group, 2, first, 0, 0, 1, second, 0, 0, 1, third, 9, 9999, 0,
+                ];
+                refused_part(&part, 8, 15);
+            }
+        }
+    }
+    // The kind comes before that.
+    refused_part(&[17, 2, 320, 0, 0, 1, 321, 0, 0, 1], 7, 9);
 }
 
 #[test]
 fn template_10_low_and_high() {
-    for (low, high) in [(0, 0), (0, 8192), (8192, 8192), (0, 65535), (8192, 65535), (3, 3)] {
-        accepted(&template_of(1, &[&[256, 0, low, high]]));
-    }
-    for (low, high) in [
-        (1, 0),
-        (8193, 8193),
-        (8193, 65535),
-        (0, 8193),
-        (0, 65534),
-        (8192, 8191),
-        (65535, 65535),
-    ] {
-        refused_part(&[256, 0, low, high], 10, 5);
+    for code in [256, 320] {
+        for (low, high) in [(0, 0), (0, 8192), (8192, 8192), (0, 65535), (8192, 65535), (3, 3)] {
+            accepted(&template_of(1, &[&[code, 0, low, high]]));
+        }
+        for (low, high) in [
+            (1, 0),
+            (8193, 8193),
+            (8193, 65535),
+            (0, 8193),
+            (0, 65534),
+            (8192, 8191),
+            (65535, 65535),
+        ] {
+            refused_part(&[code, 0, low, high], 10, 5);
+        }
     }
 }
 
@@ -185,13 +209,22 @@ fn template_12_words_left() {
 #[test]
 fn fit_41_to_43() {
     let template = [2, 1, 4, 256, 0, 0, 8192];
-    assert_eq!(fit(&template, 0, &[8192, 0]), Ok(true));
-    assert_eq!(fit(&template, 0, &[8192, 1]), Ok(false));
-    assert_eq!(fit(&template, 0, &[0, 8193]), Err(Refusal::at(43, 1)));
-    assert_eq!(fit(&template, 0, &[9000, 9000]), Err(Refusal::at(43, 0)));
-    assert_eq!(fit(&template, 0, &[9000]), Err(Refusal::at(41, 0)));
-    assert_eq!(fit(&template, 0, &[0, 0, 0]), Err(Refusal::at(41, 0)));
-    assert_eq!(fit(&template, 1, &[0]), Err(Refusal::at(42, 0)));
+    assert_eq!(fit(&template, 0, &[8192, 0, 0, 0]), Ok(true));
+    assert_eq!(fit(&template, 0, &[8192, 1, 0, 0]), Ok(false));
+    // What arrives isn't named, so it is ignored; but its counts are looked at.
+    assert_eq!(fit(&template, 0, &[8192, 0, 8192, 8192]), Ok(true));
+    for place in 0..4 {
+        let mut counts = [0; 4];
+        counts[place] = 8193;
+        assert_eq!(fit(&template, 0, &counts), Err(Refusal::at(43, place)));
+        counts[place..].fill(9000);
+        assert_eq!(fit(&template, 0, &counts), Err(Refusal::at(43, place)));
+    }
+    // L, 2L - 1 and 2L + 1 counts, and none.
+    for length in [2, 3, 5, 0] {
+        assert_eq!(fit(&template, 0, &[9000; 5][..length]), Err(Refusal::at(41, 0)));
+    }
+    assert_eq!(fit(&template, 1, &[9000]), Err(Refusal::at(42, 0)));
     assert_eq!(fit(&[2, 1], 1, &[0]), Err(Refusal::at(4, 2)));
 }
 

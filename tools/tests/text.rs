@@ -1,10 +1,11 @@
 //! The text form: to words and back, and every fault told at its line and column.
 
 use prep_tools::generate;
+use prep_tools::generate::arriving::GUESTS;
 use prep_tools::generate::special::document;
 use prep_tools::random::Random;
 use prep_tools::refusal::Refusal;
-use prep_tools::sheet;
+use prep_tools::sheet::{self, Files};
 use prep_tools::text::check;
 use prep_tools::text::compile::compile;
 use prep_tools::text::form::{form, Form};
@@ -55,19 +56,68 @@ fn the_example_of_the_description_has_the_same_words() {
     assert_eq!(sheet.text.card_title(1), "The card \"one\"");
 }
 
+/// Items and guests, as docs/FORMAT.md has them, with one item and its guest.
+const GUEST_SHEET: &str = "\
+kinds: guest
+shape Item = guest[1;]@Guest
+shape Guest = ^guest[1;]@Item
+card quiz
+card ann
+link quiz guest ann
+book ann Guest
+";
+
+#[test]
+fn what_arrives_has_its_words() {
+    let files = Files {
+        template: GUESTS.to_vec(),
+        script: vec![2, 1, 0, 0, 1],
+        bookings: vec![1, 1, 1],
+    };
+    assert_eq!(bytes(GUEST_SHEET), files.bytes());
+    // Blanks and brackets change nothing, and a kind may stand in a shape once each way.
+    let same = GUEST_SHEET.replace("^guest[1;]@Item", "( ^ guest [ 1 ; ] @ Item )");
+    assert_eq!(bytes(&same), files.bytes());
+    let both = GUEST_SHEET.replace("^guest[1;]@Item", "all(guest[0;0]@Item, ^guest[1;]@Item)");
+    assert!(check::run("x.txt", &both).is_ok());
+    let written = write::text(&files.bytes()).expect("the words are a sheet");
+    assert!(written.contains("shape Shape0 = kind0[1;]@Shape1\nshape Shape1 = ^kind0[1;]@Shape0\n"));
+    assert_eq!(bytes(&written), files.bytes());
+}
+
+#[test]
+fn the_shapes_of_the_description_are_read() {
+    let description = include_str!("../TEXT-FORM.md");
+    let (_, after) = description
+        .split_once("once with it:\n\n")
+        .expect("there are such shapes");
+    let shapes: Vec<&str> = after
+        .lines()
+        .map_while(|line| line.strip_prefix("    "))
+        .collect();
+    let source = format!(
+        "{}\ncard x\ncard y\nlink x next y\nbook x Item\n",
+        shapes.join("\n")
+    );
+    let sheet = check::run("x.txt", &source).expect("the shapes are read");
+    assert_eq!(sheet.both.smallest.0, Smallest::Pairs(2));
+}
+
 #[test]
 fn words_come_back_from_their_text() {
-    let mut compared = 0;
-    for case in generate::cases(31, 600) {
+    let (mut compared, mut arriving) = (0, 0);
+    for case in generate::cases(31, 900) {
         match write::text(&case.bytes) {
             Ok(text) => {
                 assert_eq!(bytes(&text), case.bytes, "{}", case.name);
                 compared += 1;
+                arriving += usize::from(text.contains('^'));
             }
             Err(message) => assert!(message.starts_with("input: refused "), "{message}"),
         }
     }
-    assert!(compared > 150, "only {compared} inputs are well-formed");
+    let told = format!("{compared} inputs are well-formed, {arriving} of them with arriving links");
+    assert!(compared > 300 && arriving > 150, "{told}");
 }
 
 #[test]
@@ -110,6 +160,13 @@ fn roles_name_the_words_of_a_template() {
         roles::template_role(&words, 14),
         "nothing, in shape 1, at depth 1"
     );
+    let guest = "the arriving link of kind 0 in shape 1, at depth 1";
+    for (place, word) in [(8, "code"), (9, "shape"), (10, "low"), (11, "high")] {
+        assert_eq!(
+            roles::template_role(&GUESTS, place),
+            format!("the {word} of {guest}")
+        );
+    }
     assert_eq!(roles::script_role(4), "the target of link 0, counted from 0");
     assert_eq!(roles::booking_role(4), "the shape of booking 1, counted from 0");
 }
@@ -155,6 +212,22 @@ const FAULTS: &[(&str, &str)] = &[
     ),
     ("kinds: a)", "x.txt:1:9: this `)` closes nothing"),
     (
+        "kinds: a\nshape A = ^(a[0;1]@A)",
+        "x.txt:2:12: the name of a kind is wanted here, not `(`",
+    ),
+    (
+        "kinds: a\nshape A = ^nothing",
+        "x.txt:2:19: `[` is wanted here, not the end of the line",
+    ),
+    (
+        "kinds: a\nshape A = ^^a[0;1]@A",
+        "x.txt:2:12: the name of a kind is wanted here, not `^`",
+    ),
+    (
+        "kinds: guest\nshape A = ^gest[0;1]@A",
+        "x.txt:2:12: no kind is named `gest`, perhaps `guest`",
+    ),
+    (
         "card x \"a\\b\"",
         "x.txt:1:10: after a backslash in a quotation only",
     ),
@@ -192,8 +265,16 @@ fn refusals_are_told_at_line_and_column() {
             "x.txt:2:25: refused 8 9",
         ),
         (
+            "kinds: a\nshape A = all(^a[0;1]@A, ^a[0;1]@A)".to_string(),
+            "x.txt:2:26: refused 8 9",
+        ),
+        (
             "kinds: a\nshape A = a[2;1]@A".to_string(),
             "x.txt:2:13: refused 10 5",
+        ),
+        (
+            "kinds: a\nshape A = ^a[2;1]@A".to_string(),
+            "x.txt:2:14: refused 10 5",
         ),
         (depth, "x.txt:2:11: refused 6 15"),
         (
@@ -230,7 +311,11 @@ const HINTS: &[(&str, &str)] = &[
     ("kinds: a\nshape A = a[0;8193]@A", "no limit is written `[0;]`"),
     (
         "kinds: a\nshape A = choice(a[0;1]@A, a[0;1]@A)",
-        "the kind stands earlier in this shape",
+        "the kind stands earlier in this shape the same way",
+    ),
+    (
+        "kinds: a\nshape A = choice(^a[0;1]@A, a[0;1]@A, ^a[0;1]@A)",
+        "the kind stands earlier in this shape the same way",
     ),
     (
         "kinds: a\nshape A = nothing\ncard x\nlink x a x x",
@@ -352,6 +437,7 @@ fn titles_may_contain_any_signs() {
 fn a_text_written_out_has_the_same_words_and_names() {
     for source in [
         DOCUMENT,
+        GUEST_SHEET,
         include_str!("../../examples/prep/programme.txt"),
         include_str!("../../examples/prep/draft.txt"),
     ] {

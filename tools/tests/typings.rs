@@ -1,11 +1,18 @@
 //! Both typings: rounds against links, choices against the one choice that counts, and what both promise.
 
-use prep_tools::generate::heavy::{densest, ring};
+use prep_tools::generate::arriving::{BOTH_ENDS, GUESTS};
+use prep_tools::generate::heavy::{densest, densest_both_ways, ring};
 use prep_tools::generate::special::{chain, longest};
-use prep_tools::generate::{derived, loose, MIDDLE, SMALL, TINY};
+use prep_tools::generate::turns::{chain_back, longest_back, zigzag};
+use prep_tools::generate::{self, MIDDLE, SMALL, TINY};
+use prep_tools::labels::{Label, Way};
+use prep_tools::numbers::{Card, Shape};
 use prep_tools::random::Random;
+use prep_tools::script::End;
 use prep_tools::sheet::Files;
-use prep_tools::typing::met::{holds, lies_below, met, met_by_choices, sound};
+use prep_tools::template::Part;
+use prep_tools::typing::judge::can_be_tried;
+use prep_tools::typing::met::{chosen_for, holds, lies_below, met, met_by_choices, sound};
 use prep_tools::typing::{bookings, closure, links, rounds, Largest, Pair, Setting, Smallest};
 
 /// Random sheets that are well-formed, with their settings.
@@ -18,11 +25,7 @@ fn sheets(seed: u64, count: usize) -> Vec<(Files, Setting)> {
             4..=6 => SMALL,
             _ => MIDDLE,
         };
-        let files = if number % 3 == 0 {
-            loose(&mut random, scale)
-        } else {
-            derived(&mut random, scale)
-        };
+        let files = generate::any(&mut random, scale);
         let setting = setting(&files);
         sheets.push((files, setting));
     }
@@ -33,18 +36,47 @@ fn setting(files: &Files) -> Setting {
     Setting::read(&files.template, &files.script).expect("a generated sheet is well-formed")
 }
 
+/// Whether a shape of the template names what arrives.
+fn names_arriving(setting: &Setting) -> bool {
+    let mut links = setting.template.parts.iter().flat_map(Part::links);
+    links.any(|link| link.label.way == Way::Incoming)
+}
+
+#[test]
+fn each_link_has_an_end_at_both_its_cards() {
+    for (files, setting) in sheets(20, 200) {
+        for card in setting.cards() {
+            let links = &setting.script.links;
+            let mut ends = Vec::new();
+            for link in links.iter().filter(|link| link.from == card) {
+                let label = Label::outgoing(link.kind);
+                ends.push(End { label, far: link.to });
+            }
+            for link in links.iter().filter(|link| link.to == card) {
+                let label = Label::incoming(link.kind);
+                ends.push(End {
+                    label,
+                    far: link.from,
+                });
+            }
+            assert_eq!(setting.script.ends_of(card), ends, "{files:?}");
+        }
+    }
+}
+
 #[test]
 fn rounds_and_links_find_the_same_largest_typing() {
-    let mut many_rounds = 0;
+    let (mut many_rounds, mut arriving) = (0, 0);
     for (files, setting) in sheets(21, 800) {
         let by_rounds = rounds::largest(&setting);
         assert_eq!(by_rounds, links::largest(&setting), "{files:?}");
-        many_rounds += usize::from(by_rounds.0.rounds > 3);
+        let is_long = by_rounds.0.rounds > 3;
+        many_rounds += usize::from(is_long);
+        arriving += usize::from(is_long && names_arriving(&setting));
     }
-    assert!(
-        many_rounds > 80,
-        "only {many_rounds} sheets take more than 3 rounds"
-    );
+    let told =
+        format!("{many_rounds} sheets take more than 3 rounds, {arriving} of them with arriving links");
+    assert!(many_rounds > 80 && arriving > 50, "{told}");
 }
 
 #[test]
@@ -80,7 +112,7 @@ fn the_largest_is_sound_and_the_smallest_lies_between() {
 #[test]
 fn a_pair_is_met_if_and_only_if_some_choice_of_shapes_is_a_bag() {
     let mut random = Random::new(23);
-    let (mut compared, mut yes) = (0, 0);
+    let (mut compared, mut yes, mut arriving, mut arriving_yes) = (0, 0, 0, 0);
     for (files, setting) in sheets(23, 400)
         .into_iter()
         .filter(|(_, setting)| setting.script.cards <= 5)
@@ -91,7 +123,7 @@ fn a_pair_is_met_if_and_only_if_some_choice_of_shapes_is_a_bag() {
         for grid in [vec![1; setting.size()], some] {
             for pair in setting
                 .pairs()
-                .filter(|(card, _)| setting.script.links_of(*card).len() <= 6)
+                .filter(|pair| can_be_tried(&setting, &grid, *pair))
             {
                 let answer = met(&setting, &grid, pair);
                 assert_eq!(
@@ -101,13 +133,97 @@ fn a_pair_is_met_if_and_only_if_some_choice_of_shapes_is_a_bag() {
                 );
                 compared += 1;
                 yes += usize::from(answer);
+                let ends = chosen_for(&setting, pair);
+                if ends.iter().any(|end| end.label.way == Way::Incoming) {
+                    arriving += 1;
+                    arriving_yes += usize::from(answer);
+                }
             }
         }
     }
+    let told = format!("{yes} of {compared} are met, {arriving_yes} of {arriving} with arriving links");
+    assert!(compared > 2000 && yes > 500 && yes < compared - 500, "{told}");
     assert!(
-        compared > 2000 && yes > 500 && yes < compared - 500,
-        "{yes} of {compared} are met"
+        arriving > 300 && arriving_yes > 50 && arriving_yes < arriving - 50,
+        "{told}"
     );
+}
+
+/// The answer for the largest typing, by both methods, and its grid.
+fn largest(setting: &Setting) -> (Largest, Vec<u8>) {
+    let found = links::largest(setting);
+    assert_eq!(rounds::largest(setting), found);
+    found
+}
+
+fn answer(rounds: usize, struck: usize, bare: usize) -> Largest {
+    Largest { rounds, struck, bare }
+}
+
+#[test]
+fn a_guest_asks_for_the_item_that_points_at_it() {
+    let setting = Setting::read(&GUESTS, &[2, 1, 0, 0, 1]).expect("well-formed");
+    assert_eq!(largest(&setting), (answer(2, 2, 0), vec![1, 0, 0, 1]));
+    let booked = bookings::read(&setting, &[1, 1, 1]).expect("well-formed");
+    let smallest = closure::smallest(&setting, &booked);
+    assert_eq!(smallest, (Smallest::Pairs(2), vec![1, 0, 0, 1]));
+    let setting = Setting::read(&GUESTS, &[3, 1, 0, 0, 1]).expect("well-formed");
+    let booked = bookings::read(&setting, &[1, 2, 1]).expect("well-formed");
+    let smallest = closure::smallest(&setting, &booked);
+    assert_eq!(smallest, (Smallest::NotMet(Card(2), Shape(1)), vec![0; 6]));
+}
+
+#[test]
+fn a_link_to_itself_counts_at_both_ends_which_choose_apart() {
+    let setting = Setting::read(&BOTH_ENDS, &[1, 1, 0, 0, 0]).expect("well-formed");
+    assert_eq!(largest(&setting), (answer(1, 0, 0), vec![1]));
+    // Shape 0 asks for shape 1 at the target and for shape 2 at the start.
+    let template = [
+        1, 3, 10, 17, 2, 256, 1, 1, 1, 320, 2, 1, 1, 4, 256, 1, 0, 65535, 4, 256, 2, 0, 65535,
+    ];
+    let setting = Setting::read(&template, &[1, 1, 0, 0, 0]).expect("well-formed");
+    assert_eq!(largest(&setting), (answer(1, 0, 0), vec![1, 1, 1]));
+    let pair = (Card(0), Shape(0));
+    assert_eq!(chosen_for(&setting, pair).len(), 2);
+    for (grid, is_met) in [([1, 1, 1], true), ([1, 0, 1], false), ([1, 1, 0], false)] {
+        assert_eq!(met(&setting, &grid, pair), is_met, "{grid:?}");
+        assert_eq!(met_by_choices(&setting, &grid, pair), is_met, "{grid:?}");
+    }
+}
+
+#[test]
+fn a_chain_is_struck_against_its_links() {
+    for (cards, closed, struck) in [(1, false, 1), (2, false, 2), (50, false, 50), (50, true, 0)] {
+        let setting = setting(&chain_back(cards, closed));
+        let (found, grid) = largest(&setting);
+        assert_eq!(found, answer(struck + 1, struck, 0));
+        // Every card keeps the second shape.
+        assert!(grid.chunks(2).all(|row| row == [u8::from(closed), 1]));
+    }
+}
+
+#[test]
+fn a_zigzag_is_walked_and_struck_along_and_against_its_links() {
+    for cards in [2, 9, 50] {
+        let files = zigzag(cards, false);
+        let setting = setting(&files);
+        let booked = bookings::read(&setting, &files.bookings).expect("well-formed");
+        let (smallest, grid) = closure::smallest(&setting, &booked);
+        assert_eq!(smallest, Smallest::Pairs(cards.into()));
+        assert_eq!(largest(&setting).1, grid);
+    }
+    for cards in [2, 9, 50] {
+        let files = zigzag(cards, true);
+        let setting = setting(&files);
+        let count = usize::from(cards);
+        assert_eq!(largest(&setting).0, answer(count + 1, 2 * count, count));
+        let booked = bookings::read(&setting, &files.bookings).expect("well-formed");
+        let last = (Card(cards - 1), Shape((cards - 1) % 2));
+        assert_eq!(
+            closure::smallest(&setting, &booked).0,
+            Smallest::NotMet(last.0, last.1)
+        );
+    }
 }
 
 #[test]
@@ -153,6 +269,17 @@ fn the_longest_sheet_strikes_one_pair_a_round() {
 }
 
 #[test]
+fn the_longest_sheet_strikes_against_the_links_too() {
+    for (cards, shapes) in [(2, 1), (7, 3), (9, 8)] {
+        let setting = setting(&longest_back(cards, shapes));
+        let pairs = usize::from(cards * shapes);
+        assert_eq!(largest(&setting).0, answer(pairs + 1, pairs, 0));
+    }
+    let full = setting(&longest_back(1024, 31));
+    assert_eq!(links::largest(&full).0, answer(1024 * 31 + 1, 1024 * 31, 0));
+}
+
+#[test]
 fn the_ring_takes_the_most_rounds() {
     let setting = setting(&ring());
     assert_eq!(
@@ -166,15 +293,21 @@ fn the_ring_takes_the_most_rounds() {
 }
 
 #[test]
-fn the_densest_sheet_is_at_every_limit() {
-    let files = densest();
-    assert_eq!((files.template.len(), files.bookings.len()), (4096, 2049));
-    assert_eq!((files.template[0], files.template[1]), (64, 32));
-    assert_eq!((files.script[0], files.script[1]), (1024, 8192));
-    let setting = setting(&files);
-    let by_links = links::largest(&setting);
-    assert_eq!(by_links, rounds::largest(&setting));
-    assert!(by_links.0.rounds > 2 && by_links.0.struck > 16384);
+fn the_densest_sheets_are_at_every_limit() {
+    for (files, arriving) in [(densest(), 0), (densest_both_ways(), 15)] {
+        assert_eq!((files.template.len(), files.bookings.len()), (4096, 2049));
+        assert_eq!((files.template[0], files.template[1]), (64, 32));
+        assert_eq!((files.script[0], files.script[1]), (1024, 8192));
+        let setting = setting(&files);
+        for part in &setting.template.parts {
+            let links = part.links();
+            assert_eq!(links.len(), 30);
+            let incoming = links.iter().filter(|link| link.label.way == Way::Incoming);
+            assert_eq!(incoming.count(), arriving);
+        }
+        let (found, _) = largest(&setting);
+        assert!(found.rounds > 2 && found.struck > 16384, "{found:?}");
+    }
 }
 
 #[test]
@@ -197,4 +330,17 @@ fn the_closure_follows_links_of_kinds_that_take_none() {
     let setting = Setting::read(&template, &[2, 1, 1, 0, 0]).expect("well-formed");
     let booked = bookings::read(&setting, &[1, 1, 0]).expect("well-formed");
     assert_eq!(closure::closure(&setting, &booked), [0, 1, 1, 0]);
+}
+
+#[test]
+fn the_closure_goes_against_links_of_kinds_that_may_not_arrive() {
+    // Shape 0 names what arrives of kind 0 with shape 1, but none may: the pair (1, 1) is in the closure all the same.
+    let template = [1, 2, 4, 320, 1, 0, 0, 4, 256, 1, 1, 1];
+    let setting = Setting::read(&template, &[2, 1, 1, 0, 0]).expect("well-formed");
+    let booked = bookings::read(&setting, &[1, 0, 0]).expect("well-formed");
+    assert_eq!(closure::closure(&setting, &booked), [1, 1, 0, 1]);
+    assert_eq!(
+        closure::smallest(&setting, &booked).0,
+        Smallest::NotMet(Card(0), Shape(0))
+    );
 }

@@ -1,7 +1,7 @@
 -- The tests decide.
 --   ok              no label stands twice and every shape is below S; ok-true: so it is where the test is true
---   others-exact    the test `othersZero` is true exactly where the labels not named count 0
---   fits-decided    the test `fits` is true exactly for the counts that fit; list-decided: for a list of counts
+--   others-exact    the test `othersZero` is true exactly where the labels that are looked at and not named count 0
+--   fits-decided    the test `fits` is true exactly where the counts looked at fit; list-decided: for a list of counts
 -- Assumes nothing.
 use Prim.Native.Nat.{ℕ, zero, suc, _≤_, _<_}
 use mathlib.Core.Path.{_≡_, refl, sym, _∙_, ap, subst}
@@ -9,18 +9,22 @@ use mathlib.Core.Logic.{⊎-elim, _↔_}
 use mathlib.Core.Bool.{Bool, true, false, _&&_, _||_, not, true≢false}
 use mathlib.Core.List.{List}
 use native.Mathlib.Omega.{arith}
-use lib.ListN.{length, List·getD-eq-default}
+use lib.ListN.{length}
 use lib.Dec.{eqb, ltb}
 use borrow.Author.Tests.{eq-eqb, eqb-true, ltb-true, not-true}
 use Rattle.bags.specs.Part.{Part, nothing, star, plus, optional, choice, all, link, Parts, none, more, Names}
-use Rattle.bags.specs.Part.{RunNames, Single, RunSingle, ShapesBelow, RunShapesBelow}
-use Rattle.bags.specs.Bag.{Fits, count}
-use Rattle.bags.specs.Interval.{inside, interval, names, runNames, othersZero, fits}
+use Rattle.words.specs.Limits.{maxKinds}
+use Rattle.bags.specs.Part.{RunNames, names, runNames, Single, RunSingle, ShapesBelow, RunShapesBelow}
+use Rattle.bags.specs.Bag.{Fits}
+use Rattle.bags.specs.Look.{looksAt, seen, listed}
+use Rattle.bags.specs.Interval.{In, inside, interval, othersZero, fits}
 use Rattle.words.proofs.Bools.{never-both, and-first, and-second, and-both, or-cases, or-left, or-right, bool-case}
 use Rattle.words.proofs.Bools.{le-or-lt, last-or-below}
 use Rattle.bags.proofs.Naming.{names-exact, run-names-exact}
 use Rattle.bags.proofs.Intervals.{inside-exact}
 use Rattle.bags.proofs.Exact.{fits-exact}
+use Rattle.bags.proofs.Looking.{looks-outgoing, looks-named, looks-cases, seen-at, seen-not, listed-none}
+use Rattle.bags.proofs.Looking.{interval-alike}
 
 -- No label of the part is one for which f is true.
 abbrev mutual
@@ -105,36 +109,50 @@ module _ (p : Part) (w : ℕ → ℕ) where
       (λ b. others-zero labels (and-first (othersZero labels p w) last e) k b n)
       (last-or-below l)
 
-  zero-others : (labels : ℕ) → ((k : ℕ) → (Names p k → ⊥) → w k ≡ 0) → othersZero labels p w ≡ true
+  zero-others : (labels : ℕ) → ((k : ℕ) → k < labels → (Names p k → ⊥) → w k ≡ 0) → othersZero labels p w ≡ true
   zero-others zero h = refl
   zero-others (suc labels) h =
-      and-both (othersZero labels p w) (names p labels || eqb (w labels) 0) (zero-others labels h)
+      and-both (othersZero labels p w) (names p labels || eqb (w labels) 0)
+      (zero-others labels (λ k l n. h k (omega arith) n))
       (bool-case (names p labels)
       (λ e. or-left (names p labels) (eqb (w labels) 0) e)
       (λ e. or-right (names p labels) (eqb (w labels) 0)
-      (eq-eqb (w labels) 0 (h labels (λ m. never-both (names-exact p labels .1 m) e)))))
+      (eq-eqb (w labels) 0 (h labels (omega arith) (λ m. never-both (names-exact p labels .1 m) e)))))
 
--- Counts of labels that are 0 from a number on.
-module _ (p : Part) (w : ℕ → ℕ) (labels : ℕ) (rest : (k : ℕ) → labels ≤ k → w k ≡ 0) where
-  pub others-exact : (othersZero labels p w ≡ true) ↔ ((k : ℕ) → (Names p k → ⊥) → w k ≡ 0)
+-- Counts of labels in which the outgoing ones that are no kinds are 0.
+module _ (p : Part) (w : ℕ → ℕ) (kinds : ℕ) (few : kinds ≤ maxKinds)
+    (rest : (k : ℕ) → kinds ≤ k → k < maxKinds → w k ≡ 0) where
+  pub others-exact : (othersZero kinds p w ≡ true) ↔ ((k : ℕ) → (Names p k → ⊥) → seen p w k ≡ 0)
   others-exact = (
-    λ e k n. ⊎-elim (λ l. rest k l) (λ l. others-zero p w labels e k l n) (le-or-lt labels k),
-    λ h. zero-others p w labels h,
+    λ e k n. bool-case (looksAt p k)
+        (λ l. seen-at p w k l ∙ ⊎-elim (λ h. outgoing-zero e k n h) (λ m. absurd (n m)) (looks-cases p k l))
+        (λ l. seen-not p w k l),
+    λ h. zero-others p w kinds (λ k l n. sym (seen-at p w k (looks-outgoing p k (omega arith))) ∙ h k n),
   )
+    where
+      outgoing-zero : othersZero kinds p w ≡ true → (k : ℕ) → (Names p k → ⊥) → k < maxKinds → w k ≡ 0
+      outgoing-zero e k n h =
+          ⊎-elim (λ l. rest k l h) (λ l. others-zero p w kinds e k l n) (le-or-lt kinds k)
 
-  pub fits-decided : (S : ℕ) → Single p → ShapesBelow S p → Fits S p w ↔ (fits labels p w ≡ true)
+  -- what the part looks at fits exactly where the test is passed
+  pub fits-decided : (S : ℕ) → Single p → ShapesBelow S p → Fits S p (seen p w) ↔ (fits kinds p w ≡ true)
   fits-decided S one below =
       let fit = inside 1 (interval p w) in
-      let others = othersZero labels p w in
-      let by-interval = fits-exact S p w one below in
+      let others = othersZero kinds p w in
+      let same = interval-alike (seen p w) w p (λ k n. seen-at p w k (looks-named p k n)) in
+      let by-interval = fits-exact S p (seen p w) one below in
       let by-test = inside-exact 1 (interval p w) in (
-        λ f. let (h, z) = by-interval .0 f in and-both fit others (by-test .1 h) (others-exact .1 z),
-        λ e. by-interval .1 (by-test .0 (and-first fit others e), others-exact .0 (and-second fit others e)),
+        λ f.
+            let (h, z) = by-interval .0 f in
+            and-both fit others (by-test .1 (subst (In 1) same h)) (others-exact .1 z),
+        λ e.
+            by-interval .1
+            (subst (In 1) (sym same) (by-test .0 (and-first fit others e)), others-exact .0 (and-second fit others e)),
       )
 
--- A list's counts are 0 past its end.
+-- A list with the counts of so many kinds each way.
 pub list-decided :
-    (S : ℕ) (p : Part) (xs : List ℕ) → Single p → ShapesBelow S p →
-    Fits S p (count xs) ↔ (fits (length xs) p (count xs) ≡ true)
-list-decided S p xs one below =
-    fits-decided p (count xs) (length xs) (λ k l. List·getD-eq-default xs 0 l) S one below
+    (S : ℕ) (p : Part) (kinds : ℕ) (counts : List ℕ) → kinds ≤ maxKinds → kinds ≤ length counts → Single p →
+    ShapesBelow S p → Fits S p (seen p (listed kinds counts)) ↔ (fits kinds p (listed kinds counts) ≡ true)
+list-decided S p kinds counts few room one below =
+    fits-decided p (listed kinds counts) kinds few (λ k l h. listed-none kinds counts k l h room) S one below

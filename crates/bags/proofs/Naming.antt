@@ -1,7 +1,7 @@
 -- What stands in a part.
 --   names-exact         the test `names` is true exactly for the labels that stand there
 --   names-dec           whether a label stands there is decided
---   names-below         such a label is below L; declares-below: a declared shape is below S
+--   names-kind          such a label is that of a kind below L; declares-below: a declared shape is below S
 --   declares-names, names-declares   a label stands there exactly where a shape is declared for it
 --   declares-unique     with no label twice, one shape is declared for a label
 --   named-none          an entry 0: the label does not stand there; named-declares: another entry is a declared shape
@@ -17,9 +17,9 @@ use lib.Dec.{eqb}
 use borrow.Author.Tests.{eq-eqb, ne-eqb, eqb-true, eqb-false}
 use Rattle.bags.specs.Part.{Part, nothing, star, plus, optional, choice, all, link, Parts, none, more, Names}
 use Rattle.bags.specs.Part.{RunNames, Declares, RunDeclares, Single, RunSingle, ShapesBelow, RunShapesBelow}
-use Rattle.bags.specs.Part.{LabelsBelow, RunLabelsBelow}
+use Rattle.bags.specs.Part.{KindsBelow, RunKindsBelow, names, runNames}
+use Rattle.bags.specs.Label.{Way, labelOf}
 use Rattle.bags.specs.Named.{entry, firstEntry, named, runNamed}
-use Rattle.bags.specs.Interval.{names, runNames}
 use Rattle.words.proofs.Bools.{or-cases, or-left, or-right}
 
 mutual
@@ -68,20 +68,24 @@ names-dec p k = decide (names p k) refl
     decide true e = yes (names-true p k e)
     decide false e = no (λ n. true≢false (sym (true-names p k n) ∙ e))
 
-mutual
-  pub names-below : (L : ℕ) (p : Part) → LabelsBelow L p → (k : ℕ) → Names p k → k < L
-  names-below L nothing h k n = absurd n
-  names-below L (star p) h k n = names-below L p h k n
-  names-below L (plus p) h k n = names-below L p h k n
-  names-below L (optional p) h k n = names-below L p h k n
-  names-below L (choice ps) h k n = run-names-below L ps h k n
-  names-below L (all ps) h k n = run-names-below L ps h k n
-  names-below L (link label shape low high) h k n = subst (λ (j : ℕ). j < L) (sym n) h
+-- The label k is that of a kind below L, one way or the other.
+abbrev pub OfKindBelow : ℕ → ℕ → Type 0
+OfKindBelow L k = (way : Way) × (kind : ℕ) × (kind < L) × (k ≡ labelOf way kind)
 
-  pub run-names-below : (L : ℕ) (ps : Parts) → RunLabelsBelow L ps → (k : ℕ) → RunNames ps k → k < L
-  run-names-below L none h k n = absurd n
-  run-names-below L (more p ps) h k n =
-      ⊎-elim (λ m. names-below L p (h .0) k m) (λ m. run-names-below L ps (h .1) k m) n
+mutual
+  pub names-kind : (L : ℕ) (p : Part) → KindsBelow L p → (k : ℕ) → Names p k → OfKindBelow L k
+  names-kind L nothing h k n = absurd n
+  names-kind L (star p) h k n = names-kind L p h k n
+  names-kind L (plus p) h k n = names-kind L p h k n
+  names-kind L (optional p) h k n = names-kind L p h k n
+  names-kind L (choice ps) h k n = run-names-kind L ps h k n
+  names-kind L (all ps) h k n = run-names-kind L ps h k n
+  names-kind L (link label shape low high) h k n = subst (OfKindBelow L) (sym n) h
+
+  pub run-names-kind : (L : ℕ) (ps : Parts) → RunKindsBelow L ps → (k : ℕ) → RunNames ps k → OfKindBelow L k
+  run-names-kind L none h k n = absurd n
+  run-names-kind L (more p ps) h k n =
+      ⊎-elim (λ m. names-kind L p (h .0) k m) (λ m. run-names-kind L ps (h .1) k m) n
 
 mutual
   pub declares-below : (S : ℕ) (p : Part) → ShapesBelow S p → (k s : ℕ) → Declares p k s → s < S

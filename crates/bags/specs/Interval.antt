@@ -4,14 +4,15 @@
 --   meet, add                the intersection, and the sums of a number of each
 --   linkInterval, starInterval, plusInterval   those of a link, and of a star and a plus over a part's
 --   interval                 the interval of a part for some counts
---   othersZero, fits         whether labels that a part does not name count 0; whether counts fit it, by its interval
+--   othersZero, fits         whether outgoing labels that a part does not name count 0; whether counts fit it, by its
+--                            interval
 -- This is a way to decide whether counts fit, for the evaluator and for tests; the promise is Bag's Fits.
 -- Assumes nothing.
 use Prim.Native.Nat.{ℕ, zero, suc, _+_, _/_, _≤_, min, max}
 use mathlib.Core.Bool.{Bool, true, false, _&&_, _||_}
 use lib.Dec.{leb, eqb}
 use Rattle.bags.specs.Part.{Limit, at-most, no-limit, Part, nothing, star, plus, optional, choice, all, link}
-use Rattle.bags.specs.Part.{Parts, none, more}
+use Rattle.bags.specs.Part.{Parts, none, more, names}
 
 -- No number; lo to hi, both inside; lo up.
 pub data Interval : Type 0 where
@@ -132,27 +133,12 @@ abbrev mutual
   meetRun none w = from 0
   meetRun (more p ps) w = meet (interval p w) (meetRun ps w)
 
--- Whether a part, or a part of a run, names the label k.
-abbrev mutual
-  pub names : Part → ℕ → Bool
-  names nothing k = false
-  names (star p) k = names p k
-  names (plus p) k = names p k
-  names (optional p) k = names p k
-  names (choice ps) k = runNames ps k
-  names (all ps) k = runNames ps k
-  names (link label shape low high) k = eqb k label
-
-  pub runNames : Parts → ℕ → Bool
-  runNames none k = false
-  runNames (more p ps) k = names p k || runNames ps k
-
 -- Whether the labels below a number that the part does not name count 0.
 abbrev pub othersZero : ℕ → Part → (ℕ → ℕ) → Bool
 othersZero zero p w = true
 othersZero (suc k) p w = othersZero k p w && (names p k || eqb (w k) 0)
 
--- Whether counts fit a part, where labels from a number on count 0: 1 is in its interval, and the labels below that
--- number that it does not name count 0.
+-- Whether the counts that a part looks at fit it, where outgoing labels that are no kinds count 0: 1 is in its interval,
+-- and the outgoing kinds that it does not name count 0.
 abbrev pub fits : ℕ → Part → (ℕ → ℕ) → Bool
-fits labels p w = inside 1 (interval p w) && othersZero labels p w
+fits kinds p w = inside 1 (interval p w) && othersZero kinds p w

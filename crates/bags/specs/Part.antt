@@ -1,17 +1,18 @@
 -- Parts of a template's shapes (docs/FORMAT.md, "Templates"): the bag expressions of section 2.1 over (label, shape).
 --   Limit, limitOf          the high of a link, and as a template's word has it
 --   Part, Parts             a part; a run of parts, under choice and all
---   Names, Declares         a label stands in the part; it stands there with a shape
+--   Names, names, Declares  a label stands in the part; the test of that; it stands there with a shape
 --   Single                  no label stands twice
---   ShapesBelow, LabelsBelow   every link's shape, label is below a number
+--   ShapesBelow, KindsBelow    every link's shape, kind is below a number
 --   depth                   how deep the parts stand in each other
--- A label is the number of a link's kind as the list of counts has it. Assumes nothing.
+-- A label is a kind with a way (Label). Assumes nothing.
 use Prim.Native.Nat.{ℕ, suc, _<_, max}
 use mathlib.Core.Path.{_≡_}
 use mathlib.Core.Logic.{_⊎_}
-use mathlib.Core.Bool.{Bool, true, false}
+use mathlib.Core.Bool.{Bool, true, false, _||_}
 use lib.Dec.{eqb}
 use Rattle.words.specs.Limits.{noLimit}
+use Rattle.bags.specs.Label.{Way, labelOf}
 
 -- The high of a link.
 pub data Limit : Type 0 where
@@ -59,6 +60,21 @@ abbrev mutual
   RunNames none k = ⊥
   RunNames (more p ps) k = Names p k ⊎ RunNames ps k
 
+-- Whether it does.
+abbrev mutual
+  pub names : Part → ℕ → Bool
+  names nothing k = false
+  names (star p) k = names p k
+  names (plus p) k = names p k
+  names (optional p) k = names p k
+  names (choice ps) k = runNames ps k
+  names (all ps) k = runNames ps k
+  names (link label shape low high) k = eqb k label
+
+  pub runNames : Parts → ℕ → Bool
+  runNames none k = false
+  runNames (more p ps) k = names p k || runNames ps k
+
 -- A part, or a part of a run, has a link of the label k with the shape s.
 abbrev mutual
   pub Declares : Part → ℕ → ℕ → Type 0
@@ -104,20 +120,20 @@ abbrev mutual
   RunShapesBelow S none = Unit {0}
   RunShapesBelow S (more p ps) = ShapesBelow S p × RunShapesBelow S ps
 
--- Every link's label is below L.
+-- Every link's label is that of a kind below L, one way or the other.
 abbrev mutual
-  pub LabelsBelow : ℕ → Part → Type 0
-  LabelsBelow L nothing = Unit {0}
-  LabelsBelow L (star p) = LabelsBelow L p
-  LabelsBelow L (plus p) = LabelsBelow L p
-  LabelsBelow L (optional p) = LabelsBelow L p
-  LabelsBelow L (choice ps) = RunLabelsBelow L ps
-  LabelsBelow L (all ps) = RunLabelsBelow L ps
-  LabelsBelow L (link label shape low high) = label < L
+  pub KindsBelow : ℕ → Part → Type 0
+  KindsBelow L nothing = Unit {0}
+  KindsBelow L (star p) = KindsBelow L p
+  KindsBelow L (plus p) = KindsBelow L p
+  KindsBelow L (optional p) = KindsBelow L p
+  KindsBelow L (choice ps) = RunKindsBelow L ps
+  KindsBelow L (all ps) = RunKindsBelow L ps
+  KindsBelow L (link label shape low high) = (way : Way) × (kind : ℕ) × (kind < L) × (label ≡ labelOf way kind)
 
-  pub RunLabelsBelow : ℕ → Parts → Type 0
-  RunLabelsBelow L none = Unit {0}
-  RunLabelsBelow L (more p ps) = LabelsBelow L p × RunLabelsBelow L ps
+  pub RunKindsBelow : ℕ → Parts → Type 0
+  RunKindsBelow L none = Unit {0}
+  RunKindsBelow L (more p ps) = KindsBelow L p × RunKindsBelow L ps
 
 -- How deep the deepest part lies: the part itself is at depth 1, the parts in it one deeper.
 abbrev mutual

@@ -1,12 +1,13 @@
 -- Samples of counts and whether they fit (docs/FORMAT.md, "Bags and counts"), as one table: P1 to P12.
---   samples     a part, the counts of the labels 0 and 1, and whether they fit
+--   samples     a part, the counts of two kinds, and whether they fit; no links arrive
 --   AllHold     each row's answer is that of Fits
 -- Assumes nothing.
 use Prim.Native.Nat.{ℕ}
 use mathlib.Core.Bool.{Bool, true, false}
 use mathlib.Core.List.{List, [], _∷_}
 use Rattle.bags.specs.Part.{at-most, Part, nothing, star, plus, choice, all, link, Parts, none, more}
-use Rattle.bags.specs.Bag.{Fits, count}
+use Rattle.bags.specs.Bag.{Fits}
+use Rattle.bags.specs.Look.{seen, listed}
 
 -- A part, the counts of a and b, and the answer.
 pub data Sample : Type 0 where
@@ -60,9 +61,13 @@ abbrev pub Says : Bool → Type 0 → Type 0
 Says true X = X
 Says false X = X → ⊥
 
+-- The counts of the two kinds: those of a row for outgoing links, and 0 for incoming ones.
+abbrev pub countsOf : ℕ → ℕ → List ℕ
+countsOf x y = x ∷ y ∷ 0 ∷ 0 ∷ []
+
 -- A row is as the bags have it; both shapes of a table's links are 0, so 1 bounds them.
 abbrev pub Holds : Sample → Type 0
-Holds (sample p x y answer) = Says answer (Fits 1 p (count (x ∷ y ∷ [])))
+Holds (sample p x y answer) = Says answer (Fits 1 p (seen p (listed 2 (countsOf x y))))
 
 -- Every row is.
 abbrev pub AllHold : List Sample → Type 0

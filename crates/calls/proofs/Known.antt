@@ -4,10 +4,10 @@
 --   few-pairs                  it has at most 32,768 pairs
 --   ready                      it is ready to be searched
 --   among                      its links are among its cards
---   card-starts                where each card's links start, as the search takes it
+--   links-ready                where its links stand, as the searches take it
 -- Assumes nothing.
 use Prim.Native.Nat.{ℕ, _*_, _≤_}
-use mathlib.Core.Path.{_≡_, sym, _∙_, subst}
+use mathlib.Core.Path.{_≡_, sym, _∙_, subst, subst₂}
 use mathlib.Core.List.{List}
 use native.Mathlib.Nat.{mul-le-mul}
 use native.Mathlib.Omega.{arith}
@@ -20,15 +20,17 @@ use Rattle.template.specs.Template.{Template}
 use Rattle.template.specs.Machine.{Tabled}
 use Rattle.script.specs.Link.{below}
 use Rattle.script.specs.Script.{ScriptCounts, countsOf}
-use Rattle.script.specs.Steps.{StartsOf, Ascending, LinksAmong}
+use Rattle.script.specs.Steps.{Ascending, LinksAmong}
+use Rattle.script.specs.Index.{StartsOf, ArrivalsOf}
 use Rattle.sheet.specs.Sheet.{Sheet, sheetOf, readSheet}
 use Rattle.sheet.specs.Opened.{templateAs, Known}
 use Rattle.sheet.specs.declared.Extent.{Extent}
 use Rattle.sheet.proofs.Accepted.{SheetAccepted, sheet-asked, sheet-made}
 use Rattle.typing.specs.Needs.{Ready}
 use Rattle.typing.proofs.Instance as instance
-use Rattle.search.specs.Indexes.{Starts}
+use Rattle.search.specs.Walks.{Starts, LinksReady}
 use Rattle.search.proofs.Indexes.{starts-of}
+use Rattle.calls.specs.Steps.{LinksFound}
 
 module _ {template script names : List ℕ} {e : Extent} (k : Known template script names e) where
   abbrev pub shaped : Template
@@ -70,10 +72,19 @@ module _ {template script names : List ℕ} {e : Extent} (k : Known template scr
         to-in = links .to-below;
       }
 
-  -- the links of a card stand from its start up to the next card's
-  pub card-starts : (starts : List ℕ) → StartsOf script starts (e .cards) (e .links) → Starts script starts
-  card-starts starts s =
+  -- the links from a card stand from its start up to the next card's
+  card-starts : {starts : List ℕ} → StartsOf script starts (e .cards) (e .links) → Starts script starts
+  card-starts {starts} s =
       starts-of ready (subst (Ascending script) (read .links .links) (read .links .ascending))
       (omega (arith, s .room, read .links .cards))
       (λ c l. subst (λ (m : ℕ). getD starts c 0 ≡ below script c m) (read .links .links)
       (s .exact c (omega (arith, read .links .cards))))
+
+  pub links-ready : {starts first next : List ℕ} → LinksFound script e starts first next
+      → LinksReady script starts first next names (e .shapes) (e .incoming)
+  links-ready {starts} {first} {next} found = record {
+    ready = ready;
+    leaving = card-starts (found .leaving);
+    arriving = subst₂ (ArrivalsOf script first next) (read .links .cards) (read .links .links) (found .arriving);
+    ways = k .ways;
+  }

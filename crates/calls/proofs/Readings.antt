@@ -6,11 +6,9 @@
 use Prim.Native.Nat.{ℕ}
 use mathlib.Core.Path.{_≡_, refl, sym, ap, _∙_, subst}
 use mathlib.Core.List.{List}
-use lib.ListN.{length}
-use Rattle.words.specs.Sizes.{tableSize}
 use Rattle.words.specs.Reading.{accepted, turnedDown, then}
 use Rattle.sheet.specs.Sheet.{readSheet}
-use Rattle.sheet.specs.Opened.{TableOf, ReadAs, Known}
+use Rattle.sheet.specs.Opened.{ReadAs, Known}
 use Rattle.sheet.specs.declared.Extent.{Extent}
 use Rattle.sheet.specs.declared.SheetRead.{SheetRead}
 use Rattle.sheet.specs.declared.SheetRead.the-variants as read
@@ -23,14 +21,13 @@ use Rattle.calls.specs.Steps.{Listed}
 use Rattle.calls.proofs.Known.{sheet, asked}
 
 -- The sheet, by what reading it found.
-module _ (template script : List ℕ) {r : SheetRead} (h : ReadAs template script r) where
-  pub known-by : {names : List ℕ} {e : Extent} → TableOf template names → length names ≡ tableSize → r ≡ read.Sheet e
-      → Known template script names e
-  known-by table room q = record { opened = subst (ReadAs template script) q h; table = table; room = room }
+module _ (template script names : List ℕ) {r : SheetRead} (h : ReadAs template script names r) where
+  pub known-by : {e : Extent} → r ≡ read.Sheet e → Known template script names e
+  known-by q = subst (ReadAs template script names) q h
 
   pub refused-by : {number place : ℕ} → r ≡ read.Refused number place
       → readSheet template script ≡ turnedDown number place
-  refused-by q = subst (ReadAs template script) q h
+  refused-by q = subst (ReadAs template script names) q h
 
   pub sheet-refused : (bookings : List ℕ) {number place : ℕ} → r ≡ read.Refused number place
       → then (readSheet template script) (withBookings bookings) ≡ turnedDown number place

@@ -1,5 +1,6 @@
 -- The grid of a sheet's pairs that fit stands for the sheet.
---   pairs-tested                    what testing the pairs leaves is that grid for each sheet that is read
+--   test-asked                      arrays of zeros are what testing the pairs asks
+--   pairs-tested, some-tested       what it leaves is that grid for each sheet that is read, and some sheet is
 --   cards-same, shapes-same, counted-as   the sheet's counts, and its words, are those that are read
 --   full, full-words, few           the grid has the sheet's size, which the script's words tell too
 --   marks                           the grid's bytes are 0 or 1
@@ -11,16 +12,17 @@ use mathlib.Core.Logic.{_⊎_, inl, inr}
 use mathlib.Core.Bool.{Bool, true, false, cond}
 use mathlib.Core.List.{List}
 use native.Mathlib.Omega.{arith}
-use lib.ListN.{length, getD}
+use lib.ListN.{length, getD, replicate, length-replicate, getD-replicate}
 use Rattle.bags.specs.Part.{Part}
-use Rattle.bags.specs.Bag.{count}
 use Rattle.bags.specs.Interval.{fits}
+use Rattle.bags.specs.Proposition.{labelCount}
+use Rattle.words.specs.Limits.{maxCards, maxLinks}
 use Rattle.words.specs.Sizes.{maxGrid}
 use Rattle.words.specs.Reading.{accepted}
 use Rattle.words.proofs.Places.{card-in, shape-in, place-of}
 use Rattle.board.specs.Machine.{Marks}
 use Rattle.template.specs.Template.{readTemplate}
-use Rattle.script.specs.Steps.{StartsOf}
+use Rattle.script.specs.Link.{neighbours}
 use Rattle.sheet.specs.Sheet.{Sheet, size}
 use Rattle.sheet.specs.Opened.{templateAs, Known}
 use Rattle.sheet.specs.declared.Extent.{Extent}
@@ -28,25 +30,41 @@ use Rattle.typing.specs.Needs.{boardOf}
 use Rattle.typing.proofs.Represents.{Represents}
 use Rattle.typing.proofs.Instance.{FitsGrid, fits-grid, represents}
 use Rattle.fits.specs.Fitting.{Fitted}
-use Rattle.calls.specs.Steps.{SheetTested, PairsTested, CountedAs}
-use Rattle.calls.proofs.Known.{sheet, same-sheet, read, few-pairs, tabled, rows}
+use Rattle.calls.specs.Steps.{SheetTested, LinksFound, SomeTested, PairsTested, Sized, TestAsked, CountedAs}
+use Rattle.calls.proofs.Known.{sheet, asked, same-sheet, read, few-pairs, tabled, rows}
 use Rattle.calls.proofs.Rows.{byte-on}
 
-pub pairs-tested : {template script names : List ℕ} {e : Extent} {starts fitting : List ℕ}
-    (k : Known template script names e) → StartsOf script starts (e .cards) (e .links)
-    → ((kinds : ℕ) (parts : List Part) → readTemplate template ≡ accepted (templateAs kinds (e .shapes) parts)
-    → Fitted script (e .links) (e .cards) (e .shapes) parts fitting)
-    → PairsTested template script names e starts fitting
-pairs-tested {template} {script} {names} {e} {starts} {fitting} k links fit = record {
+pub test-asked : {template script names : List ℕ} {e : Extent} {grid : List ℕ} → Sized template script names e grid
+    → TestAsked template script names e (replicate maxCards 0) (replicate maxLinks 0) grid
+test-asked sized = record {
+  sized = sized;
+  cards = length-replicate {A = ℕ} maxCards 0;
+  blank = record {
+    zeros = λ m l. getD-replicate {A = ℕ} maxCards m 0 0 (omega (arith, length-replicate {A = ℕ} maxCards 0));
+    room = omega (arith, length-replicate {A = ℕ} maxLinks 0);
+  };
+}
+
+pub pairs-tested : {template script names : List ℕ} {e : Extent} {starts first next fitting : List ℕ}
+    (k : Known template script names e) → LinksFound script e starts first next
+    → ((parts : List Part) → readTemplate template ≡ accepted (templateAs (e .kinds) (e .shapes) parts)
+    → Fitted script e parts fitting)
+    → PairsTested template script names e starts first next fitting
+pairs-tested {template} {script} {e = e} {fitting = fitting} k links fit = record {
   links = links;
   tested = λ s q. record {
     template = template;
     known = k;
     asked = q;
-    fits = subst (λ (x : Sheet). Fitted script (e .links) (e .cards) (e .shapes) (x .parts) fitting) (same-sheet k s q)
-        (fit (e .kinds) (k .opened .parts) (k .opened .template-read));
+    fits = subst (λ (x : Sheet). Fitted script e (x .parts) fitting) (same-sheet k s q)
+        (fit (k .opened .parts) (k .opened .template-read));
   };
 }
+
+pub some-tested : {template script names : List ℕ} {e : Extent} {starts first next fitting : List ℕ}
+    → Known template script names e → PairsTested template script names e starts first next fitting
+    → SomeTested script names e starts first next fitting
+some-tested k p = record { sheet = sheet k; tested = p .tested (sheet k) (asked k); links = p .links }
 
 -- the byte of a pair is 0 or 1
 byte-one : {x : ℕ} (b : Bool) → x ≡ cond b 1 0 → (x ≡ 0) ⊎ (x ≡ 1)
@@ -80,23 +98,22 @@ module _ {s : Sheet} {script names : List ℕ} {e : Extent} {grid : List ℕ} (t
   pub few : length grid ≤ maxGrid
   few = omega (arith, t .fits .full, few-pairs (t .known))
 
-  fitted : Fitted script (e .links) (e .cards) (e .shapes) (t .known .opened .parts) grid
+  fitted : Fitted script e (t .known .opened .parts) grid
   fitted = rw (ap (λ (x : Sheet). x .parts) same) (t .fits)
 
   pub marks : Marks grid
   marks p l =
       let one = read (t .known) .shapes .shapes-low in
       let inside : p < e .cards * e .shapes = omega (arith, t .fits .full) in
-      let b = t .fits .each (p / e .shapes) (p % e .shapes) (card-in (e .shapes) one (e .cards) p inside)
-      (shape-in (e .shapes) one p) in
+      let part = getD (s .parts) (p % e .shapes) Part.nothing in
+      let counts = labelCount (neighbours script (p / e .shapes) (e .links)) in
       subst (λ (x : ℕ). (getD grid x 0 ≡ 0) ⊎ (getD grid x 0 ≡ 1)) (place-of (e .shapes) one p)
-      (byte-one (fits (length (b .counts)) (getD (s .parts) (p % e .shapes) Part.nothing) (count (b .counts)))
-      (b .test))
+      (byte-one (fits (e .kinds) part counts) (t .fits .each (p / e .shapes) (p % e .shapes)
+      (card-in (e .shapes) one (e .cards) p inside) (shape-in (e .shapes) one p)))
 
   fits-right : FitsGrid (sheet (t .known)) grid
   fits-right = fits-grid (read (t .known)) grid (λ n u ln lu.
-      let b = fitted .each n u ln lu in
-      (b .counts, b .those, byte-on grid (n * e .shapes + u) _ (b .test)))
+      byte-on grid (n * e .shapes + u) _ (fitted .each n u ln lu))
 
   pub stands : Represents s (boardOf script names (e .shapes) grid)
   stands =

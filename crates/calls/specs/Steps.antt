@@ -1,7 +1,9 @@
 -- What the steps of a call ask for and leave behind; no part of a promise.
 -- SheetTested   a sheet that is read, its table of names, and the grid of the pairs that fit by counts
--- SomeTested    some sheet is
--- PairsTested   each sheet that the readings ask for is; and where each card's links start
+-- LinksFound    where the links from each card and to it stand
+-- SomeTested    some sheet is tested, and where its links stand is known
+-- TestAsked     what testing the pairs asks
+-- PairsTested   each sheet that the readings ask for is tested, and where its links stand is known
 -- Listed        a sheet with its table of names and a booking list, all read; BookedAs: what reading them finds
 -- Sized, Lent   what is read, with a grid or two grids of the sheet's size
 -- Settling      what settling the bookings asks for
@@ -15,10 +17,12 @@ use mathlib.Core.Path.{_≡_}
 use mathlib.Core.List.{List, [], _∷_}
 use lib.ListN.{length}
 use Rattle.words.specs.Said.{Said, values, refusal}
-use Rattle.words.specs.Limits.{maxCards, maxShapes}
+use Rattle.words.specs.Limits.{maxCards, maxLinks, maxShapes}
 use Rattle.words.specs.Reading.{accepted, turnedDown, then}
 use Rattle.board.specs.Machine.{Marks}
-use Rattle.script.specs.Steps.{StartsOf, LinksAmong}
+use Rattle.script.specs.Chain.{Blank}
+use Rattle.script.specs.Steps.{LinksAmong}
+use Rattle.script.specs.Index.{StartsOf, ArrivalsOf}
 use Rattle.sheet.specs.Sheet.{Sheet, readSheet}
 use Rattle.sheet.specs.Opened.{Known}
 use Rattle.sheet.specs.declared.Extent.{Extent}
@@ -38,16 +42,22 @@ pub record SheetTested (s : Sheet) (script names : List ℕ) (e : Extent) (fitti
   pub template : List ℕ
   pub known : Known template script names e
   pub asked : readSheet template script ≡ accepted s
-  pub fits : Fitted script (e .links) (e .cards) (e .shapes) (s .parts) fitting
+  pub fits : Fitted script e (s .parts) fitting
 
--- Some sheet is tested so.
-pub record SomeTested (script names : List ℕ) (e : Extent) (fitting : List ℕ) : Type 0 where
+-- Where the links from each card and to it stand.
+pub record LinksFound (script : List ℕ) (e : Extent) (starts first next : List ℕ) : Type 0 where
+  pub leaving : StartsOf script starts (e .cards) (e .links)
+  pub arriving : ArrivalsOf script first next (e .cards) (e .links)
+
+-- Some sheet is tested so, and where its links stand is known.
+pub record SomeTested (script names : List ℕ) (e : Extent) (starts first next fitting : List ℕ) : Type 0 where
   pub sheet : Sheet
   pub tested : SheetTested sheet script names e fitting
+  pub links : LinksFound script e starts first next
 
--- What testing the pairs leaves: where each card's links start, and which pairs fit.
-pub record PairsTested (template script names : List ℕ) (e : Extent) (starts fitting : List ℕ) : Type 0 where
-  pub links : StartsOf script starts (e .cards) (e .links)
+-- What testing the pairs leaves: where the links stand, and which pairs fit.
+pub record PairsTested (template script names : List ℕ) (e : Extent) (starts first next fitting : List ℕ) : Type 0 where
+  pub links : LinksFound script e starts first next
   pub tested : (s : Sheet) → readSheet template script ≡ accepted s → SheetTested s script names e fitting
 
 -- A sheet with its table of names, and a booking list of so many bookings for it.
@@ -66,6 +76,12 @@ pub record Sized (template script names : List ℕ) (e : Extent) (grid : List �
   pub known : Known template script names e
   pub size : length grid ≡ e .cards * e .shapes
 
+-- What testing the pairs asks: such a sheet and grid, and what the links to each card are chained in.
+pub record TestAsked (template script names : List ℕ) (e : Extent) (first next grid : List ℕ) : Type 0 where
+  pub sized : Sized template script names e grid
+  pub cards : length first ≡ maxCards
+  pub blank : Blank first next maxLinks
+
 -- A sheet with a booking list, and two grids of its size.
 pub record Lent (template script names : List ℕ) (e : Extent) (bookings : List ℕ) (count : ℕ) (one other : List ℕ)
     : Type 0 where
@@ -73,13 +89,11 @@ pub record Lent (template script names : List ℕ) (e : Extent) (bookings : List
   pub size : length one ≡ e .cards * e .shapes
   pub other-size : length other ≡ e .cards * e .shapes
 
--- Some sheet is tested, its cards' links and a booking list are known, and the grid has the sheet's size.
-pub record Settling (script names : List ℕ) (e : Extent) (fitting bookings : List ℕ) (count : ℕ) (starts grid : List ℕ)
-    : Type 0 where
-  pub sheet : Sheet
-  pub tested : SheetTested sheet script names e fitting
+-- Some sheet is tested, where its links stand and a booking list are known, and the grid has the sheet's size.
+pub record Settling (script names : List ℕ) (e : Extent) (starts first next fitting bookings : List ℕ) (count : ℕ)
+    (grid : List ℕ) : Type 0 where
+  pub some : SomeTested script names e starts first next fitting
   pub list : readBookings (e .cards) (e .shapes) bookings ≡ accepted count
-  pub links : StartsOf script starts (e .cards) (e .links)
   pub size : length grid ≡ e .cards * e .shapes
 
 -- A sheet with a booking list, and a grid of its size.
@@ -89,9 +103,9 @@ pub record Judging (template script names : List ℕ) (e : Extent) (bookings : L
   pub size : length grid ≡ e .cards * e .shapes
 
 -- The same with the sheet's pairs tested, as settling the bookings asks for; the grid is one of zeros and ones.
-pub record JudgingTested (script names : List ℕ) (e : Extent) (fitting bookings : List ℕ) (count : ℕ)
-    (starts grid : List ℕ) : Type 0 where
-  pub settling : Settling script names e fitting bookings count starts grid
+pub record JudgingTested (script names : List ℕ) (e : Extent) (starts first next fitting bookings : List ℕ) (count : ℕ)
+    (grid : List ℕ) : Type 0 where
+  pub settling : Settling script names e starts first next fitting bookings count grid
   pub marks : Marks grid
 
 -- The sheet's script has these words, and its counts are these.

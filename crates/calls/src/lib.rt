@@ -15,18 +15,19 @@ ghost use Rattle.bookings.specs.Bookings.{Booked};
 ghost use Rattle.typing.specs.Answer.{largestSaid, smallestSaid, bothSaid};
 ghost use Rattle.typing.specs.Largest.{bareCards};
 ghost use Rattle.typing.specs.Calls.{LargestFound, LargestSays, SmallestFound, SmallestSays, BothFound, BothSays};
-ghost use Rattle.calls.specs.Steps.{SheetTested, SomeTested, PairsTested, BookedAs, Sized, Lent, Settling};
-ghost use Rattle.calls.specs.Steps.{CountedAs, Rows, struckSaid, settledSaid, bothOf};
+ghost use Rattle.calls.specs.Steps.{SheetTested, SomeTested, TestAsked, PairsTested, BookedAs, Sized, Lent};
+ghost use Rattle.calls.specs.Steps.{Settling, CountedAs, Rows, struckSaid, settledSaid, bothOf};
 use board::all_off;
 use bookings::BookingRead;
 use bookings::read_bookings;
 use fits::fit_grid;
 use script::Card;
+use script::chain;
+use script::link_starts;
 use script::mark_linked;
 use search::Unfit;
 use search::close;
 use search::first_unfit;
-use search::link_starts;
 use search::strike_all;
 use sheet::Extent;
 use sheet::SheetRead;
@@ -39,9 +40,10 @@ pub use verdict::judge;
 pub use verdict::judge_of;
 use words::MAX_CARDS;
 use words::MAX_GRID;
+use words::MAX_LINKS;
 use words::TABLE_SIZE;
 
-// Where the links of each card start, and where those of the last end.
+// Where the links from each card start, and where those from the last end.
 const STARTS: usize = MAX_CARDS + 1;
 
 // What striking rounds found: rounds, pairs struck, cards with some link and no shape.
@@ -101,21 +103,26 @@ pub fn read_booked(
     }
 }
 
-// Finds where each card's links start, and tests each shape on each card: the grid has 1 where the counts fit, else 0.
+// Finds where the links from each card and to it stand, and tests each shape on each card: the grid has 1 where the
+// counts fit, else 0.
 fn test_pairs(
     template: &[u16],
     script: &[u16],
     names: &[u8],
     e: Extent,
     starts: &mut [u16; STARTS],
+    first: &mut [u16; MAX_CARDS],
+    next: &mut [u16; MAX_LINKS],
     fitting: &mut [u8],
 )
-    requires { ⌜ Sized (now template) (now script) (now names) e (now fitting) ⌝ }
+    requires { ⌜ TestAsked (now template) (now script) (now names) e (now first) (now next) (now fitting) ⌝ }
     ensures { λ _. ⌜ PairsTested (now (template .entry)) (now (script .entry)) (now (names .entry)) e
-        (now (starts .exit)) (now (fitting .exit)) ⌝ }
+        (now (starts .exit)) (now (first .exit)) (now (next .exit)) (now (fitting .exit)) ⌝ }
 {
-    link_starts(script, e.links as usize, e.cards as usize, starts);
-    fit_grid(template, script, names, starts, e, fitting);
+    let links = e.links as usize;
+    link_starts(script, links, e.cards as usize, starts);
+    chain(script, links, first, next);
+    fit_grid(template, script, names, starts, first, next, e, fitting);
 }
 
 // Counts the cards with some link and no shape.
@@ -143,17 +150,30 @@ fn count_bare(script: &[u16], e: Extent, grid: &[u8]) -> usize
 // Strikes rounds from a grid that has the pairs whose counts fit: it then has the largest typing.
 fn strike(
     script: &[u16],
+    starts: &[u16; STARTS],
+    first: &[u16; MAX_CARDS],
+    next: &[u16; MAX_LINKS],
     names: &[u8],
     e: Extent,
     grid: &mut [u8],
     queue: &mut [u16; MAX_GRID],
 ) -> Struck
-    requires { ⌜ SomeTested (now script) (now names) e (now grid) ⌝ }
+    requires { ⌜ SomeTested (now script) (now names) e (now starts) (now first) (now next) (now grid) ⌝ }
     ensures { λ r. ⌜ ((s : Sheet) → SheetTested s (now (script .entry)) (now (names .entry)) e (now (grid .entry))
         → LargestFound s (now (grid .exit)) (struckSaid r)) ⌝ }
 {
     let shapes = e.shapes as usize;
-    let tally = strike_all(script, names, e.links as usize, shapes, grid, queue);
+    let tally = strike_all(
+        script,
+        starts,
+        first,
+        next,
+        names,
+        shapes,
+        e.incoming,
+        grid,
+        queue,
+    );
     let bare = count_bare(script, e, grid);
     Struck {
         rounds: tally.rounds,
@@ -166,28 +186,34 @@ fn strike(
 // grid then has the smallest typing, or is all 0.
 fn settle(
     script: &[u16],
+    starts: &[u16; STARTS],
+    first: &[u16; MAX_CARDS],
+    next: &[u16; MAX_LINKS],
     bookings: &[u16],
     count: u16,
     names: &[u8],
-    starts: &[u16; STARTS],
     e: Extent,
     fitting: &[u8],
     grid: &mut [u8],
     queue: &mut [u16; MAX_GRID],
 ) -> Settled
-    requires { ⌜ Settling (now script) (now names) e (now fitting) (now bookings) count (now starts) (now grid) ⌝ }
+    requires { ⌜ Settling (now script) (now names) e (now starts) (now first) (now next) (now fitting)
+        (now bookings) count (now grid) ⌝ }
     ensures { λ r. ⌜ ((s : Sheet) → SheetTested s (now (script .entry)) (now (names .entry)) e (now (fitting .entry))
         → SmallestFound s (Booked (now (bookings .entry))) (now (grid .exit)) (settledSaid r)) ⌝ }
 {
     let shapes = e.shapes as usize;
     let found = close(
         script,
+        starts,
+        first,
+        next,
         bookings,
         count,
         names,
-        starts,
         e.cards as usize,
         shapes,
+        e.incoming,
         grid,
         queue,
     );
@@ -205,9 +231,20 @@ fn largest_of(template: &[u16], script: &[u16], names: &[u8], e: Extent, grid: &
         → LargestFound s (now (grid .exit)) (struckSaid r)) ⌝ }
 {
     let mut starts = [0u16; STARTS];
-    test_pairs(template, script, names, e, &mut starts, grid);
+    let mut first = [0u16; MAX_CARDS];
+    let mut next = [0u16; MAX_LINKS];
+    test_pairs(
+        template,
+        script,
+        names,
+        e,
+        &mut starts,
+        &mut first,
+        &mut next,
+        grid,
+    );
     let mut queue = [0u16; MAX_GRID];
-    strike(script, names, e, grid, &mut queue)
+    strike(script, &starts, &first, &next, names, e, grid, &mut queue)
 }
 
 // The smallest typing of a sheet and bookings that are read, in a grid of its size. The other grid of its size then has
@@ -227,14 +264,27 @@ fn smallest_of(
         → SmallestFound s (Booked (now (bookings .entry))) (now (grid .exit)) (settledSaid r)) ⌝ }
 {
     let mut starts = [0u16; STARTS];
-    test_pairs(template, script, names, e, &mut starts, fitting);
+    let mut first = [0u16; MAX_CARDS];
+    let mut next = [0u16; MAX_LINKS];
+    test_pairs(
+        template,
+        script,
+        names,
+        e,
+        &mut starts,
+        &mut first,
+        &mut next,
+        fitting,
+    );
     let mut queue = [0u16; MAX_GRID];
     settle(
         script,
+        &starts,
+        &first,
+        &next,
         bookings,
         count,
         names,
-        &starts,
         e,
         fitting,
         grid,
@@ -258,20 +308,33 @@ pub fn both_of(
         → BothFound s (Booked (now (bookings .entry))) (now (small .exit)) (now (large .exit)) (bothOf r)) ⌝ }
 {
     let mut starts = [0u16; STARTS];
-    test_pairs(template, script, names, e, &mut starts, large);
+    let mut first = [0u16; MAX_CARDS];
+    let mut next = [0u16; MAX_LINKS];
+    test_pairs(
+        template,
+        script,
+        names,
+        e,
+        &mut starts,
+        &mut first,
+        &mut next,
+        large,
+    );
     let mut queue = [0u16; MAX_GRID];
     let smallest = settle(
         script,
+        &starts,
+        &first,
+        &next,
         bookings,
         count,
         names,
-        &starts,
         e,
         large,
         small,
         &mut queue,
     );
-    let largest = strike(script, names, e, large, &mut queue);
+    let largest = strike(script, &starts, &first, &next, names, e, large, &mut queue);
     Both { largest, smallest }
 }
 

@@ -18,27 +18,42 @@ use search::first_unmet;
 use sheet::Extent;
 use template::Shape;
 use typing::JudgeAnswer;
+use words::MAX_CARDS;
 use words::MAX_GRID;
+use words::MAX_LINKS;
 use words::TABLE_SIZE;
 
 // The verdict on a grid of zeros and ones where the sheet's pairs are tested: its lowest pair that is not met under it,
 // then the first booking that it does not hold.
 fn judge_tested(
     script: &[u16],
+    starts: &[u16; STARTS],
+    first: &[u16; MAX_CARDS],
+    next: &[u16; MAX_LINKS],
     bookings: &[u16],
     count: u16,
     names: &[u8],
-    starts: &[u16; STARTS],
     e: Extent,
     fitting: &[u8],
     grid: &[u8],
 ) -> JudgeAnswer
-    requires { ⌜ JudgingTested (now script) (now names) e (now fitting) (now bookings) count (now starts) (now grid) ⌝ }
+    requires { ⌜ JudgingTested (now script) (now names) e (now starts) (now first) (now next) (now fitting)
+        (now bookings) count (now grid) ⌝ }
     ensures { λ r. ⌜ ((s : Sheet) → SheetTested s (now (script .entry)) (now (names .entry)) e (now (fitting .entry))
         → JudgeFound s (now (bookings .entry)) (now (grid .entry)) (judgeSaid r)) ⌝ }
 {
     let shapes = e.shapes as usize;
-    let p = first_unmet(script, starts, names, shapes, fitting, grid);
+    let p = first_unmet(
+        script,
+        starts,
+        first,
+        next,
+        names,
+        shapes,
+        e.incoming,
+        fitting,
+        grid,
+    );
     if p < grid.len() {
         return JudgeAnswer::NotMet(Card((p / shapes) as u16), Shape((p % shapes) as u16));
     }
@@ -69,10 +84,32 @@ pub fn judge_of(
         return JudgeAnswer::Refused(61, over);
     }
     let mut starts = [0u16; STARTS];
+    let mut first = [0u16; MAX_CARDS];
+    let mut next = [0u16; MAX_LINKS];
     let mut fitting = [0u8; MAX_GRID];
     let pairs = &mut fitting[0..size];
-    test_pairs(template, script, names, e, &mut starts, pairs);
-    judge_tested(script, bookings, count, names, &starts, e, pairs, grid)
+    test_pairs(
+        template,
+        script,
+        names,
+        e,
+        &mut starts,
+        &mut first,
+        &mut next,
+        pairs,
+    );
+    judge_tested(
+        script,
+        &starts,
+        &first,
+        &next,
+        bookings,
+        count,
+        names,
+        e,
+        pairs,
+        grid,
+    )
 }
 
 // Judge: accepted where the grid is a sound typing that holds the bookings; or 62 and the lowest pair of it that is not

@@ -51,13 +51,15 @@ run-agrees f g h (suc n) at row =
     then-agrees (f at row) (g at) (readRun f n) (treesAt g n) (h at row) (λ next left. run-agrees f g h n next left)
 
 module _ (words : List ℕ) (end : ℕ) (sizes : Sizes) where
-  link-agrees : (at : ℕ) (row : List ℕ) (k : ℕ) → Agrees (readLink words end sizes at row k) (linkAt words at k)
+  link-agrees :
+      (at : ℕ) (row : List ℕ) (first kind : ℕ) →
+      Agrees (readLink words end sizes at row first kind) (linkAt words at (first + kind))
   unfolding readLink
-  link-agrees at row k =
-      let P : Reading (Found Part) → Type 0 = λ r. Agrees r (linkAt words at k) in
+  link-agrees at row first kind =
+      let P : Reading (Found Part) → Type 0 = λ r. Agrees r (linkAt words at (first + kind)) in
       refuse-case 4 end P (ltb (end - at) 4) _ (λ e. tt)
-      (λ e. refuse-case 7 at P (leb (sizes .kinds) k) _ (λ e₂. tt)
-      (λ e₂. refuse-case 8 at P (not (eqb (getD row k 0) 0)) _ (λ e₃. tt)
+      (λ e. refuse-case 7 at P (leb (sizes .kinds) kind) _ (λ e₂. tt)
+      (λ e₂. refuse-case 8 at P (not (eqb (getD row (first + kind) 0) 0)) _ (λ e₃. tt)
       (λ e₃. refuse-case 9 (at + 1) P (leb (sizes .shapes) (getD words (at + 1) 0)) _ (λ e₄. tt)
       (λ e₄. refuse-case 10 (at + 2) P (not (limitsOk (getD words (at + 2) 0) (getD words (at + 3) 0))) _ (λ e₅. tt)
       (λ e₅. refl)))))
@@ -77,7 +79,7 @@ module _ (words : List ℕ) (end : ℕ) (sizes : Sizes) where
       (λ e. refuse-case 11 (at + 1) P (ltb (getD words (at + 1) 0) minGroup) _ (λ e₂. tt)
       (λ e₂. refuse-case 11 (at + 1) P (ltb maxGroup (getD words (at + 1) 0)) _ (λ e₃. tt)
       (λ e₃. run-agrees f g h (getD words (at + 1) 0) (at + 2) row))))
-  code-agrees (Code.link k) f g at row h = link-agrees at row k
+  code-agrees (Code.link first kind) f g at row h = link-agrees at row first kind
 
   part-agrees :
       (left at : ℕ) (row : List ℕ) → end ≤ length words →

@@ -1,11 +1,12 @@
 -- Counts of labels, walked from the first on.
 -- others-step, others-not         whether the labels that a part does not name count 0, one label more
 -- over-here, over-next, over-end  where the first count over 8,192 stands, from a place on
+-- over-none                       it stands nowhere if no count is over 8,192
 -- Assumes nothing.
-use mathlib.Core.Path.{_≡_, sym, _∙_}
+use mathlib.Core.Path.{_≡_, refl, sym, _∙_, ap}
 use mathlib.Core.Logic.{⊎-elim}
 use mathlib.Core.Bool.{Bool, true, false, _||_, not}
-use mathlib.Core.List.{List}
+use mathlib.Core.List.{List, [], _∷_}
 use Prim.Native.Nat.{ℕ, zero, suc, _+_, _≤_, _<_}
 use native.Mathlib.Omega.{arith}
 use native.Mathlib.Numerals.{add-one}
@@ -15,9 +16,9 @@ use lib.Seq.{drop-cons, drop-length}
 use lib.Dec.{eqb}
 use Rattle.words.specs.Limits.{maxCount}
 use Rattle.words.proofs.Bools.{never-both, is-false, and-first, and-second, and-both, last-or-below}
-use Rattle.bags.specs.Part.{Part}
+use Rattle.bags.specs.Part.{Part, names}
 use Rattle.bags.specs.Named.{named}
-use Rattle.bags.specs.Interval.{names, othersZero}
+use Rattle.bags.specs.Interval.{othersZero}
 use Rattle.bags.proofs.Naming.{named-names}
 use Rattle.counts.specs.Fit.{firstOver}
 
@@ -57,3 +58,10 @@ module _ (counts : List ℕ) (i : ℕ) where
   pub over-end : i ≡ length counts → firstOver (drop i counts) ≡ 0
   unfolding firstOver
   over-end e = rw (e, drop-length counts)
+
+pub over-none :
+    (counts : List ℕ) → ((i : ℕ) → i < length counts → getD counts i 0 ≤ maxCount) → firstOver counts ≡ length counts
+unfolding firstOver
+over-none [] h = refl
+over-none (w ∷ ws) h =
+    rw (le-ltb maxCount w (h 0 (omega arith))) (ap suc (over-none ws (λ i l. h (suc i) (omega arith))))

@@ -185,18 +185,18 @@ module _ (w : ℕ → ℕ) (at : ℕ) where
                 (small-more _ all (rest .span) (omega arith) (q .small));
           })
 
--- Counts fit if 1 is in the interval, once the labels that are not named count 0.
+-- Counts fit if 1 is in the interval, once the outgoing kinds that are not named count 0.
 module _
-    (w : ℕ → ℕ) (labels at : ℕ) (t : Placed Part) (r : Bool) (others : r ≡ othersZero labels (t .value) w)
+    (w : ℕ → ℕ) (kinds at : ℕ) (t : Placed Part) (r : Bool) (others : r ≡ othersZero kinds (t .value) w)
   where
     pub fits-one :
         (e : Eval) (one : Bool) → Evaluates w at t e → one ≡ inside 1 (view (e .span)) → r ≡ true →
-        one ≡ fits labels (t .value) w
+        one ≡ fits kinds (t .value) w
     fits-one e one v h y =
         h ∙ ap (inside 1) (v .span) ∙ sym (and-one (inside 1 (interval (t .value) w)))
         ∙ ap (λ (b : Bool). inside 1 (interval (t .value) w) && b) (sym y ∙ others)
 
-    pub fits-not : r ≡ false → false ≡ fits labels (t .value) w
+    pub fits-not : r ≡ false → false ≡ fits kinds (t .value) w
     fits-not n =
         sym (and-none (inside 1 (interval (t .value) w)))
         ∙ ap (λ (b : Bool). inside 1 (interval (t .value) w) && b) (sym n ∙ others)

@@ -1,12 +1,15 @@
 -- What "Fit counts" answers, by its returns, and that it has no choice.
+-- question                            what is asked of a template that is read, where nothing is refused
 -- shape-fits                          what the test of `fits` decides, for a shape of an accepted template
 -- fits-asks                           what `fits` asks, for a shape of an accepted template and its row of names
 -- fit-…                               the answer at each return, with what leads there as premises
+-- fit-asked                           nothing is refused
 -- fit-said-unique                     what an answer says tells the answer
+-- answers-alike                       questions that fit alike have one answer
 -- fit-one-answer, fit-answer-unique   two answers that the contract allows are equal
 -- Assumes nothing.
-use mathlib.Core.Path.{_≡_, refl, sym, _∙_, ap}
-use mathlib.Core.Bool.{Bool, true, false, true≢false}
+use mathlib.Core.Path.{_≡_, refl, sym, _∙_, ap, fun-ext}
+use mathlib.Core.Bool.{Bool, true, false}
 use mathlib.Core.Logic.{inl, inr, _↔_}
 use mathlib.Core.List.{List, [], _∷_}
 use Prim.Native.Nat.{ℕ, _+_, _*_, _≤_, _<_}
@@ -18,9 +21,10 @@ use Rattle.words.specs.Said.{Said, refusal}
 use Rattle.words.specs.Limits.{maxLabels, maxDepth}
 use Rattle.words.specs.Sizes.{tableSize}
 use Rattle.words.specs.Reading.{Reading, accepted, turnedDown}
+use Rattle.words.proofs.Bools.{never-both}
 use Rattle.bags.specs.Part.{Part}
 use Rattle.bags.specs.Named.{named}
-use Rattle.bags.specs.Bag.{Fits, count}
+use Rattle.bags.specs.Bag.{count}
 use Rattle.bags.specs.Interval.{fits}
 use Rattle.bags.proofs.Decide.{list-decided}
 use Rattle.template.specs.Template.{Template, readTemplate, templateSays}
@@ -30,38 +34,51 @@ use Rattle.template.proofs.Accepted.{template-accepted}
 use Rattle.counts.specs.declared.FitAnswer.{FitAnswer}
 use Rattle.counts.specs.declared.FitAnswer.the-variants.{Yes, No, Refused}
 use Rattle.counts.specs.Answer.{fitSaid}
-use Rattle.counts.specs.Fit.{Question, firstOver, fitQuestion, Answers, FitSays}
+use Rattle.counts.specs.Fit.{Question, firstOver, fitQuestion, Fitting, Answers, FitSays}
 use Rattle.counts.specs.Trees.{treeAt}
-use Rattle.counts.specs.Machine.{Testable}
+use Rattle.counts.specs.Machine.{Testable, Spread}
 use Rattle.counts.proofs.Agreement.{shape-tree}
 
+-- What is asked of a template that is read, where nothing is refused.
+abbrev pub question : Template → ℕ → List ℕ → Question
+question t shape counts =
+    record {
+      kinds = t .kinds;
+      shapes = t .shapes;
+      part = getD (t .parts) shape Part.nothing;
+      counts = counts;
+    }
+
 module _ (words : List ℕ) (t : Template) (e : readTemplate words ≡ accepted t) (s : ℕ) (below : s < t .shapes) where
-  -- Whether counts fit a shape of an accepted template is what `fits` tests of the part at its place.
+  -- Whether counts fit a shape of an accepted template is what `fits` tests of the part at its place, once they are
+  -- spread over all labels.
   shape-fits :
-      (counts : List ℕ) (at : ℕ) → at ≡ shapePlace words s 2 →
-      Fits (t .shapes) (getD (t .parts) s Part.nothing) (count counts)
-      ↔ (fits (length counts) (treeAt maxDepth words (at + 1) .value) (count counts) ≡ true)
-  shape-fits counts at q =
+      (counts labels : List ℕ) (kinds at : ℕ) → kinds ≡ t .kinds → kinds ≤ length counts → Spread counts kinds labels →
+      at ≡ shapePlace words s 2 →
+      Fitting (question t s counts) ↔ (fits kinds (treeAt maxDepth words (at + 1) .value) (count labels) ≡ true)
+  shape-fits counts labels kinds at same room spread q =
       let a = template-accepted words t e in
-      rw (q, shape-tree words t s e below)
-      (list-decided (t .shapes) (getD (t .parts) s Part.nothing) counts (a .single s below) (a .shapes-below s below))
+      rw (q, shape-tree words t s e below, fun-ext (spread .exact), same)
+      (list-decided (t .shapes) (getD (t .parts) s Part.nothing) (t .kinds) counts (a .kinds-high) (omega arith)
+      (a .single s below) (a .shapes-below s below))
 
   -- What `fits` asks, with the shape's row of the table of names.
   pub fits-asks :
-      (counts names : List ℕ) (at base n : ℕ) → Tabled (t .parts) names → length names ≡ tableSize →
-      length counts ≡ t .kinds → at ≡ shapePlace words s 2 → base ≡ s * maxLabels → n ≡ maxLabels →
-      Testable words at (take n (drop base names)) (length counts)
-  fits-asks counts names at base n table all whole q b w =
+      (names labels : List ℕ) (kinds at base n : ℕ) → Tabled (t .parts) names → length names ≡ tableSize →
+      length labels ≡ maxLabels → kinds ≤ maxLabels → at ≡ shapePlace words s 2 → base ≡ s * maxLabels →
+      n ≡ maxLabels → Testable words at (take n (drop base names)) labels kinds
+  fits-asks names labels kinds at base n table all full few q b w =
       let a = template-accepted words t e in
       let row : length (take n (drop base names)) ≡ n =
       length-take-le n (drop base names) (simp length-drop (omega (arith, a .shapes-high))) in
       record {
         words-high = a .words-high;
         at-in = rw q (a .shape s below .start);
-        labels-in = omega (arith, a .kinds-high);
+        kinds-in = omega arith;
+        counted = omega arith;
         row-of =
             λ k h.
-            let i : k < n = omega (arith, a .kinds-high) in
+            let i : k < n = omega arith in
             let j : k < maxLabels = omega arith in
             let l : s < length (t .parts) = omega (arith, a .trees-length) in
             getD-take n (drop base names) k 0 i ∙ getD-drop base names k 0
@@ -84,60 +101,61 @@ module _ (words : List ℕ) (shape : ℕ) (counts : List ℕ) where
     unfolding fitQuestion
     fit-shape h = rw (e, le-leb (t .shapes) shape h)
 
-    -- 41: there is not a count for each kind.
+    -- 41: there is not a count for each kind each way.
     pub fit-length :
-        shape < t .shapes → (length counts ≡ t .kinds → ⊥) → FitSays words shape counts (refusal 41 (0 ∷ []))
+        shape < t .shapes → (length counts ≡ 2 * t .kinds → ⊥) → FitSays words shape counts (refusal 41 (0 ∷ []))
     unfolding fitQuestion
-    fit-length h d = rw (e, lt-leb (t .shapes) shape h, ne-eqb (length counts) (t .kinds) d)
+    fit-length h d = rw (e, lt-leb (t .shapes) shape h, ne-eqb (length counts) (2 * t .kinds) d)
 
-    module _
-        (below : shape < t .shapes) (all : length counts ≡ t .kinds) (place : ℕ) (first : place ≡ firstOver counts)
-      where
-        -- 43: a count is over 8,192, at the first.
-        pub fit-over : place < length counts → FitSays words shape counts (refusal 43 (place ∷ []))
-        unfolding fitQuestion
-        fit-over h =
-            let over : firstOver counts < length counts = rw first at h in
-            rw (
-              e,
-              lt-leb (t .shapes) shape below,
-              eq-eqb (length counts) (t .kinds) all,
-              lt-ltb (firstOver counts) (length counts) over,
-              first,
-            )
-            refl
+    module _ (below : shape < t .shapes) (all : length counts ≡ 2 * t .kinds) where
+      -- 43: a count is over 8,192, at the first.
+      pub fit-over :
+          (place : ℕ) → place ≡ firstOver counts → place < length counts →
+          FitSays words shape counts (refusal 43 (place ∷ []))
+      unfolding fitQuestion
+      fit-over place first h =
+          let over : firstOver counts < length counts = rw first at h in
+          rw (
+            e,
+            lt-leb (t .shapes) shape below,
+            eq-eqb (length counts) (2 * t .kinds) all,
+            lt-ltb (firstOver counts) (length counts) over,
+            first,
+          )
+          refl
 
-        -- Else yes or no: by the test that the intervals give.
-        fit-asked :
-            (said : Said) → length counts ≤ place →
-            Answers
-            (accepted (record { shapes = t .shapes; part = getD (t .parts) shape Part.nothing; counts = counts }))
-            said →
-            FitSays words shape counts said
-        unfolding fitQuestion
-        fit-asked said h a =
-            let none : length counts ≤ firstOver counts = rw first at h in
-            rw (
-              e,
-              lt-leb (t .shapes) shape below,
-              eq-eqb (length counts) (t .kinds) all,
-              le-ltb (firstOver counts) (length counts) none,
-            )
-            a
+      -- Else nothing is refused.
+      pub fit-asked :
+          length counts ≤ firstOver counts → fitQuestion words shape counts ≡ accepted (question t shape counts)
+      unfolding fitQuestion
+      fit-asked none =
+          rw (
+            e,
+            lt-leb (t .shapes) shape below,
+            eq-eqb (length counts) (2 * t .kinds) all,
+            le-ltb (firstOver counts) (length counts) none,
+          )
 
-        module _
-            (small : length counts ≤ place) (at : ℕ) (r : Bool) (where-at : at ≡ shapePlace words shape 2)
-            (test : r ≡ fits (length counts) (treeAt maxDepth words (at + 1) .value) (count counts))
-          where
-            pub fit-yes : r ≡ true → FitSays words shape counts (fitSaid Yes)
-            fit-yes h =
-                fit-asked (fitSaid Yes) small
-                (inl (shape-fits words t e shape below counts at where-at .1 (sym test ∙ h), refl))
+      -- Then yes or no: by the test that the intervals give.
+      module _
+          (place : ℕ) (first : place ≡ firstOver counts) (small : length counts ≤ place) (labels : List ℕ)
+          (kinds at : ℕ) (same : kinds ≡ t .kinds) (spread : Spread counts kinds labels)
+          (where-at : at ≡ shapePlace words shape 2) (r : Bool)
+          (test : r ≡ fits kinds (treeAt maxDepth words (at + 1) .value) (count labels))
+        where
+          by-test : Fitting (question t shape counts) ↔ (r ≡ true)
+          by-test =
+              rw test
+              (shape-fits words t e shape below counts labels kinds at same (omega arith) spread where-at)
 
-            pub fit-no : r ≡ false → FitSays words shape counts (fitSaid No)
-            fit-no h =
-                let fit = shape-fits words t e shape below counts at where-at in
-                fit-asked (fitSaid No) small (inr (λ f. true≢false (sym (fit .0 f) ∙ sym test ∙ h), refl))
+          answered : (said : Said) → Answers (accepted (question t shape counts)) said → FitSays words shape counts said
+          answered said a = rw (fit-asked (omega arith)) a
+
+          pub fit-yes : r ≡ true → FitSays words shape counts (fitSaid Yes)
+          fit-yes h = answered (fitSaid Yes) (inl (by-test .1 h, refl))
+
+          pub fit-no : r ≡ false → FitSays words shape counts (fitSaid No)
+          fit-no h = answered (fitSaid No) (inr (λ f. never-both (by-test .0 f) h, refl))
 
 -- What an answer says tells the answer.
 pub fit-said-unique : (a b : FitAnswer) → fitSaid a ≡ fitSaid b → a ≡ b
@@ -154,13 +172,17 @@ fit-said-unique (Refused n p) (Refused m q) e =
     let j : p ≡ q = cc in
     rw (i, j)
 
--- A question has one answer.
-answers-unique : (question : Reading Question) (x y : Said) → Answers question x → Answers question y → x ≡ y
+-- Questions that fit alike have one answer.
+pub answers-alike :
+    (a b : Question) (x y : Said) → Fitting a ↔ Fitting b → Answers (accepted a) x → Answers (accepted b) y → x ≡ y
+answers-alike a b x y h (inl p) (inl q) = p .1 ∙ sym (q .1)
+answers-alike a b x y h (inl p) (inr q) = absurd (q .0 (h .0 (p .0)))
+answers-alike a b x y h (inr p) (inl q) = absurd (p .0 (h .1 (q .0)))
+answers-alike a b x y h (inr p) (inr q) = p .1 ∙ sym (q .1)
+
+answers-unique : (asked : Reading Question) (x y : Said) → Answers asked x → Answers asked y → x ≡ y
 answers-unique (turnedDown number place) x y p q = p ∙ sym q
-answers-unique (accepted question) x y (inl p) (inl q) = p .1 ∙ sym (q .1)
-answers-unique (accepted question) x y (inl p) (inr q) = absurd (q .0 (p .0))
-answers-unique (accepted question) x y (inr p) (inl q) = absurd (p .0 (q .0))
-answers-unique (accepted question) x y (inr p) (inr q) = p .1 ∙ sym (q .1)
+answers-unique (accepted a) x y p q = answers-alike a a x y (λ f. f, λ f. f) p q
 
 -- The contract leaves no choice, of what is said and of the answers.
 pub fit-one-answer :

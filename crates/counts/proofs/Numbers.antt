@@ -5,7 +5,7 @@
 use mathlib.Core.Bool.{not}
 use mathlib.Core.List.{List}
 use mathlib.Core.Logic.{_⊎_, inl, inr}
-use Prim.Native.Nat.{ℕ, _≤_}
+use Prim.Native.Nat.{ℕ, _*_, _≤_}
 use native.Mathlib.Omega.{arith}
 use lib.ListN.{length}
 use lib.Dec.{ltb, leb, eqb}
@@ -21,7 +21,7 @@ FitNumber n = TemplateNumber n ⊎ ((41 ≤ n) × (n ≤ 43))
 asked-numbers : (shape : ℕ) (counts : List ℕ) (t : Template) → Numbered FitNumber (asked shape counts t)
 asked-numbers shape counts t =
     refuse-numbered FitNumber 42 0 (leb (t .shapes) shape) _ (inr (omega arith))
-    (refuse-numbered FitNumber 41 0 (not (eqb (length counts) (t .kinds))) _ (inr (omega arith))
+    (refuse-numbered FitNumber 41 0 (not (eqb (length counts) (2 * t .kinds))) _ (inr (omega arith))
     (refuse-numbered FitNumber 43 (firstOver counts) (ltb (firstOver counts) (length counts)) _ (inr (omega arith)) tt))
 
 -- A question that is refused is refused with one of its numbers.

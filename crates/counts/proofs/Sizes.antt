@@ -37,7 +37,7 @@ module _ (words : List ℕ) where
   code-ends inner h at l (Code.group f) =
       let a = run-ends inner h (getD words (at + 1) 0) (at + 2) in
       omega arith
-  code-ends inner h at l (Code.link k) = omega arith
+  code-ends inner h at l (Code.link first kind) = omega arith
 
   -- Where the tree at a place ends.
   pub next-bound : (left at : ℕ) → Ends words at (treeAt left words at)

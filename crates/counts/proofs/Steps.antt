@@ -7,9 +7,11 @@ use mathlib.Core.List.{List}
 use Prim.Native.Nat.{ℕ, _+_, _-_, _≤_, _<_}
 use native.Mathlib.Omega.{arith}
 use lib.ListN.{length, getD}
+use Rattle.bags.specs.Label.{firstLabel}
 use Rattle.bags.specs.Part.{Part, Parts}
 use Rattle.template.specs.Reading.{Code, codeOf, wrapped, gathered}
 use Rattle.template.proofs.Laws.{code-nothing, code-single, code-low, code-group, code-middle, code-link, code-high}
+use Rattle.template.proofs.Laws.{label-kind}
 use Rattle.counts.specs.declared.Eval.{Eval}
 use Rattle.template.specs.Template.{placed, onto}
 use Rattle.counts.specs.Trees.{linkAt, treesAt, treeBy, treeAt}
@@ -47,7 +49,7 @@ module _ (w : ℕ → ℕ) (words : List ℕ) (left at : ℕ) (e : Eval) where
     part-middle a b v = by-code Code.unknown (code-middle _ a b) v
 
     pub part-high :
-        320 ≤ getD words at 0 → Evaluates w at (placed Part.nothing (at + 1)) e →
+        384 ≤ getD words at 0 → Evaluates w at (placed Part.nothing (at + 1)) e →
         Evaluates w at (treeAt left words at) e
     part-high a v = by-code Code.unknown (code-high _ a) v
 
@@ -70,9 +72,11 @@ module _ (w : ℕ → ℕ) (words : List ℕ) (left at : ℕ) (e : Eval) where
         (evaluates-from w at (at + 2) _ e (omega arith) (rw q at v))
 
     pub part-link :
-        (label : ℕ) → label ≡ getD words at 0 - 256 → 256 ≤ getD words at 0 → getD words at 0 ≤ 319 →
+        (label : ℕ) → label ≡ getD words at 0 - 256 → 256 ≤ getD words at 0 → getD words at 0 ≤ 383 →
         Evaluates w at (linkAt words at label) e → Evaluates w at (treeAt left words at) e
-    part-link label q a b v = by-code (Code.link (getD words at 0 - 256)) (code-link _ a b) (rw q at v)
+    part-link label q a b v =
+        let (way, kind, l, same) = label-kind label (omega arith) in
+        by-code (Code.link (firstLabel way) kind) (code-link way kind (getD words at 0) l (omega arith)) (rw same at v)
 
   pub run-none :
       (code parts : ℕ) → parts ≡ 0 → Evaluates w at (onto (gathered code) (placed Parts.none at)) e →

@@ -2,11 +2,12 @@
 -- Question               what is asked of a template, a shape and counts once nothing is refused
 -- firstOver              where the first count over 8,192 stands
 -- asked, fitQuestion     the question, or the first refusal: a line each, with number, place and test
--- Answers                which answer a question has: yes exactly where the counts fit, no exactly where they do not
+-- Fitting                the counts that the shape looks at fit it
+-- Answers                which answer a question has: yes exactly where they fit, no exactly where they do not
 -- FitSays                what "Fit counts" says
 -- Assumes nothing.
 use mathlib.Core.Bool.{not, cond}
-use Prim.Native.Nat.{ℕ, suc}
+use Prim.Native.Nat.{ℕ, suc, _*_}
 use mathlib.Core.Path.{_≡_}
 use mathlib.Core.Logic.{_⊎_}
 use mathlib.Core.List.{List, [], _∷_}
@@ -16,11 +17,13 @@ use Rattle.words.specs.Said.{Said, values, refusal}
 use Rattle.words.specs.Limits.{maxCount}
 use Rattle.words.specs.Reading.{Reading, accepted, turnedDown, refuse, then}
 use Rattle.bags.specs.Part.{Part}
-use Rattle.bags.specs.Bag.{Fits, count}
+use Rattle.bags.specs.Bag.{Fits}
+use Rattle.bags.specs.Look.{seen, listed}
 use Rattle.template.specs.Template.{Template, readTemplate}
 
--- The template's count of shapes, the shape's part, and the counts.
+-- The template's counts of kinds and of shapes, the shape's part, and the counts.
 pub record Question : Type 0 where
+  pub kinds : ℕ
   pub shapes : ℕ
   pub part : Part
   pub counts : List ℕ
@@ -31,24 +34,33 @@ firstOver [] = 0
 firstOver (w ∷ ws) = cond (ltb maxCount w) 0 (suc (firstOver ws))
 
 -- What is asked of a template that is read. 42: the shape is not below the count of shapes. 41: there is not a count
--- for each kind. 43: a count is over 8,192, at the first.
+-- for each outgoing kind and then for each incoming one. 43: a count is over 8,192, at the first.
 abbrev pub asked : ℕ → List ℕ → Template → Reading Question
 asked shape counts t =
     refuse 42 0 (leb (t .shapes) shape)
-    (refuse 41 0 (not (eqb (length counts) (t .kinds)))
+    (refuse 41 0 (not (eqb (length counts) (2 * t .kinds)))
     (refuse 43 (firstOver counts) (ltb (firstOver counts) (length counts))
-    (accepted (record { shapes = t .shapes; part = getD (t .parts) shape Part.nothing; counts = counts }))))
+    (accepted (record {
+      kinds = t .kinds;
+      shapes = t .shapes;
+      part = getD (t .parts) shape Part.nothing;
+      counts = counts;
+    }))))
 
 -- The template's refusals come first.
 unfoldable pub fitQuestion : List ℕ → ℕ → List ℕ → Reading Question
 fitQuestion template shape counts = then (readTemplate template) (asked shape counts)
 
--- Yes where the counts are those of a bag of the part, no where they are not.
+-- The counts that the part looks at are those of a bag of the part: incoming kinds that it does not name are ignored.
+abbrev pub Fitting : Question → Type 0
+Fitting question =
+    Fits (question .shapes) (question .part) (seen (question .part) (listed (question .kinds) (question .counts)))
+
+-- Yes where they are, no where they are not.
 abbrev pub Answers : Reading Question → Said → Type 0
 Answers (turnedDown number place) said = said ≡ refusal number (place ∷ [])
 Answers (accepted question) said =
-    (Fits (question .shapes) (question .part) (count (question .counts)) × (said ≡ values (1 ∷ [])))
-    ⊎ ((Fits (question .shapes) (question .part) (count (question .counts)) → ⊥) × (said ≡ values (0 ∷ [])))
+    (Fitting question × (said ≡ values (1 ∷ []))) ⊎ ((Fitting question → ⊥) × (said ≡ values (0 ∷ [])))
 
 -- What is said of a template, a shape and counts.
 abbrev pub FitSays : List ℕ → ℕ → List ℕ → Said → Type 0

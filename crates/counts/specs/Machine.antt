@@ -1,17 +1,20 @@
 -- What the inner functions of "Fit counts" ask; no part of a promise.
--- RowOf      a row has the names of a part, for so many labels
--- Testable   what testing counts against a shape asks
--- Known      what is known of a template that was read into a table of names
+-- RowOf                 a row has the names of a part, for so many labels
+-- Testable              what testing counts against a shape asks
+-- SpreadAsked, Spread   what spreading a list of counts over all labels asks and leaves
+-- Known                 what is known of a template that was read into a table of names
 -- Assumes nothing.
-use Prim.Native.Nat.{ℕ, _+_, _≤_, _<_}
+use Prim.Native.Nat.{ℕ, _+_, _*_, _≤_, _<_}
 use mathlib.Core.Path.{_≡_}
 use mathlib.Core.List.{List, [], _∷_}
-use lib.ListN.{length, getD}
+use lib.ListN.{length, getD, replicate}
 use Rattle.words.specs.Said.{values}
-use Rattle.words.specs.Limits.{maxTemplate, maxDepth}
+use Rattle.words.specs.Limits.{maxKinds, maxLabels, maxTemplate, maxDepth}
 use Rattle.words.specs.Sizes.{tableSize}
 use Rattle.words.specs.Reading.{accepted}
 use Rattle.bags.specs.Part.{Part}
+use Rattle.bags.specs.Bag.{count}
+use Rattle.bags.specs.Look.{listed}
 use Rattle.bags.specs.Named.{named}
 use Rattle.template.specs.Template.{Template, readTemplate, templateSays}
 use Rattle.template.specs.Machine.{Tabled}
@@ -21,12 +24,25 @@ use Rattle.counts.specs.Trees.{treeAt}
 abbrev pub RowOf : List ℕ → ℕ → Part → Type 0
 RowOf row labels p = (k : ℕ) → k < labels → getD row k 0 ≡ named p k
 
--- The shape whose count of words stands at `at` is inside the words, and the row has its names for each of the labels.
-pub record Testable (words : List ℕ) (at : ℕ) (row : List ℕ) (labels : ℕ) : Type 0 where
+-- The shape whose count of words stands at `at` is inside the words, and the row has its names for each outgoing kind,
+-- which has a count.
+pub record Testable (words : List ℕ) (at : ℕ) (row counts : List ℕ) (kinds : ℕ) : Type 0 where
   pub words-high : length words ≤ maxTemplate
   pub at-in : at < length words
-  pub labels-in : labels ≤ length row
-  pub row-of : RowOf row labels (treeAt maxDepth words (at + 1) .value)
+  pub kinds-in : kinds ≤ length row
+  pub counted : kinds ≤ length counts
+  pub row-of : RowOf row kinds (treeAt maxDepth words (at + 1) .value)
+
+-- A list with the counts of so many kinds each way, and room for a count of each label, all 0.
+pub record SpreadAsked (counts : List ℕ) (kinds : ℕ) (labels : List ℕ) : Type 0 where
+  pub few : kinds ≤ maxKinds
+  pub each-way : length counts ≡ 2 * kinds
+  pub zeros : labels ≡ replicate maxLabels 0
+
+-- A count of each label, as the list has it.
+pub record Spread (counts : List ℕ) (kinds : ℕ) (labels : List ℕ) : Type 0 where
+  pub full : length labels ≡ maxLabels
+  pub exact : (k : ℕ) → count labels k ≡ listed kinds counts k
 
 -- A template was read with these counts of kinds and shapes, and the table has its names.
 pub record Known (template names : List ℕ) (kinds shapes : ℕ) : Type 0 where

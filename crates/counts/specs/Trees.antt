@@ -34,7 +34,7 @@ treeBy Code.nothing inner words at = placed Part.nothing (at + 1)
 treeBy Code.unknown inner words at = placed Part.nothing (at + 1)
 treeBy (Code.single f) inner words at = onto f (inner (at + 1))
 treeBy (Code.group f) inner words at = onto f (treesAt inner (getD words (at + 1) 0) (at + 2))
-treeBy (Code.link label) inner words at = linkAt words at label
+treeBy (Code.link first kind) inner words at = linkAt words at (first + kind)
 
 -- The part at a place, where `left` levels of parts are still allowed; nothing past the end or where none is left.
 unfoldable pub treeAt : ℕ → List ℕ → ℕ → Placed Part

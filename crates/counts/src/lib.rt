@@ -17,7 +17,7 @@ ghost use Rattle.counts.specs.Answer.{fitSaid};
 ghost use Rattle.counts.specs.Fit.{firstOver, FitSays};
 ghost use Rattle.counts.specs.Trees.{linkAt, treeAt, treesAt};
 ghost use Rattle.counts.specs.Evaluation.{Evaluates, Wraps, Joins};
-ghost use Rattle.counts.specs.Machine.{RowOf, Testable, Known};
+ghost use Rattle.counts.specs.Machine.{RowOf, Testable, SpreadAsked, Spread, Known};
 use bags::Span;
 use bags::TOP;
 use bags::add_span;
@@ -32,6 +32,7 @@ use template::TemplateAnswer;
 use template::read_names;
 use words::MAX_COUNT;
 use words::MAX_DEPTH;
+use words::MAX_KINDS;
 use words::MAX_LABELS;
 use words::TABLE_SIZE;
 use words::wide;
@@ -165,6 +166,7 @@ fn part(words: &[u16], counts: &[u16], at: usize, left: usize) -> Eval
         16..=17 => run(words, counts, at + 2, left - 1, word(words, at + 1), code),
         18..=255 => nothing(at + 1),
         256..=319 => link(words, counts, at, wide(code - 256)),
+        320..=383 => link(words, counts, at, wide(code - 256)),
         _ => nothing(at + 1),
     }
 }
@@ -207,14 +209,14 @@ fn allowed(entry: u8, count: u16) -> bool
     count == 0
 }
 
-// Whether each label that has no entry in the row counts 0: those that the row's part does not name.
-fn others_zero(row: &[u8], counts: &[u16]) -> bool
-    requires { ⌜ length (now counts) ≤ length (now row) ⌝ }
-    ensures { λ r. ⌜ ((p : Part) → RowOf (now (row .entry)) (length (now (counts .entry))) p
-        → r ≡ othersZero (length (now (counts .entry))) p (count (now (counts .entry)))) ⌝ }
+// Whether each outgoing kind that has no entry in the row counts 0: those that the row's part does not name.
+fn others_zero(row: &[u8], counts: &[u16], kinds: usize) -> bool
+    requires { ⌜ (kinds ≤ length (now row)) × (kinds ≤ length (now counts)) ⌝ }
+    ensures { λ r. ⌜ ((p : Part) → RowOf (now (row .entry)) kinds p
+        → r ≡ othersZero kinds p (count (now (counts .entry)))) ⌝ }
 {
     let mut i = 0;
-    while i < counts.len() {
+    while i < kinds {
         if allowed(row[i], counts[i]) {
             i += 1;
         } else {
@@ -238,19 +240,32 @@ fn first_over(counts: &[u16]) -> usize
     i
 }
 
-// Whether the counts fit the shape whose count of words stands at `at`.
+// Whether the counts of the labels fit the shape whose count of words stands at `at`.
 // The row is the shape's in the table of names.
-pub fn fits(words: &[u16], at: usize, row: &[u8], counts: &[u16]) -> bool
-    requires { ⌜ Testable (now words) at (now row) (length (now counts)) ⌝ }
-    ensures { λ r. ⌜ r ≡ countsFit (length (now (counts .entry)))
-        (treeAt maxDepth (now (words .entry)) (at + 1) .value) (count (now (counts .entry))) ⌝ }
+pub fn fits(words: &[u16], at: usize, row: &[u8], counts: &[u16], kinds: usize) -> bool
+    requires { ⌜ Testable (now words) at (now row) (now counts) kinds ⌝ }
+    ensures { λ r. ⌜ r ≡ countsFit kinds (treeAt maxDepth (now (words .entry)) (at + 1) .value)
+        (count (now (counts .entry))) ⌝ }
 {
-    if others_zero(row, counts) {
+    if others_zero(row, counts, kinds) {
         let whole = part(words, counts, at + 1, MAX_DEPTH);
         let span = whole.span;
         has_one(span)
     } else {
         false
+    }
+}
+
+// Spreads a list of counts, those of the outgoing kinds and then those of the incoming ones, over all labels.
+fn spread(counts: &[u16], kinds: usize, labels: &mut [u16])
+    requires { ⌜ SpreadAsked (now counts) kinds (now labels) ⌝ }
+    ensures { λ _. ⌜ Spread (now (counts .entry)) kinds (now (labels .exit)) ⌝ }
+{
+    let mut k = 0;
+    while k < kinds {
+        labels[k] = counts[k];
+        labels[MAX_KINDS + k] = counts[kinds + k];
+        k += 1;
     }
 }
 
@@ -271,7 +286,8 @@ fn fit_accepted(
     if shapes <= n {
         return FitAnswer::Refused(42, 0);
     }
-    if counts.len() != wide(kinds) {
+    let each_way = wide(kinds);
+    if counts.len() != 2 * each_way {
         return FitAnswer::Refused(41, 0);
     }
     let over = first_over(counts);
@@ -281,7 +297,9 @@ fn fit_accepted(
     let base = wide(n) * MAX_LABELS;
     let end = base + MAX_LABELS;
     let at = shape_place(template, n);
-    if fits(template, at, &names[base..end], counts) {
+    let mut labels = [0u16; MAX_LABELS];
+    spread(counts, each_way, &mut labels);
+    if fits(template, at, &names[base..end], &labels, each_way) {
         FitAnswer::Yes
     } else {
         FitAnswer::No

@@ -37,14 +37,14 @@ fn show(label: &[u8], template: &[u16], shape: u16, counts: &[u16]) {
     answer(template, shape, counts);
 }
 
-// One case with one count.
+// One case of one kind, and no link that arrives.
 fn one(label: &[u8], template: &[u16], shape: u16, a: u16) {
-    show(label, template, shape, &[a]);
+    show(label, template, shape, &[a, 0]);
 }
 
-// One case with two counts, of the first shape.
+// One case of two kinds, of the first shape, and no link that arrives.
 fn two(label: &[u8], template: &[u16], a: u16, b: u16) {
-    show(label, template, 0, &[a, b]);
+    show(label, template, 0, &[a, b, 0, 0]);
 }
 
 // P1 to P5: nothing, and one link.
@@ -122,41 +122,53 @@ fn shapes() {
         b"shape-below-the-count",
         &[2, 2, 10, 17, 2, 256, 1, 1, 1, 257, 0, 0, 1, 1, 0],
         1,
-        &[0, 0],
+        &[0, 0, 0, 0],
     );
     show(
         b"shape-at-the-count",
         &[2, 2, 10, 17, 2, 256, 1, 1, 1, 257, 0, 0, 1, 1, 0],
         2,
-        &[0, 0],
+        &[0, 0, 0, 0],
     );
     show(
         b"shape-65535",
         &[2, 2, 10, 17, 2, 256, 1, 1, 1, 257, 0, 0, 1, 1, 0],
         65535,
-        &[0, 0],
+        &[0, 0, 0, 0],
     );
 }
 
-// 41 on both sides.
+// 41 on both sides: two kinds have four counts.
 fn lengths() {
-    one(
-        b"one-count-of-two",
+    show(
+        b"one-count-of-four",
         &[2, 2, 10, 17, 2, 256, 1, 1, 1, 257, 0, 0, 1, 1, 0],
         0,
-        1,
-    );
-    two(
-        b"two-counts-of-two",
-        &[2, 2, 10, 17, 2, 256, 1, 1, 1, 257, 0, 0, 1, 1, 0],
-        1,
-        0,
+        &[1],
     );
     show(
-        b"three-counts-of-two",
+        b"two-counts-of-four",
+        &[2, 2, 10, 17, 2, 256, 1, 1, 1, 257, 0, 0, 1, 1, 0],
+        0,
+        &[1, 0],
+    );
+    show(
+        b"three-counts-of-four",
         &[2, 2, 10, 17, 2, 256, 1, 1, 1, 257, 0, 0, 1, 1, 0],
         0,
         &[1, 0, 0],
+    );
+    show(
+        b"four-counts-of-four",
+        &[2, 2, 10, 17, 2, 256, 1, 1, 1, 257, 0, 0, 1, 1, 0],
+        0,
+        &[1, 0, 0, 0],
+    );
+    show(
+        b"five-counts-of-four",
+        &[2, 2, 10, 17, 2, 256, 1, 1, 1, 257, 0, 0, 1, 1, 0],
+        0,
+        &[1, 0, 0, 0, 0],
     );
 }
 
@@ -177,21 +189,39 @@ fn greatest() {
         8193,
         8193,
     );
+    show(
+        b"arriving-count-8192",
+        &[2, 2, 10, 17, 2, 256, 1, 1, 1, 257, 0, 0, 1, 1, 0],
+        0,
+        &[1, 0, 0, 8192],
+    );
+    show(
+        b"arriving-count-8193",
+        &[2, 2, 10, 17, 2, 256, 1, 1, 1, 257, 0, 0, 1, 1, 0],
+        0,
+        &[1, 0, 0, 8193],
+    );
+    show(
+        b"leaving-count-first",
+        &[2, 2, 10, 17, 2, 256, 1, 1, 1, 257, 0, 0, 1, 1, 0],
+        0,
+        &[1, 8193, 8193, 0],
+    );
 }
 
 // Which refusal is first.
 fn order() {
-    one(
+    show(
         b"shape-before-length",
         &[2, 2, 10, 17, 2, 256, 1, 1, 1, 257, 0, 0, 1, 1, 0],
         2,
-        1,
+        &[1],
     );
-    one(
+    show(
         b"length-before-count",
         &[2, 2, 10, 17, 2, 256, 1, 1, 1, 257, 0, 0, 1, 1, 0],
         0,
-        9000,
+        &[9000],
     );
     one(b"template-before-shape", &[0, 1, 1, 0], 9, 9000);
     one(b"template-of-one-word", &[1], 0, 0);
@@ -232,6 +262,96 @@ fn empties() {
         &[1, 1, 15, 1, 1, 1, 1, 1, 1, 1, 1, 1, 1, 1, 256, 0, 1, 1],
         0,
         5,
+    );
+}
+
+// Links that arrive: of items and guests, kinds that are not named, and both ways in one part.
+fn arriving() {
+    show(
+        b"guest-that-is-pointed-at",
+        &[1, 2, 4, 256, 1, 1, 65535, 4, 320, 0, 1, 65535],
+        1,
+        &[0, 1],
+    );
+    show(
+        b"guest-that-is-not",
+        &[1, 2, 4, 256, 1, 1, 65535, 4, 320, 0, 1, 65535],
+        1,
+        &[0, 0],
+    );
+    show(
+        b"guest-that-points",
+        &[1, 2, 4, 256, 1, 1, 65535, 4, 320, 0, 1, 65535],
+        1,
+        &[1, 1],
+    );
+    show(
+        b"item-that-is-pointed-at",
+        &[1, 2, 4, 256, 1, 1, 65535, 4, 320, 0, 1, 65535],
+        0,
+        &[1, 7],
+    );
+    show(
+        b"item-that-does-not-point",
+        &[1, 2, 4, 256, 1, 1, 65535, 4, 320, 0, 1, 65535],
+        0,
+        &[0, 7],
+    );
+    show(
+        b"arriving-of-two-kinds",
+        &[2, 1, 4, 321, 0, 1, 1],
+        0,
+        &[0, 0, 9, 1],
+    );
+    show(
+        b"arriving-of-the-other-kind",
+        &[2, 1, 4, 321, 0, 1, 1],
+        0,
+        &[0, 0, 1, 0],
+    );
+    show(
+        b"leaving-not-named",
+        &[2, 1, 4, 321, 0, 1, 1],
+        0,
+        &[0, 1, 0, 1],
+    );
+    show(b"none-may-arrive", &[1, 1, 4, 320, 0, 0, 0], 0, &[0, 1]);
+    show(b"none-arrives", &[1, 1, 4, 320, 0, 0, 0], 0, &[0, 0]);
+    show(
+        b"both-ways",
+        &[1, 1, 10, 17, 2, 256, 0, 1, 1, 320, 0, 1, 1],
+        0,
+        &[1, 1],
+    );
+    show(
+        b"both-ways-one-missing",
+        &[1, 1, 10, 17, 2, 256, 0, 1, 1, 320, 0, 1, 1],
+        0,
+        &[1, 0],
+    );
+    show(
+        b"either-way",
+        &[1, 1, 10, 16, 2, 256, 0, 1, 1, 320, 0, 1, 1],
+        0,
+        &[0, 1],
+    );
+    show(
+        b"star-of-both-ways",
+        &[1, 1, 11, 1, 17, 2, 256, 0, 1, 1, 320, 0, 1, 1],
+        0,
+        &[3, 3],
+    );
+    show(
+        b"star-of-both-ways-apart",
+        &[1, 1, 11, 1, 17, 2, 256, 0, 1, 1, 320, 0, 1, 1],
+        0,
+        &[3, 2],
+    );
+    show(
+        b"plus-of-none-arriving",
+        &[1, 1, 5, 2, 320, 0, 0, 0],
+        0,
+        &[0, 1],
     );
 }
 
@@ -288,7 +408,7 @@ fn decode(bytes: &[u8], words: &mut [u16]) -> usize
 }
 
 // The samples from standard input, 16-bit words with the low byte first: groups of 16 links at the greatest counts, and
-// then random ones, whose answers were found by enumeration of bags.
+// then fixed and random ones, whose answers were found by enumeration of bags.
 fn stored() {
     let mut bytes = [0u8; 65536];
     let n = io::read_full(0, &mut bytes);
@@ -308,5 +428,6 @@ fn main() {
     order();
     limits();
     empties();
+    arriving();
     stored();
 }

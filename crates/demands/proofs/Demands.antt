@@ -4,7 +4,7 @@
 --   third-demand    the smallest and the largest typing
 --   judge-demand    grids of other makers
 -- Assumes nothing.
-use Prim.Native.Nat.{ℕ, suc, _≤_, _<_}
+use Prim.Native.Nat.{ℕ, suc, _*_, _≤_, _<_}
 use mathlib.Core.Path.{_≡_, refl, sym, ap, _∙_, subst}
 use mathlib.Core.Logic.{_⊎_, inl, inr, ⊎-elim, _↔_}
 use mathlib.Core.List.{List, [], _∷_}
@@ -21,7 +21,8 @@ use Rattle.template.proofs.Numbers.{template-numbers}
 use Rattle.template.proofs.RoundTrip.{templates-are}
 use Rattle.script.specs.Script.{readWith, scriptValues, scriptSays}
 use Rattle.bags.specs.Part.{Part}
-use Rattle.bags.specs.Bag.{Bag, Bags, Fits, count}
+use Rattle.bags.specs.Bag.{Bag, Bags, Fits}
+use Rattle.bags.specs.Look.{seen, listed}
 use Rattle.bags.proofs.Adequate.{met-is}
 use Rattle.board.specs.Grid.{on, tally}
 use Rattle.board.specs.Board.{Board}
@@ -52,6 +53,7 @@ use Rattle.demands.specs.Demands.{TurnedDown, LargestTyping, TwoTypings,
 use Rattle.demands.specs.Demands.{JudgedGrids, JudgeDemand}
 use Rattle.demands.proofs.Formed.{formed-sheet, sheets-are, bookings-are, largest-taken, smallest-taken}
 use Rattle.demands.proofs.Formed.{both-taken}
+use Rattle.demands.proofs.Counts.{counts-fit-exactly, card-fits-exactly}
 use Rattle.demands.proofs.Listed.{no-values, said-listed, fit-refused, largest-refused, smallest-refused}
 use Rattle.demands.proofs.Listed.{both-refused, script-numbered}
 
@@ -134,42 +136,6 @@ first-demand = record {
 }
 
 -- ---- the second demand
--- Where no count is over 8,192, the first that is stands past the end.
-none-over : (counts : List ℕ) → ((k : ℕ) → getD counts k 0 ≤ maxCount) → length counts ≤ firstOver counts
-unfolding firstOver
-none-over [] low = omega arith
-none-over (w ∷ ws) low = rw (le-ltb maxCount w (low 0)) (omega (arith, none-over ws (λ k. low (suc k))))
-
-module _ (template : List ℕ) (t : Template) (read : readTemplate template ≡ accepted t)
-    (shape : ℕ) (inside : shape < t .shapes)
-    (counts : List ℕ) (whole : length counts ≡ t .kinds) (low : (k : ℕ) → getD counts k 0 ≤ maxCount) where
-  -- the shape's part has a bag with these counts
-  abbrev Fit : Type 0
-  Fit = Fits (t .shapes) (getD (t .parts) shape Part.nothing) (count counts)
-
-  -- no test of "Fit counts" finds a fault
-  nothing-refused : fitQuestion template shape counts
-      ≡ accepted (record { shapes = t .shapes; part = getD (t .parts) shape Part.nothing; counts = counts })
-  unfolding fitQuestion
-  nothing-refused = rw (
-    read,
-    lt-leb (t .shapes) shape inside,
-    eq-eqb (length counts) (t .kinds) whole,
-    le-ltb (firstOver counts) (length counts) (none-over counts low),
-  ) refl
-
-  counts-fit-exactly : (said : Said) → FitSays template shape counts said
-      → ((said ≡ values (1 ∷ [])) ↔ Fit) × ((said ≡ values (0 ∷ [])) ↔ (Fit → ⊥))
-  counts-fit-exactly said x = by-answer (rw nothing-refused at x)
-    where
-      not-both : {A : Type 0} → said ≡ values (1 ∷ []) → said ≡ values (0 ∷ []) → A
-      not-both e f = let z : _≡_ {A = ℕ} 1 0 = cc in absurd (omega arith)
-
-      by-answer : (Fit × (said ≡ values (1 ∷ []))) ⊎ ((Fit → ⊥) × (said ≡ values (0 ∷ [])))
-          → ((said ≡ values (1 ∷ [])) ↔ Fit) × ((said ≡ values (0 ∷ [])) ↔ (Fit → ⊥))
-      by-answer (inl (f, e)) = ((λ _. f, λ _. e), (λ d. not-both e d, λ g. absurd (g f)))
-      by-answer (inr (g, e)) = ((λ d. not-both d e, λ f. absurd (g f)), (λ _. g, λ _. e))
-
 -- Met is rule 2 of one pair.
 sound-exactly : (s : Sheet) (grid : List ℕ) → SoundTyping s grid ↔ (Typing s grid × RuleTwo s (on grid))
 sound-exactly s grid = (
@@ -183,6 +149,7 @@ sound-exactly s grid = (
 pub second-demand : SecondDemand
 second-demand = record {
   counts-fit = λ template t formed. counts-fit-exactly template t (templates-are template t .1 formed);
+  card-fits = card-fits-exactly;
   sound-typing = sound-exactly;
 }
 

@@ -1,5 +1,6 @@
 -- What is well-formed is just what is read (docs/FORMAT.md, "Templates", "Scripts", "Bookings").
 --   sheets-are     a template and a script; bookings-are: a list of bookings
+--   formed-template, formed-sheet, formed-read   what reading such words finds
 --   largest-taken, smallest-taken, both-taken   what the calls take: these, and grids with a byte for each pair
 -- Assumes nothing.
 use Prim.Native.Nat.{ℕ, zero, suc, _+_, _*_, _≤_, _<_}
@@ -18,7 +19,8 @@ use Rattle.template.proofs.RoundTrip.{templates-are}
 use Rattle.script.specs.Script.{ScriptCounts, countsOf, readScript}
 use Rattle.script.proofs.RoundTrip.{scripts-are}
 use Rattle.sheet.specs.Sheet.{Sheet, size, sheetOf, readSheet}
-use Rattle.sheet.proofs.Accepted.{mapped-accepted, sheet-asked}
+use Rattle.sheet.specs.Opened.{templateAs}
+use Rattle.sheet.proofs.Accepted.{SheetAccepted, mapped-accepted, sheet-asked, sheet-made}
 use Rattle.bookings.specs.Bookings.{cardAt, shapeAt, readPairs, readBookings}
 use Rattle.bookings.proofs.Accepted.{bookings-size, bookings-in}
 use Rattle.typing.specs.Calls.{withBookings, withGrid, largestReading, smallestReading, Grids, bothReading}
@@ -45,14 +47,28 @@ module _ (words list : List ℕ) (s : Sheet) where
         words = refl;
       })
 
-  pub formed-sheet : Formed words list s → readSheet words list ≡ accepted s
-  formed-sheet f =
-      let t : Template = record { kinds = f .kinds; shapes = s .shapes; parts = s .parts } in
-      let c : ScriptCounts = countsOf (s .cards) (s .links) in
-      let first = templates-are words t .1 (f .template-formed, f .template-written) in
-      let second = scripts-are (f .kinds) list c .1 (f .links, f .script-formed, f .count, f .script-written) in
-      sheet-asked words list t c first second
-      ∙ ap (λ (xs : List ℕ). accepted (sheetOf t c xs)) (sym (f .words))
+  module _ (f : Formed words list s) where
+    abbrev shaped : Template
+    shaped = templateAs (f .kinds) (s .shapes) (s .parts)
+
+    abbrev counts : ScriptCounts
+    counts = countsOf (s .cards) (s .links)
+
+    pub formed-template : readTemplate words ≡ accepted shaped
+    formed-template = templates-are words shaped .1 (f .template-formed, f .template-written)
+
+    formed-script : readScript (f .kinds) list ≡ accepted counts
+    formed-script = scripts-are (f .kinds) list counts .1 (f .links, f .script-formed, f .count, f .script-written)
+
+    pub formed-sheet : readSheet words list ≡ accepted s
+    formed-sheet =
+        sheet-asked words list shaped counts formed-template formed-script
+        ∙ ap (λ (xs : List ℕ). accepted (sheetOf shaped counts xs)) (sym (f .words))
+
+    pub formed-read : SheetAccepted words (f .kinds) s
+    formed-read =
+        sheet-made words (s .script) shaped counts formed-template
+        (subst (λ (xs : List ℕ). readScript (f .kinds) xs ≡ accepted counts) (sym (f .words)) formed-script)
 
   pub sheets-are : (readSheet words list ≡ accepted s) ↔ Formed words list s
   sheets-are = (sheet-formed, formed-sheet)

@@ -19,7 +19,7 @@ use Rattle.sheet.specs.Sheet.{Sheet, place}
 use Rattle.bookings.specs.Bookings.{cardAt, shapeAt, readPairs, readBookings, Booked}
 use Rattle.board.specs.Grid.{on, bit, tally}
 use Rattle.board.specs.Machine.{all}
-use Rattle.typing.specs.Needs.{linkTest, metTest}
+use Rattle.typing.specs.Needs.{endTest, linkTest, metTest}
 use Rattle.typing.specs.Typing.{Has, Met, Holds, Typing, SoundTyping}
 use Rattle.typing.specs.Calls.{smallestReading}
 use Rattle.typing.specs.Judge.{Verdict, over, unmet, unheld, passes, verdictSaid, Judged, JudgeAnswered, JudgeSays}
@@ -110,7 +110,7 @@ over-sample = judge-worked metBookings overGrid (over 1) (met-asked overGrid ref
 
 -- (1, 0) asks for a link to shape 1, and card 0, to which the link leads, has no shape.
 unmet-computed : board .met (on unmetGrid) 2 ≡ false
-unfolding metTest linkTest on all tally bit fromAt kindAt toAt
+unfolding metTest linkTest endTest on all tally bit fromAt kindAt toAt
 unmet-computed = refl
 
 unmet-typing : Typing worked unmetGrid

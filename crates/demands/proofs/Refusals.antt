@@ -48,5 +48,5 @@ unfolding readTemplate readShape readShapes readPart readRun readLink templateSa
     toAt above greater scriptSays firstOver fitQuestion readSheet cardAt shapeAt readPairs readBookings wordAt
     sectionEnd scriptStart bookingsStart inputEnd readInput
 other-faults-happen =
-    refl & refl & refl & refl & refl & refl & refl & refl & refl & refl & refl & refl & refl & (refl, refl) &
-    (refl, refl) & refl & refl & refl & tt
+    refl & refl & refl & refl & refl & refl & refl & refl & refl & refl & refl & refl & refl & refl & refl & refl &
+    (refl, refl) & (refl, refl) & refl & refl & refl & refl & refl & tt

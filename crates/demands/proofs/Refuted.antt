@@ -184,10 +184,10 @@ shape-named x =
     let e = judge-one-answer template script unmetBookings lastShape _ _ x unheld-sample in
     let z : _≡_ {A = ℕ} 2 1 = cc in omega arith
 
--- "No" to the counts of card 0, one link of each kind, which fit shape 0.
-pub wrong-fit : FitSays template 0 (1 ∷ 1 ∷ []) (values (0 ∷ [])) → ⊥
+-- "No" to the counts of card 0, which fit shape 0: one link of each kind from it, and one of kind 0 to it.
+pub wrong-fit : FitSays template 0 (1 ∷ 1 ∷ 1 ∷ 0 ∷ []) (values (0 ∷ [])) → ⊥
 wrong-fit x =
-    let e = fit-one-answer template 0 (1 ∷ 1 ∷ []) (values (0 ∷ [])) (values (1 ∷ [])) x worked-fit in
+    let e = fit-one-answer template 0 (1 ∷ 1 ∷ 1 ∷ 0 ∷ []) (values (0 ∷ [])) (values (1 ∷ [])) x worked-fit in
     let z : _≡_ {A = ℕ} 0 1 = cc in omega arith
 
 -- "Links of a card" for card 3, which is not there: the part is empty and starts where the script does, not two words

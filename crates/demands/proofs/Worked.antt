@@ -25,12 +25,13 @@ use Rattle.words.proofs.Bools.{never-both, or-cases, false-true, false-of-not}
 use Rattle.words.proofs.Places.{place-in, card-of, shape-of}
 use Rattle.bags.specs.Part.{Part, Parts, at-most}
 use Rattle.bags.specs.Named.{named}
-use Rattle.bags.specs.Bag.{count}
+use Rattle.bags.specs.Label.{outgoing}
+use Rattle.bags.specs.Look.{listed}
 use Rattle.bags.specs.Interval.{fits}
 use Rattle.template.specs.Reading.{readLink, readRun, readPart}
 use Rattle.template.specs.Template.{readShape, readShapes, readTemplate, templateSays}
 use Rattle.template.specs.Machine.{Tabled}
-use Rattle.script.specs.Link.{fromAt, kindAt, toAt, far, above, greater, cardWords, below, neighbours, linked}
+use Rattle.script.specs.Link.{fromAt, kindAt, toAt, farAt, above, greater, cardWords, below, neighbours, linked}
 use Rattle.script.specs.Script.{readLinks, readScript, scriptSays, cardLinks, linksStart}
 use Rattle.sheet.specs.Sheet.{Sheet, partOf, place, readSheet}
 use Rattle.sheet.proofs.Accepted.{SheetAccepted, sheet-made}
@@ -41,7 +42,7 @@ use Rattle.board.specs.Machine.{all}
 use Rattle.board.specs.Board.{Board}
 use Rattle.board.proofs.Tally.{all-at}
 use Rattle.board.proofs.Rounds.{after, Last, Noisy, struck}
-use Rattle.typing.specs.Needs.{linkTest, metTest, boardOf}
+use Rattle.typing.specs.Needs.{endTest, linkTest, metTest, boardOf}
 use Rattle.bookings.specs.Bookings.{cardAt, shapeAt, readPairs, readBookings, Booked}
 use Rattle.typing.specs.Typing.{Pairs, Has, Met, Typing}
 use Rattle.typing.specs.Largest.{Largest, bare, bareCards}
@@ -54,7 +55,7 @@ use Rattle.typing.proofs.Boards.{board-lawful}
 use Rattle.typing.proofs.Demand.{both-found}
 use Rattle.typing.proofs.Largest.{largest-of}
 use Rattle.typing.proofs.Smallest.{BookedIn, closure-in}
-use Rattle.typing.proofs.Instance.{FitsGrid, CountsOf, counts-all, fits-grid, ready, represents}
+use Rattle.typing.proofs.Instance.{FitsGrid, countsOf, fits-grid, ready, represents}
 use Rattle.demands.specs.Worked.{template, script, metBookings, unmetBookings, lastShape, noShapes}
 use Rattle.demands.specs.Worked.{largestAnswer, smallestAnswer, notMetAnswer}
 
@@ -103,13 +104,13 @@ unfolding cardLinks readTemplate readShape readShapes readPart readRun readLink 
     above greater cardWords below
 worked-links = (refl, refl, refl, refl, refl, refl, refl, refl)
 
--- Card 0 has a link of each kind: these counts fit shape 0.
-pub worked-fit : FitSays template 0 (1 ∷ 1 ∷ []) (values (1 ∷ []))
-unfolding fitQuestion readTemplate readShape readShapes readPart readRun readLink firstOver
+-- Card 0 has a link of each kind, and one of kind 0 leads to it: these counts fit shape 0.
+pub worked-fit : FitSays template 0 (1 ∷ 1 ∷ 1 ∷ 0 ∷ []) (values (1 ∷ []))
+unfolding fitQuestion readTemplate readShape readShapes readPart readRun readLink firstOver listed
 worked-fit =
     let part = partOf worked 0 in
     (inl (
-      list-decided 2 part (1 ∷ 1 ∷ []) (read .shapes .single 0 (omega arith))
+      list-decided 2 part 2 (1 ∷ 1 ∷ 1 ∷ 0 ∷ []) (omega arith) (omega arith) (read .shapes .single 0 (omega arith))
           (read .shapes .shapes-below 0 (omega arith)) .1 refl,
       refl,
     ))
@@ -140,13 +141,13 @@ each-pair P a b c d e f n t ln lt = below-three (λ m. P m t)
 -- ---- its board
 -- Shape 0 names shape 1 for kind 0 and shape 0 for kind 1; shape 1 names none. An entry is the shape named plus one.
 abbrev names : List ℕ
-names = 2 ∷ 1 ∷ replicate 126 0
+names = 2 ∷ 1 ∷ replicate 254 0
 
 -- The entry at a place is what the place's shape names for its label.
 abbrev entryTest : ℕ → Bool
 entryTest p = eqb (getD names p 0) (named (getD (worked .parts) (p / maxLabels) Part.nothing) (p % maxLabels))
 
-entries-computed : all entryTest 128 ≡ true
+entries-computed : all entryTest 256 ≡ true
 unfolding all tally bit
 entries-computed = refl
 
@@ -155,46 +156,24 @@ names-tabled t k lt lk =
     let some : 0 < maxLabels = omega arith in
     let p = t * maxLabels + k in
     eqb-true (getD names p 0) (named (getD (worked .parts) (p / maxLabels) Part.nothing) (p % maxLabels))
-    (all-at entryTest 128 entries-computed p (place-in 2 maxLabels t k lt lk))
+    (all-at entryTest 256 entries-computed p (place-in 2 maxLabels t k lt lk))
     ∙ ap₂ (λ (x y : ℕ). named (getD (worked .parts) x Part.nothing) y) (card-of maxLabels some t k lk)
     (shape-of maxLabels some t k lk)
-
--- How many links of each kind a card has.
-abbrev countsAt : ℕ → List ℕ
-countsAt zero = 1 ∷ 1 ∷ []
-countsAt (suc zero) = 1 ∷ 0 ∷ []
-countsAt (suc (suc n)) = 0 ∷ 0 ∷ []
 
 -- Whether card n has counts that fit shape t: cards 0 and 1 those of shape 0, card 2 those of shape 1.
 abbrev fitting : List ℕ
 fitting = 1 ∷ 0 ∷ 1 ∷ 0 ∷ 0 ∷ 1 ∷ []
 
-counts-right : (n : ℕ) → n < 3 → CountsOf worked n (countsAt n)
-unfolding neighbours fromAt kindAt toAt
-counts-right = below-three (λ n. CountsOf worked n (countsAt n))
-    (counts-all read 0 (countsAt 0) (omega arith) (below-two _ refl refl))
-    (counts-all read 1 (countsAt 1) (omega arith) (below-two _ refl refl))
-    (counts-all read 2 (countsAt 2) (omega arith) (below-two _ refl refl))
-
 -- The grid of fits has what the test of a card's counts says.
 abbrev FitAt : ℕ → ℕ → Type 0
-FitAt n t = on fitting (place worked n t) ≡ fits 2 (partOf worked t) (count (countsAt n))
+FitAt n t = on fitting (place worked n t) ≡ fits 2 (partOf worked t) (countsOf worked n)
 
 fits-computed : (n t : ℕ) → n < 3 → t < 2 → FitAt n t
-unfolding on
+unfolding on neighbours fromAt kindAt toAt
 fits-computed = each-pair FitAt refl refl refl refl refl refl
 
--- Two counts for each card.
-two-counts : (n : ℕ) → n < 3 → 2 ≡ length (countsAt n)
-two-counts = below-three (λ n. 2 ≡ length (countsAt n)) refl refl refl
-
 fits-right : FitsGrid worked fitting
-fits-right = fits-grid read fitting (λ n t ln lt. (
-  countsAt n,
-  counts-right n ln,
-  fits-computed n t ln lt
-      ∙ ap (λ (x : ℕ). fits x (partOf worked t) (count (countsAt n))) (two-counts n ln),
-))
+fits-right = fits-grid read fitting fits-computed
 
 abbrev pub board : Board
 board = boardOf script names 2 fitting
@@ -208,7 +187,7 @@ stands = represents read names names-tabled names-room fitting fits-right
 -- ---- the largest typing
 -- Rounds 1 to 3 strike something: (0, 1), then (1, 0), then (0, 0); round 4 strikes nothing.
 four-rounds : Last board 4
-unfolding after metTest linkTest on all tally bit fromAt kindAt toAt
+unfolding after metTest linkTest endTest on all tally bit fromAt kindAt toAt
 four-rounds = record {
   before = 3;
   is = refl;
@@ -219,11 +198,11 @@ four-rounds = record {
 }
 
 five-struck : struck board 3 ≡ 5
-unfolding after metTest linkTest on all tally bit fromAt kindAt toAt
+unfolding after metTest linkTest endTest on all tally bit fromAt kindAt toAt
 five-struck = refl
 
 left-after-three : Alike worked (after board 3) (on lastShape)
-unfolding after metTest linkTest on all tally bit fromAt kindAt toAt
+unfolding after metTest linkTest endTest on all tally bit fromAt kindAt toAt
 left-after-three = below-six (λ p. after board 3 p ≡ on lastShape p) refl refl refl refl refl refl
 
 largest-here : Largest worked 4 5 (on lastShape)
@@ -295,12 +274,12 @@ module _ (c v : ℕ) (lc : c < 3) (lv : v < 2) (X : Pairs) (has : Has worked X c
     has-closure (booked {n} {t} b) =
         let (e, f) = one-booked c v n t b in
         subst₂ (λ (x y : ℕ). Has worked X x y) (sym e) (sym f) has
-    has-closure (follow {n} {t} {u} k i l s d) =
+    has-closure (follow {n} {t} {u} k way i l s d) =
         let (ln, lt) = closure-in stands (one-inside c v lc lv) k in
         let p = place worked n t in
-        let q = place worked (far script i) u in
+        let q = place worked (farAt way script i) u in
         let asked = stands .needs-exact n t q ln lt .1
-        (record { link = i; shape = u; below = l; starts = s; declares = d; leads = refl }) in
+        (record { way = way; link = i; shape = u; below = l; starts = s; declares = d; leads = refl }) in
         let here = has-closure k in
         let met = ⊎-elim (λ e. never-both here (false-of-not e)) (λ m. m) (or-cases (not (X p))
         (metTest script names 2 anywhere X p) (all-at (goesOn X) 6 on-and-on p (pair-in stands n t ln lt))) in
@@ -308,7 +287,7 @@ module _ (c v : ℕ) (lc : c < 3) (lv : v < 2) (X : Pairs) (has : Has worked X c
 
 -- The closure of (2, 1) is that pair alone: card 2 has no links.
 met-closure : IsClosure worked (Booked metBookings) (on lastShape)
-unfolding metTest linkTest on all tally bit fromAt kindAt toAt
+unfolding metTest linkTest endTest on all tally bit fromAt kindAt toAt
 met-closure = record {
   has = λ n t. has-closure 2 1 (omega arith) (omega arith) (on lastShape) refl refl;
   only = each-pair (λ n t. on lastShape (place worked n t) ≡ true → Closure worked (Booked metBookings) n t)
@@ -327,18 +306,18 @@ from-booking = booked (is-booked 0 0)
 
 by-link-0 : Reached 2 1
 unfolding fromAt kindAt toAt
-by-link-0 = follow from-booking 0 (omega arith) refl (inl (refl, refl))
+by-link-0 = follow from-booking outgoing 0 (omega arith) refl (inl (refl, refl))
 
 by-link-1 : Reached 1 0
 unfolding fromAt kindAt toAt
-by-link-1 = follow from-booking 1 (omega arith) refl (inr (inl (refl, refl)))
+by-link-1 = follow from-booking outgoing 1 (omega arith) refl (inr (inl (refl, refl)))
 
 by-link-2 : Reached 0 1
 unfolding fromAt kindAt toAt
-by-link-2 = follow by-link-1 2 (omega arith) refl (inl (refl, refl))
+by-link-2 = follow by-link-1 outgoing 2 (omega arith) refl (inl (refl, refl))
 
 unmet-closure : IsClosure worked (Booked unmetBookings) (on reached)
-unfolding metTest linkTest on all tally bit fromAt kindAt toAt
+unfolding metTest linkTest endTest on all tally bit fromAt kindAt toAt
 unmet-closure = record {
   has = λ n t. has-closure 0 0 (omega arith) (omega arith) (on reached) refl refl;
   only = each-pair (λ n t. on reached (place worked n t) ≡ true → Reached n t)
@@ -367,11 +346,11 @@ smallest-found = record {
 
 -- (0, 1) asks that card 0 has no links, but it has; the pair below it, (0, 0), is met.
 unmet-computed : board .met (on reached) 1 ≡ false
-unfolding metTest linkTest on all tally bit fromAt kindAt toAt
+unfolding metTest linkTest endTest on all tally bit fromAt kindAt toAt
 unmet-computed = refl
 
 met-computed : board .met (on reached) 0 ≡ true
-unfolding metTest linkTest on all tally bit fromAt kindAt toAt
+unfolding metTest linkTest endTest on all tally bit fromAt kindAt toAt
 met-computed = refl
 
 pub not-met-found : SmallestFound worked (Booked unmetBookings) noShapes notMetAnswer

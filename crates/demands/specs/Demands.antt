@@ -12,7 +12,11 @@
 --   templateSays, scriptSays, FitSays, LargestSays, SmallestSays, BothSays, JudgeSays   what each operation may say and
 --                         write; the judge of grids reads as the call for the smallest does, and writes nothing
 --   Template, Sheet       what is read of a template; of a template and a script. partOf: the part of a shape.
---                         neighboursOf: the labels and far cards of a card's links. size: how many pairs there are
+--                         neighboursOf: the labels and far cards of a card's links, from either end, that a shape looks
+--                         at. size: how many pairs there are
+--   cardCounts            the counts of a card's links: for each kind those from it, then for each kind those to it
+--   listed, seen          such a list as counts of labels; of counts those that a part looks at, and 0 else
+--   Fits                  2.1: some bag of a part has just these counts
 --   Pairs, Has, on        a set of pairs of a card and a shape, by their places in a grid; it has a pair; the set of a
 --                         grid: where its byte is 1. place: the place of a pair
 --   Typing, SoundTyping   a grid of zeros and ones of the right length; a sound one
@@ -44,10 +48,13 @@ use Rattle.words.specs.Limits.{maxCount, maxBookings}
 use Rattle.words.specs.Said.{Said, values, refusal}
 use Rattle.words.specs.Reading.{accepted, turnedDown}
 use Rattle.bags.specs.Part.{Part}
-use Rattle.bags.specs.Bag.{Bag, Bags, total}
+use Rattle.bags.specs.Bag.{Bag, Bags, total, Fits}
+use Rattle.bags.specs.Look.{seen, listed}
+use Rattle.bags.specs.Proposition.{labelCount}
 use Rattle.bags.proofs.Adequate.{Flattened}
 use Rattle.template.specs.Template.{Template, readTemplate, templateSays}
 use Rattle.template.specs.Writer as templates
+use Rattle.script.specs.Counts.{cardCounts}
 use Rattle.script.specs.Script.{readWith, scriptSays}
 use Rattle.script.specs.Writer as scripts
 use Rattle.sheet.specs.Sheet.{Sheet, partOf, neighboursOf, place, size, readSheet}
@@ -226,20 +233,29 @@ RuleTwo s X = (n t : ℕ) → n < s .cards → t < s .shapes → Has s X n t
     → (b : Bag) × Neighbourhood s X n t b × Bags (partOf s t) b
 
 -- Counts of links belong to the bag language of a shape: some bag of the shape's part has, over all shapes, just so
--- many of each label. `Bags` is the bag language of section 2.1.
+-- many of each label that the part looks at, and none of the others. `Bags` is the bag language of section 2.1.
 abbrev pub Belong : Template → ℕ → List ℕ → Type 0
 Belong t shape counts =
-    (b : Bag) × Bags (getD (t .parts) shape Part.nothing) b × ((k : ℕ) → total (t .shapes) b k ≡ getD counts k 0)
+    let part = getD (t .parts) shape Part.nothing in
+    (b : Bag) × Bags part b × ((k : ℕ) → total (t .shapes) b k ≡ seen part (listed (t .kinds) counts) k)
 
 pub record SecondDemand : Type 0 where
-  -- Asked of a shape of a well-formed template, and a count of at most 8,192 for each kind, "Fit counts" says 1
-  -- exactly where the counts belong to the shape's bag language, and else 0.
+  -- Asked of a shape of a well-formed template, and a count of at most 8,192 for each kind each way, "Fit counts" says
+  -- 1 exactly where the counts belong to the shape's bag language, and else 0.
   pub counts-fit : (template : List ℕ) (t : Template) → FormedTemplate template t
       → (shape : ℕ) → shape < t .shapes
-      → (counts : List ℕ) → length counts ≡ t .kinds → ((k : ℕ) → getD counts k 0 ≤ maxCount)
+      → (counts : List ℕ) → length counts ≡ 2 * t .kinds → ((k : ℕ) → getD counts k 0 ≤ maxCount)
       → (said : Said) → FitSays template shape counts said
       → ((said ≡ values (1 ∷ [])) ↔ Belong t shape counts)
       × ((said ≡ values (0 ∷ [])) ↔ (Belong t shape counts → ⊥))
+  -- Of a card and a shape of a well-formed sheet: the neighbours that the shape looks at count as the card's own counts
+  -- do, and "Fit counts" says 1 of these exactly where the neighbours' counts are those of a bag of the shape.
+  pub card-fits : (template script : List ℕ) (s : Sheet) (formed : Formed template script s)
+      → (n t : ℕ) → n < s .cards → t < s .shapes
+      → let counts = cardCounts (s .script) n (s .links) (formed .kinds) in
+      ((k : ℕ) → labelCount (neighboursOf s n t) k ≡ seen (partOf s t) (listed (formed .kinds) counts) k)
+      × ((said : Said) → FitSays template t counts said
+      → (said ≡ values (1 ∷ [])) ↔ Fits (s .shapes) (partOf s t) (labelCount (neighboursOf s n t)))
   -- A grid is a sound typing exactly where it is a typing that meets rule 2.
   pub sound-typing : (s : Sheet) (grid : List ℕ) → SoundTyping s grid ↔ (Typing s grid × RuleTwo s (on grid))
 

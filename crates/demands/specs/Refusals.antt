@@ -124,9 +124,9 @@ refusals =
     -- no counts where there is one kind
     ∷ row 41 (0 ∷ []) (fit plain 0 [])
     -- shape 1 where there is one shape
-    ∷ row 42 (0 ∷ []) (fit plain 1 (0 ∷ []))
+    ∷ row 42 (0 ∷ []) (fit plain 1 (0 ∷ 0 ∷ []))
     -- a count of 8,193
-    ∷ row 43 (0 ∷ []) (fit plain 0 (8193 ∷ []))
+    ∷ row 43 (0 ∷ []) (fit plain 0 (8193 ∷ 0 ∷ []))
     -- the worked sheet's booking that cannot be met
     ∷ row 50 (0 ∷ 1 ∷ []) (smallest worked.template worked.script worked.unmetBookings worked.lastShape)
     -- no bytes
@@ -167,6 +167,12 @@ others =
     ∷ row 4 (6 ∷ []) (template (1 ∷ 1 ∷ 3 ∷ 256 ∷ 0 ∷ 0 ∷ []))
     -- a group without its count
     ∷ row 4 (4 ∷ []) (template (1 ∷ 1 ∷ 1 ∷ 17 ∷ []))
+    -- the first code past the incoming links
+    ∷ row 5 (3 ∷ []) (template (1 ∷ 1 ∷ 4 ∷ 384 ∷ 0 ∷ 0 ∷ 1 ∷ []))
+    -- an incoming link of kind 1 where there is one kind
+    ∷ row 7 (3 ∷ []) (template (1 ∷ 1 ∷ 4 ∷ 321 ∷ 0 ∷ 0 ∷ 1 ∷ []))
+    -- kind 0 stands twice as an incoming one
+    ∷ row 8 (9 ∷ []) (template (1 ∷ 1 ∷ 10 ∷ 17 ∷ 2 ∷ 320 ∷ 0 ∷ 0 ∷ 1 ∷ 320 ∷ 0 ∷ 0 ∷ 1 ∷ []))
     -- the low is over 8,192
     ∷ row 10 (5 ∷ []) (template (1 ∷ 1 ∷ 4 ∷ 256 ∷ 0 ∷ 8193 ∷ 65535 ∷ []))
     -- the high is over 8,192 and not 65,535
@@ -185,6 +191,10 @@ others =
     ∷ row 40 (0 ∷ []) (smallest plain alone (0 ∷ []) (7 ∷ 7 ∷ []))
     -- a grid of no bytes, judged
     ∷ row 40 (0 ∷ []) (judge plain alone (0 ∷ []) [])
+    -- one count where there is one kind, which leaves and arrives
+    ∷ row 41 (0 ∷ []) (fit plain 0 (0 ∷ []))
+    -- 8,193 arriving links
+    ∷ row 43 (1 ∷ []) (fit plain 0 (0 ∷ 8193 ∷ []))
     -- a byte after the bookings
     ∷ row 60 (0 ∷ []) (printer (0 ∷ 0 ∷ 0 ∷ 0 ∷ 0 ∷ 0 ∷ 0 ∷ []))
     -- the bookings' last word is missing

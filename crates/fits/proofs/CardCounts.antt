@@ -1,114 +1,156 @@
--- The counts of a card's kinds, by the links between two starts.
--- Counted          counts that are those of a card's labels
--- starts-within    where a card's links lie
--- kinds-few        a template has no more kinds than the limit
--- counts-length    so of that many counts as many as there are kinds can be taken
--- kinds-within     the kinds of those links have a place among counts of all kinds
--- counts-counted   counts of the kinds of the links between a card's start and the next card's are so
--- card-fitted      a row that fits such counts has the bytes of the card
+-- The counts of a card's links, and the bytes that they give.
+-- leaving-asked, arriving-asked   what counting these, and those to it, asks
+-- counted-out, counted-both   the counts of the links from a card alone, and of those to it too
+-- leaving-counted   counts of the kinds of the links between a card's start and the next card's are its outgoing ones
+-- counts-alike      what is counted is what a shape of the sheet looks at
+-- card-fitted       a row that fits such counts has the bytes of the card
 -- Assumes nothing.
-use Prim.Native.Nat.{ℕ, zero, suc, _+_, _-_, _≤_, _<_}
-use mathlib.Core.Path.{_≡_, refl, sym, ap, ap₂, _∙_}
+use Prim.Native.Nat.{ℕ, _+_, _≤_, _<_}
+use mathlib.Core.Path.{_≡_, refl, sym, ap, ap₂, subst, subst₂, _∙_}
 use mathlib.Core.Logic.{⊎-elim}
-use mathlib.Core.List.{List}
+use mathlib.Core.Bool.{Bool, true, false, cond}
+use mathlib.Core.List.{List, _++_}
 use native.Mathlib.Omega.{arith}
-use native.Mathlib.Nat.{add-zero, add-suc}
-use borrow.Rule.Slice.PartMut.{mid-len}
-use lib.ListN.{length, getD, take, replicate, List·getD-eq-default}
-use Rattle.bags.specs.Proposition.{labelCount}
+use lib.ListN.{length, getD, List·getD-append}
+use borrow.Rule.Slice.PartMut.{putMid}
 use Rattle.words.specs.Limits.{maxKinds}
 use Rattle.words.specs.Reading.{accepted}
+use Rattle.words.proofs.Bools.{never-both, bool-case}
+use Rattle.words.proofs.Cells.{put-before, put-inside}
+use Rattle.bags.specs.Label.{Way, outgoing, incoming, labelOf}
+use Rattle.bags.specs.Part.{Part, Names}
+use Rattle.bags.specs.Bag.{count}
+use Rattle.bags.specs.Named.{named}
+use Rattle.bags.specs.Proposition.{labelCount}
+use Rattle.bags.proofs.Naming.{OfKindBelow, names-kind, named-none}
+use Rattle.bags.proofs.Looking.{fits-alike}
+use Rattle.template.specs.Template.{readTemplate}
 use Rattle.template.proofs.Accepted.{template-accepted}
-use Rattle.script.specs.Link.{kindAt, neighbours, below}
-use Rattle.script.specs.Steps.{kindCount, StartsOf, Within}
-use Rattle.words.proofs.Bools.{le-or-lt}
+use Rattle.script.specs.Link.{kindAt, toAt, neighbours, below}
+use Rattle.script.specs.Script.{countsOf, readScript}
+use Rattle.script.specs.Steps.{Within}
+use Rattle.script.specs.Chain.{Chained}
+use Rattle.script.specs.Index.{kindCount, StartsOf, ArrivalsOf, LeavingAsked, ArrivingAsked}
+use Rattle.script.specs.Counts.{wayCount}
 use Rattle.script.proofs.Reading.{script-accepted}
-use Rattle.script.specs.Script.{countsOf}
 use Rattle.script.proofs.Cards.{part-within, below-le}
-use Rattle.script.proofs.Neighbours.{kind-count, kind-count-none, kind-count-other}
+use Rattle.script.proofs.Counts.{kind-count, way-count}
 use Rattle.sheet.specs.declared.Extent.{Extent}
-use Rattle.sheet.specs.Opened.{templateAs, Opened}
-use Rattle.fits.specs.Fitting.{RowFitted, CardFitted}
+use Rattle.sheet.specs.Opened.{templateAs, Known}
+use Rattle.fits.specs.Fitting.{byteOf, CardCounted, RowFitted, CardFitted}
 
--- A kind that none of the links has is counted 0.
-kind-count-absent :
-    (script : List ℕ) (k lo d : ℕ) → ((i : ℕ) → lo ≤ i → i < lo + d → k ≡ kindAt script i → ⊥) →
-    kindCount script k lo (lo + d) ≡ 0
-kind-count-absent script k lo zero h = rw add-zero (kind-count-none script k lo)
-kind-count-absent script k lo (suc d) h =
-    rw add-suc
-    (kind-count-other script k lo (lo + d) (omega arith) (h (lo + d) (omega arith) (omega arith))
-    ∙ kind-count-absent script k lo d (λ i a b. h i a (omega arith)))
+-- ---- counting
+module _ (script : List ℕ) (e : Extent) (read : readScript (e .kinds) script ≡ accepted (countsOf (e .cards) (e .links)))
+    (n : ℕ) (l : n < e .cards) where
+  module _ (starts : List ℕ) (s : StartsOf script starts (e .cards) (e .links)) (lo hi : ℕ) (p : lo ≡ getD starts n 0)
+      (q : hi ≡ getD starts (n + 1) 0) where
+    low-is : lo ≡ below script n (e .links)
+    low-is = p ∙ s .exact n (omega arith)
 
--- Counts that are those of card n's labels.
-abbrev pub Counted : List ℕ → ℕ → ℕ → List ℕ → Type 0
-Counted script links n counts = (k : ℕ) → getD counts k 0 ≡ labelCount (neighbours script n links) k
+    high-is : hi ≡ below script (n + 1) (e .links)
+    high-is = q ∙ s .exact (n + 1) (omega arith)
 
--- A template that is read has no more kinds than the limit.
-pub kinds-few : (template script : List ℕ) (e : Extent) → Opened template script e → e .kinds ≤ maxKinds
-kinds-few template script e o =
-    template-accepted template (templateAs (e .kinds) (e .shapes) (o .parts)) (o .template-read) .kinds-high
+    pub leaving-asked : (counts : List ℕ) → length counts ≡ e .kinds → LeavingAsked script lo hi counts
+    leaving-asked counts size =
+        let w = script-accepted (e .kinds) script (countsOf (e .cards) (e .links)) read in
+        record {
+          within = part-within script (e .links) (w .ascending) n lo hi low-is high-is;
+          kinds = λ i a b.
+              omega (arith, w .kind-below i (omega (arith, high-is, below-le script (n + 1) (e .links))), size);
+        }
 
--- Of that many counts, the first ones that there are kinds for.
-pub counts-length :
-    (template script : List ℕ) (e : Extent) → Opened template script e → (kinds : ℕ) → kinds ≡ e .kinds →
-    length {A = ℕ} (take (kinds - 0) (replicate maxKinds 0)) ≡ e .kinds
-counts-length template script e o kinds q =
-    mid-len 0 kinds (replicate {A = ℕ} maxKinds 0) (omega (arith, kinds-few template script e o)) ∙ omega arith
+    pub leaving-counted : (k : ℕ) → kindCount script k lo hi ≡ wayCount outgoing script n k (e .links)
+    leaving-counted k =
+        let w = script-accepted (e .kinds) script (countsOf (e .cards) (e .links)) read in
+        ap₂ (kindCount script k) low-is high-is ∙ kind-count script (e .links) (w .starts) n k
 
-module _
-    (template script starts : List ℕ) (e : Extent) (n lo hi : ℕ) (o : Opened template script e)
-    (s : StartsOf script starts (e .cards) (e .links)) (l : n < e .cards) (p : lo ≡ getD starts n 0)
-    (q : hi ≡ getD starts (n + 1) 0) where
-  low-is : lo ≡ below script n (e .links)
-  low-is = p ∙ s .exact n (omega arith)
+  pub arriving-asked : (first next : List ℕ) → ArrivalsOf script first next (e .cards) (e .links) → (links : ℕ)
+      → links ≡ e .links → (counts : List ℕ) → length counts ≡ e .kinds
+      → ArrivingAsked script first next links n counts
+  arriving-asked first next a links q counts size =
+      let w = script-accepted (e .kinds) script (countsOf (e .cards) (e .links)) read in
+      record {
+        within = record {
+          order = omega arith;
+          few = omega (arith, w .links-bound);
+          end = omega (arith, w .size);
+        };
+        arrivals = record {
+          cards-in = omega (arith, a .cards-in);
+          links-in = omega (arith, a .links-in);
+          chained = subst (Chained (toAt script) first next) (sym q) (a .chained);
+        };
+        kinds = λ i b. omega (arith, w .kind-below i (omega arith), size);
+      }
 
-  high-is : hi ≡ below script (n + 1) (e .links)
-  high-is = q ∙ s .exact (n + 1) (omega arith)
+-- The counts of the links from a card stand before a rest, and those of the links to it are put behind all outgoing kinds.
+module _ (script : List ℕ) (e : Extent) (n : ℕ) (leaving rest : List ℕ) (size : length leaving ≡ e .kinds)
+    (out : (k : ℕ) → k < length leaving → getD leaving k 0 ≡ wayCount outgoing script n k (e .links)) where
+  out-first : (k : ℕ) → k < e .kinds → count (leaving ++ rest) k ≡ wayCount outgoing script n k (e .links)
+  out-first k l = List·getD-append leaving rest 0 k (omega arith) ∙ out k (omega arith)
 
-  pub starts-within : Within script lo hi
-  starts-within =
+  pub counted-out : e .incoming ≡ false → CardCounted script e n (leaving ++ rest)
+  counted-out off = record { outward = out-first; inward = λ on. never-both on off }
+
+  pub counted-both : (j : ℕ) (arriving : List ℕ) → e .kinds ≤ maxKinds → maxKinds ≤ length (leaving ++ rest)
+      → length arriving ≡ e .kinds
+      → ((k : ℕ) → k < length arriving → getD arriving k 0 ≡ wayCount incoming script n k (e .links))
+      → CardCounted script e n (putMid maxKinds j (leaving ++ rest) arriving)
+  counted-both j arriving few room whole back = record {
+    outward = λ k l. put-before maxKinds j (leaving ++ rest) arriving k room (omega arith) ∙ out-first k l;
+    inward = λ on k l. put-inside maxKinds j (leaving ++ rest) arriving k room (omega arith) ∙ back k (omega arith);
+  }
+
+-- ---- the bytes
+module _ (template script names : List ℕ) (e : Extent) (known : Known template script names e) (n : ℕ)
+    (counts : List ℕ) (c : CardCounted script e n counts) where
+  -- how many neighbours the card has of each label
+  abbrev counted : ℕ → ℕ
+  counted k = labelCount (neighbours script n (e .links)) k
+
+  way-is : (way : Way) (k : ℕ) → k < e .kinds → counted (labelOf way k) ≡ wayCount way script n k (e .links)
+  way-is way k lk =
+      let o = known .opened in
+      let t = template-accepted template (templateAs (e .kinds) (e .shapes) (o .parts)) (o .template-read) in
       let w = script-accepted (e .kinds) script (countsOf (e .cards) (e .links)) (o .script-read) in
-      part-within script (e .links) (w .ascending) n lo hi low-is high-is
+      way-count way script n k (e .links) (omega (arith, t .kinds-high))
+      (λ i l. omega (arith, w .kind-below i l, t .kinds-high))
 
-  pub kinds-within : (size : ℕ) → size ≡ e .kinds → (i : ℕ) → lo ≤ i → i < hi → kindAt script i < size
-  kinds-within size r i a b =
-      let w = script-accepted (e .kinds) script (countsOf (e .cards) (e .links)) (o .script-read) in
-      let top = below-le script (n + 1) (e .links) in
-      omega (arith, w .kind-below i (omega (arith, high-is)))
+  outward-alike : (k : ℕ) → k < e .kinds → count counts k ≡ counted k
+  outward-alike k lk =
+      let own : labelOf outgoing k ≡ k = omega arith in
+      c .outward k lk ∙ sym (way-is outgoing k lk) ∙ ap counted own
 
-  counted-is : (k : ℕ) → kindCount script k lo hi ≡ labelCount (neighbours script n (e .links)) k
-  counted-is k =
-      let w = script-accepted (e .kinds) script (countsOf (e .cards) (e .links)) (o .script-read) in
-      ap₂ (kindCount script k) low-is high-is ∙ kind-count script (e .links) (w .starts) n k
+  module _ (parts : List Part) (r : readTemplate template ≡ accepted (templateAs (e .kinds) (e .shapes) parts)) (t : ℕ)
+      (lt : t < e .shapes) where
+    abbrev part : Part
+    part = getD parts t Part.nothing
 
-  absent : (k : ℕ) → e .kinds ≤ k → kindCount script k lo hi ≡ 0
-  absent k h =
-      let r : lo + (hi - lo) ≡ hi = omega (arith, starts-within .order) in
-      ap (kindCount script k lo) (sym r)
-      ∙ kind-count-absent script k lo (hi - lo)
-      (λ i a b f. omega (arith, kinds-within (e .kinds) refl i a (omega arith)))
+    -- a shape that names an incoming kind is one of a sheet that does
+    named-way : (k : ℕ) → k < e .kinds → Names part (labelOf incoming k) → e .incoming ≡ false → ⊥
+    named-way k lk named-it off =
+        let a = template-accepted template (templateAs (e .kinds) (e .shapes) parts) r in
+        named-none part (labelOf incoming k)
+        (sym (known .table (templateAs (e .kinds) (e .shapes) parts) r t (labelOf incoming k)
+        (omega (arith, a .trees-length)) (omega (arith, a .kinds-high)))
+        ∙ known .ways off t k lt (omega (arith, a .kinds-high))) named-it
 
-  pub counts-counted :
-      (counts : List ℕ) → length counts ≡ e .kinds →
-      ((k : ℕ) → k < length counts → getD counts k 0 ≡ kindCount script k lo hi) → Counted script (e .links) n counts
-  counts-counted counts size c k =
-      ⊎-elim
-      (λ h. List·getD-eq-default counts 0 (omega arith) ∙ sym (absent k (omega arith)) ∙ counted-is k)
-      (λ h. c k h ∙ counted-is k)
-      (le-or-lt (length counts) k)
+    named-alike : (k : ℕ) → Names part k → OfKindBelow (e .kinds) k → count counts k ≡ counted k
+    named-alike k named-it (outgoing, kind, lk, q) = outward-alike k (omega arith)
+    named-alike k named-it (incoming, kind, lk, q) = rw q (bool-case (e .incoming)
+        (λ on. c .inward on kind lk ∙ sym (way-is incoming kind lk))
+        (λ off. absurd (named-way kind lk (subst (Names part) q named-it) off)))
 
--- A row that fits the counts of a card has the card's bytes.
-pub card-fitted :
-    (template script : List ℕ) (links size shapes n : ℕ) (counts row : List ℕ) → size ≡ shapes →
-    Counted script links n counts → RowFitted template size counts row →
-    CardFitted template script links shapes n row
-card-fitted template script links size shapes n counts row q c f =
-    record {
-      full = f .full ∙ q;
-      each = λ kinds parts e t l. record {
-        counts = counts;
-        those = c;
-        test = f .each kinds parts (e ∙ ap (λ (s : ℕ). accepted (templateAs kinds s parts)) (sym q)) t (omega arith);
-      };
-    }
+    pub counts-alike : byteOf (e .kinds) part (count counts) ≡ byteOf (e .kinds) part counted
+    counts-alike =
+        let a = template-accepted template (templateAs (e .kinds) (e .shapes) parts) r in
+        ap (λ (b : Bool). cond {A = ℕ} b 1 0)
+        (fits-alike (count counts) counted part (e .kinds) outward-alike
+        (λ k m. named-alike k m (names-kind (e .kinds) part (a .kinds-below t lt) k m)))
+
+  -- A row that fits the counts of a card has the card's bytes.
+  pub card-fitted : (kinds shapes : ℕ) (row : List ℕ) → kinds ≡ e .kinds → shapes ≡ e .shapes
+      → RowFitted template kinds shapes counts row → CardFitted template script e n row
+  card-fitted kinds shapes row p q f =
+      let g : RowFitted template (e .kinds) (e .shapes) counts row = rw (p, q) at f in
+      record { full = g .full; each = λ parts r t l. g .each parts r t l ∙ counts-alike parts r t l }

@@ -8,7 +8,7 @@
 -- pairs-bound    a sheet has no more pairs than the greatest grid
 -- Assumes nothing.
 use Prim.Native.Nat.{ℕ, _+_, _-_, _*_, _≤_, _<_}
-use mathlib.Core.Path.{_≡_, sym, ap, subst, _∙_}
+use mathlib.Core.Path.{_≡_, _∙_}
 use mathlib.Core.Logic.{⊎-elim}
 use mathlib.Core.List.{List}
 use native.Mathlib.Omega.{arith}
@@ -26,36 +26,36 @@ use Rattle.script.specs.Script.{countsOf}
 use Rattle.script.proofs.Reading.{script-accepted}
 use Rattle.sheet.specs.declared.Extent.{Extent}
 use Rattle.sheet.specs.Opened.{templateAs, Opened}
-use Rattle.fits.specs.Fitting.{Tested, CardFitted, Fitted}
+use Rattle.fits.specs.Fitting.{byteAt, CardFitted, Fitted}
 use Rattle.words.proofs.Cells.{put-before, put-inside}
 
 -- What holds before card n.
-pub record RowsFitted (template script : List ℕ) (links cards shapes : ℕ) (grid : List ℕ) (n : ℕ) : Type 0 where
+pub record RowsFitted (template script : List ℕ) (e : Extent) (cards shapes : ℕ) (grid : List ℕ) (n : ℕ) : Type 0 where
   pub size : length grid ≡ cards * shapes
   pub within : n ≤ cards
   -- the rows before n
   pub each :
-      (c : ℕ) → c < n → (kinds : ℕ) (parts : List Part) →
-      readTemplate template ≡ accepted (templateAs kinds shapes parts) → (t : ℕ) → t < shapes →
-      Tested script links (getD parts t Part.nothing) c (getD grid (c * shapes + t) 0)
+      (c : ℕ) → c < n → (parts : List Part) →
+      readTemplate template ≡ accepted (templateAs (e .kinds) (e .shapes) parts) → (t : ℕ) → t < shapes →
+      getD grid (c * shapes + t) 0 ≡ byteAt script e (getD parts t Part.nothing) c
 
 -- The row of a card c below n ends where that of card n starts, or before.
 rows-apart : (c n shapes : ℕ) → c < n → c * shapes + shapes ≤ n * shapes
 rows-apart c n shapes h = rw suc-mul at (mul-le-mul-right shapes h)
 
-module _ (template script : List ℕ) (links cards shapes : ℕ) (grid : List ℕ) where
-  pub rows-start : length grid ≡ cards * shapes → RowsFitted template script links cards shapes grid 0
+module _ (template script : List ℕ) (e : Extent) (cards shapes : ℕ) (grid : List ℕ) where
+  pub rows-start : length grid ≡ cards * shapes → RowsFitted template script e cards shapes grid 0
   rows-start h = record { size = h; within = omega arith; each = λ c l. absurd (omega arith) }
 
   pub rows-end :
-      (n N S : ℕ) → RowsFitted template script links cards shapes grid n → cards ≤ n → cards ≡ N → shapes ≡ S →
-      (kinds : ℕ) (parts : List Part) → readTemplate template ≡ accepted (templateAs kinds S parts) →
-      Fitted script links N S parts grid
-  rows-end n N S f h p q kinds parts e =
-      let g : RowsFitted template script links N S grid n = rw (p, q) at f in
-      record { full = g .size; each = λ c t l i. g .each c (omega arith) kinds parts e t i }
+      (n : ℕ) → RowsFitted template script e cards shapes grid n → cards ≤ n → cards ≡ e .cards → shapes ≡ e .shapes →
+      (parts : List Part) → readTemplate template ≡ accepted (templateAs (e .kinds) (e .shapes) parts) →
+      Fitted script e parts grid
+  rows-end n f h p q parts r =
+      let g : RowsFitted template script e (e .cards) (e .shapes) grid n = rw (p, q) at f in
+      record { full = g .size; each = λ c t l i. g .each c (omega arith) parts r t i }
 
-  module _ (n : ℕ) (f : RowsFitted template script links cards shapes grid n) (l : n < cards) where
+  module _ (n : ℕ) (f : RowsFitted template script e cards shapes grid n) (l : n < cards) where
     pub row-inside : n * shapes + shapes ≤ length grid
     row-inside = omega (arith, f .size, rows-apart n cards shapes l)
 
@@ -63,34 +63,31 @@ module _ (template script : List ℕ) (links cards shapes : ℕ) (grid : List �
     row-length = mid-len (n * shapes) (n * shapes + shapes) grid row-inside ∙ omega arith
 
     module _
-        (row : List ℕ) (b : length row ≡ length (midOf (n * shapes) (n * shapes + shapes - n * shapes) grid)) (S : ℕ)
-        (q : shapes ≡ S) (g : CardFitted template script links S n row) where
+        (row : List ℕ) (b : length row ≡ length (midOf (n * shapes) (n * shapes + shapes - n * shapes) grid))
+        (q : shapes ≡ e .shapes) (g : CardFitted template script e n row) where
       row-size : length row ≡ shapes
       row-size = b ∙ row-length
 
       next-each :
-          (c : ℕ) → c < n + 1 → (kinds : ℕ) (parts : List Part) →
-          readTemplate template ≡ accepted (templateAs kinds shapes parts) → (t : ℕ) → t < shapes →
-          Tested script links (getD parts t Part.nothing) c
-          (getD (putMid (n * shapes) (n * shapes + shapes - n * shapes) grid row) (c * shapes + t) 0)
-      next-each c h kinds parts e t i =
-          let P : ℕ → ℕ → Type 0 = Tested script links (getD parts t Part.nothing) in
+          (c : ℕ) → c < n + 1 → (parts : List Part) →
+          readTemplate template ≡ accepted (templateAs (e .kinds) (e .shapes) parts) → (t : ℕ) → t < shapes →
+          getD (putMid (n * shapes) (n * shapes + shapes - n * shapes) grid row) (c * shapes + t) 0
+          ≡ byteAt script e (getD parts t Part.nothing) c
+      next-each c h parts r t i =
           let top = row-inside in
           let k = n * shapes + shapes - n * shapes in
           ⊎-elim
           (λ (j : c ≡ n).
-          let r = e ∙ ap (λ (s : ℕ). accepted (templateAs kinds s parts)) q in
           rw j
-          (subst (P n) (sym (put-inside (n * shapes) k grid row t (omega arith) (omega (arith, row-size))))
-          (g .each kinds parts r t (omega arith))))
+          (put-inside (n * shapes) k grid row t (omega arith) (omega (arith, row-size))
+          ∙ g .each parts r t (omega arith)))
           (λ j.
           let a = rows-apart c n shapes j in
-          subst (P c) (sym (put-before (n * shapes) k grid row (c * shapes + t) (omega arith) (omega arith)))
-          (f .each c j kinds parts e t i))
+          put-before (n * shapes) k grid row (c * shapes + t) (omega arith) (omega arith) ∙ f .each c j parts r t i)
           (eq-or-lt-of-le (le-of-suc-le-suc (rw (add-one n) at h)))
 
       pub rows-next :
-          RowsFitted template script links cards shapes
+          RowsFitted template script e cards shapes
           (putMid (n * shapes) (n * shapes + shapes - n * shapes) grid row) (n + 1)
       rows-next =
           record {

@@ -4,7 +4,7 @@
 -- shape-within   where the next shape's words lie
 -- shape-row      the next shape's part of the table has an entry for each label
 -- shape-names    the next shape's part of the table has the names of the tree that stands at its place
--- byte-is        the byte of a test
+-- byte-is        the byte of a test; kinds-few: a template has no more kinds than the limit
 -- fitted-next    it holds after the next shape's byte is written
 -- fitted-end     after the last shape the row is done
 -- Assumes nothing.
@@ -20,9 +20,10 @@ use borrow.Rule.Slice.PartMut.{mid-len}
 use lib.ListN.{length, getD, set, take, drop, length-set}
 use lib.Seq.{getD-take, getD-drop, getD-set-same, getD-set-other}
 use Rattle.bags.specs.Part.{Part}
+use Rattle.bags.specs.Bag.{count}
 use Rattle.bags.specs.Named.{named}
 use Rattle.template.specs.Template.{readTemplate}
-use Rattle.words.specs.Limits.{maxLabels, maxShapes, maxTemplate, maxDepth}
+use Rattle.words.specs.Limits.{maxKinds, maxLabels, maxShapes, maxTemplate, maxDepth}
 use Rattle.words.specs.Sizes.{tableSize}
 use Rattle.words.specs.Reading.{accepted}
 use Rattle.template.specs.Machine.{shapePlace}
@@ -33,14 +34,14 @@ use Rattle.sheet.specs.Opened.{templateAs, TableOf, Shaped}
 use Rattle.fits.specs.Fitting.{byteOf, RowFitted}
 
 -- What holds before the shape t, whose count of words stands at `at`.
-pub record FittedBelow (template : List ℕ) (shapes : ℕ) (counts row : List ℕ) (at t : ℕ) : Type 0 where
+pub record FittedBelow (template : List ℕ) (kinds shapes : ℕ) (counts row : List ℕ) (at t : ℕ) : Type 0 where
   pub size : length row ≡ shapes
   pub within : t ≤ shapes
   pub place : at ≡ shapePlace template t 2
   -- the bytes before t
   pub each :
-      (kinds : ℕ) (parts : List Part) → readTemplate template ≡ accepted (templateAs kinds shapes parts) →
-      (s : ℕ) → s < t → getD row s 0 ≡ byteOf (getD parts s Part.nothing) counts
+      (parts : List Part) → readTemplate template ≡ accepted (templateAs kinds shapes parts) →
+      (s : ℕ) → s < t → getD row s 0 ≡ byteOf kinds (getD parts s Part.nothing) (count counts)
 
 -- A test r that says what b is and that came out as x has b's byte.
 pub byte-is : (r b x : Bool) → r ≡ b → r ≡ x → _≡_ {A = ℕ} (cond x 1 0) (cond b 1 0)
@@ -57,20 +58,25 @@ pub record ShapeWithin (template : List ℕ) (shapes at : ℕ) : Type 0 where
   pub start : at < length template
   pub stop : at + 1 + getD template at 0 ≤ length template
 
-module _ (template : List ℕ) (shapes : ℕ) (counts row : List ℕ) where
-  pub fitted-start : length row ≡ shapes → FittedBelow template shapes counts row 2 0
+-- A template that is read has no more kinds than the limit.
+pub kinds-few : (template : List ℕ) (kinds shapes : ℕ) → Shaped template kinds shapes → kinds ≤ maxKinds
+kinds-few template kinds shapes s =
+    template-accepted template (templateAs kinds shapes (s .parts)) (s .read) .kinds-high
+
+module _ (template : List ℕ) (kinds shapes : ℕ) (counts row : List ℕ) where
+  pub fitted-start : length row ≡ shapes → FittedBelow template kinds shapes counts row 2 0
   unfolding shapePlace
   fitted-start h =
-      record { size = h; within = omega arith; place = refl; each = λ kinds parts e s l. absurd (omega arith) }
+      record { size = h; within = omega arith; place = refl; each = λ parts e s l. absurd (omega arith) }
 
-  pub fitted-end : (at t : ℕ) → FittedBelow template shapes counts row at t → shapes ≤ t
-      → RowFitted template shapes counts row
-  fitted-end at t f h = record { full = f .size; each = λ kinds parts e s l. f .each kinds parts e s (omega arith) }
+  pub fitted-end : (at t : ℕ) → FittedBelow template kinds shapes counts row at t → shapes ≤ t
+      → RowFitted template kinds shapes counts row
+  fitted-end at t f h = record { full = f .size; each = λ parts e s l. f .each parts e s (omega arith) }
 
-  module _ (at t : ℕ) (f : FittedBelow template shapes counts row at t) (l : t < shapes) where
-    pub shape-within : Shaped template shapes → ShapeWithin template shapes at
+  module _ (at t : ℕ) (f : FittedBelow template kinds shapes counts row at t) (l : t < shapes) where
+    pub shape-within : Shaped template kinds shapes → ShapeWithin template shapes at
     shape-within s =
-        let w = template-accepted template (templateAs (s .kinds) shapes (s .parts)) (s .read) in
+        let w = template-accepted template (templateAs kinds shapes (s .parts)) (s .read) in
         let a = w .shape t l in
         subst (ShapeWithin template shapes) (sym (f .place))
         (record {
@@ -81,50 +87,50 @@ module _ (template : List ℕ) (shapes : ℕ) (counts row : List ℕ) where
         })
 
     tree-is :
-        (kinds : ℕ) (parts : List Part) → readTemplate template ≡ accepted (templateAs kinds shapes parts) →
+        (parts : List Part) → readTemplate template ≡ accepted (templateAs kinds shapes parts) →
         treeAt maxDepth template (at + 1) .value ≡ getD parts t Part.nothing
-    tree-is kinds parts e = rw (f .place) (shape-tree template (templateAs kinds shapes parts) t e l)
+    tree-is parts e = rw (f .place) (shape-tree template (templateAs kinds shapes parts) t e l)
 
     pub shape-row :
-        (names : List ℕ) → Shaped template shapes → length names ≡ tableSize →
+        (names : List ℕ) → Shaped template kinds shapes → length names ≡ tableSize →
         length (rowAt names t) ≡ maxLabels
     shape-row names s size =
         let few = shape-within s .few in
         mid-len (t * maxLabels) (t * maxLabels + maxLabels) names (omega arith) ∙ omega arith
 
     pub shape-names :
-        (names : List ℕ) → Shaped template shapes → TableOf template names → length names ≡ tableSize →
+        (names : List ℕ) → Shaped template kinds shapes → TableOf template names → length names ≡ tableSize →
         (k : ℕ) → k < maxLabels →
         getD (rowAt names t) k 0 ≡ named (treeAt maxDepth template (at + 1) .value) k
     shape-names names s table size k h =
-        let w = template-accepted template (templateAs (s .kinds) shapes (s .parts)) (s .read) in
+        let w = template-accepted template (templateAs kinds shapes (s .parts)) (s .read) in
         let base = t * maxLabels in
         getD-take (base + maxLabels - base) (drop base names) k 0 (omega arith) ∙ getD-drop base names k 0
-        ∙ table (templateAs (s .kinds) shapes (s .parts)) (s .read) t k (omega (arith, w .trees-length)) h
-        ∙ ap (λ (p : Part). named p k) (sym (tree-is (s .kinds) (s .parts) (s .read)))
+        ∙ table (templateAs kinds shapes (s .parts)) (s .read) t k (omega (arith, w .trees-length)) h
+        ∙ ap (λ (p : Part). named p k) (sym (tree-is (s .parts) (s .read)))
 
     module _
-        (byte size : ℕ) (b : byte ≡ byteOf (treeAt maxDepth template (at + 1) .value) counts)
+        (byte size : ℕ) (b : byte ≡ byteOf kinds (treeAt maxDepth template (at + 1) .value) (count counts))
         (q : size ≡ getD template at 0) (after : List ℕ) (w : after ≡ set row t byte) where
       next-place : at + 1 + size ≡ shapePlace template (t + 1) 2
       next-place = rw (q, add-one t, f .place) (sym (place-next template t 2))
 
       next-each :
-          (kinds : ℕ) (parts : List Part) → readTemplate template ≡ accepted (templateAs kinds shapes parts) →
+          (parts : List Part) → readTemplate template ≡ accepted (templateAs kinds shapes parts) →
           (s : ℕ) → s < t + 1 →
-          getD after s 0 ≡ byteOf (getD parts s Part.nothing) counts
-      next-each kinds parts e s h =
+          getD after s 0 ≡ byteOf kinds (getD parts s Part.nothing) (count counts)
+      next-each parts e s h =
           ap (λ (r : List ℕ). getD r s 0) w
           ∙ ⊎-elim
           (λ (i : s ≡ t).
           rw i
           (getD-set-same row t byte 0 (omega (arith, f .size)) ∙ b
-          ∙ ap (λ (p : Part). byteOf p counts) (tree-is kinds parts e)))
-          (λ i. getD-set-other row t s byte 0 (λ j. omega arith) ∙ f .each kinds parts e s i)
+          ∙ ap (λ (p : Part). byteOf kinds p (count counts)) (tree-is parts e)))
+          (λ i. getD-set-other row t s byte 0 (λ j. omega arith) ∙ f .each parts e s i)
           (eq-or-lt-of-le (le-of-suc-le-suc (rw (add-one t) at h)))
 
       -- The next shape's byte is written.
-      pub fitted-next : FittedBelow template shapes counts after (at + 1 + size) (t + 1)
+      pub fitted-next : FittedBelow template kinds shapes counts after (at + 1 + size) (t + 1)
       fitted-next =
           record {
             size = ap length w ∙ simp length-set (f .size);

@@ -1,10 +1,10 @@
 -- The links of a script's words (docs/FORMAT.md, "Scripts"): three words each from place 2 on, from, kind and to.
 -- fromIndex, kindIndex, toIndex   where the words of link i stand
 -- fromAt, kindAt, toAt   the words of link i
--- near, label, far       its near end, its label and its far end: what a card's neighbours and a closure go by
+-- nearAt, labelAt, farAt   seen one way: the card that sees it, its label, and the card at its other end
 -- greater, above         link i is above another, and above the link before it
 -- cardWords              the words of a card's links, in order
--- neighbours             the labels and far cards of a card's links: what a shape looks at
+-- neighbours             the labels and far cards of the links that a card sees, from either end
 -- below                  how many links start at a card below a number
 -- linked                 whether a link touches a card
 -- Assumes nothing.
@@ -13,6 +13,7 @@ use mathlib.Core.List.{List, [], _∷_, _++_}
 use mathlib.Core.Bool.{Bool, true, false, cond, _||_}
 use lib.ListN.{getD}
 use lib.Dec.{ltb, eqb}
+use Rattle.bags.specs.Label.{Way, outgoing, incoming, labelOf}
 use Rattle.bags.specs.Choice.{Neighbour, to}
 
 -- Where the words of link i stand.
@@ -35,15 +36,17 @@ kindAt script i = getD script (kindIndex i) 0
 unfoldable pub toAt : List ℕ → ℕ → ℕ
 toAt script i = getD script (toIndex i) 0
 
--- The card whose link it is, the label that the card's shape names, and the card at the other end.
-abbrev pub near : List ℕ → ℕ → ℕ
-near script i = fromAt script i
+-- A link seen one way: the card that sees it, its label there, and the card at its other end.
+abbrev pub nearAt : Way → List ℕ → ℕ → ℕ
+nearAt outgoing script i = fromAt script i
+nearAt incoming script i = toAt script i
 
-abbrev pub label : List ℕ → ℕ → ℕ
-label script i = kindAt script i
+abbrev pub labelAt : Way → List ℕ → ℕ → ℕ
+labelAt way script i = labelOf way (kindAt script i)
 
-abbrev pub far : List ℕ → ℕ → ℕ
-far script i = toAt script i
+abbrev pub farAt : Way → List ℕ → ℕ → ℕ
+farAt outgoing script i = toAt script i
+farAt incoming script i = fromAt script i
 
 -- Link i is above link j: by its from, then its kind, then its to.
 unfoldable pub greater : List ℕ → ℕ → ℕ → Bool
@@ -66,11 +69,16 @@ cardWords script card (suc i) =
     cardWords script card i
     ++ cond (eqb (fromAt script i) card) (fromAt script i ∷ kindAt script i ∷ toAt script i ∷ []) []
 
--- Of the first m links, the label and the far end of those whose near end is a card.
+-- What a card sees of link i one way: the label and the far end, if the card is the link's near end.
+abbrev pub sight : Way → List ℕ → ℕ → ℕ → List Neighbour
+sight way script card i =
+    cond (eqb (nearAt way script i) card) (to (labelAt way script i) (farAt way script i) ∷ []) []
+
+-- What a card sees of the first m links, each from both ends: a link from the card to itself is seen twice.
 unfoldable pub neighbours : List ℕ → ℕ → ℕ → List Neighbour
 neighbours script card zero = []
 neighbours script card (suc i) =
-    neighbours script card i ++ cond (eqb (near script i) card) (to (label script i) (far script i) ∷ []) []
+    neighbours script card i ++ (sight outgoing script card i ++ sight incoming script card i)
 
 -- Of the first m links, how many start at a card below c.
 unfoldable pub below : List ℕ → ℕ → ℕ → ℕ

@@ -1,20 +1,28 @@
 // Reading a script (a graph): its cards (nodes) and links (edges), the links of a card, and the cards with links.
+//   index     where the links from each card start, and the links to each card as a chain
+//   count     how many links of each kind a card has, from it and to it
+mod count;
+mod index;
+
 use board::fill;
+pub use count::count_arriving;
+pub use count::count_leaving;
+pub use index::chain;
+pub use index::link_starts;
 use template::TemplateAnswer;
 use template::read_template;
 use words::MAX_CARDS;
 use words::MAX_LINKS;
 use words::wide;
 ghost use mathlib.Core.Path.{_≡_};
-ghost use Prim.Native.Nat.{ℕ, suc, _+_, _*_, _<_};
-ghost use lib.ListN.{length, getD};
+ghost use Prim.Native.Nat.{ℕ, suc, _+_, _*_};
+ghost use lib.ListN.{length};
 ghost use Rattle.words.specs.Reading.{Reading, accepted, saidOf};
 ghost use Rattle.script.specs.Link.{fromIndex, greater, above, cardWords, below};
 ghost use Rattle.script.specs.Answer.{scriptSaid};
 ghost use Rattle.script.specs.Script.{ScriptCounts, countsOf, readLinks, readScript, scriptValues, scriptSays};
 ghost use Rattle.script.specs.Script.{cardLinks, linksStart};
-ghost use Rattle.script.specs.Steps.{afterLink, LinkIn, Within, Ascending, kindCount, PartAsked, CountAsked};
-ghost use Rattle.script.specs.Steps.{LinksAmong, LinkedMarked};
+ghost use Rattle.script.specs.Steps.{afterLink, LinkIn, Within, Ascending, PartAsked, LinksAmong, LinkedMarked};
 
 // The number of a card: it counts the script's cards from 0.
 pub struct Card(pub u16);
@@ -189,34 +197,6 @@ pub fn links_of_card<'t, 's>(template: &'t [u16], script: &'s [u16], card: Card)
             card_part(script, wide(links), wide(number))
         }
         ScriptAnswer::Refused(_, _) => none,
-    }
-}
-
-// Sets all counts to 0.
-fn clear(counts: &mut [u16])
-    ensures cleared { λ _. ⌜ ((k : ℕ) → k < length (now (counts .entry)) → getD (now (counts .exit)) k 0 ≡ 0) ⌝ }
-    ensures size { λ _. ⌜ length (now (counts .exit)) ≡ length (now (counts .entry)) ⌝ }
-{
-    let mut k = 0;
-    while k < counts.len() {
-        counts[k] = 0;
-        k += 1;
-    }
-}
-
-// How many of the links from lo to hi, hi not included, have each kind. What the counts were before does not matter.
-pub fn count_kinds(script: &[u16], lo: usize, hi: usize, counts: &mut [u16])
-    requires { ⌜ CountAsked (now script) lo hi (now counts) ⌝ }
-    ensures exact { λ _. ⌜ ((k : ℕ) → k < length (now (counts .entry)) →
-        getD (now (counts .exit)) k 0 ≡ kindCount (now (script .entry)) k lo hi) ⌝ }
-    ensures size { λ _. ⌜ length (now (counts .exit)) ≡ length (now (counts .entry)) ⌝ }
-{
-    clear(counts);
-    let mut i = lo;
-    while i < hi {
-        let kind = wide(script[3 + 3 * i]);
-        counts[kind] += 1;
-        i += 1;
     }
 }
 

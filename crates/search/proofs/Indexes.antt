@@ -6,12 +6,13 @@ use mathlib.Core.List.{List}
 use Prim.Native.Nat.{ℕ, _+_, _≤_, _<_}
 use native.Mathlib.Omega.{arith}
 use lib.ListN.{length, getD}
-use Rattle.script.specs.Link.{near, below}
+use Rattle.bags.specs.Label.{outgoing}
+use Rattle.script.specs.Link.{fromAt, below}
 use Rattle.script.specs.Steps.{Ascending}
 use Rattle.script.proofs.Order.{starts-rise}
 use Rattle.script.proofs.Cards.{below-le, below-rises, starts-exact}
 use Rattle.typing.specs.Needs.{Ready}
-use Rattle.search.specs.Indexes.{Starts}
+use Rattle.search.specs.Walks.{Starts}
 
 module _ {script names : List ℕ} {shapes : ℕ} (ready : Ready script names shapes) where
   pub starts-of : {starts : List ℕ} → Ascending script (getD script 1 0) → getD script 0 0 < length starts
@@ -28,8 +29,8 @@ module _ {script names : List ℕ} {shapes : ℕ} (ready : Ready script names sh
             let hi : i < below script (n + 1) m = omega (arith, exact (n + 1) (omega arith)) in
             starts-exact script m rise n i (omega (arith, hi, below-le script (n + 1) m)) .1 (lo, hi);
         each = λ i l.
-            let n = near script i in
-            let card = ready .near-in i l in
+            let n = fromAt script i in
+            let card = ready .near-in outgoing i l in
             let stands = starts-exact script m rise n i l .0 refl in (
               omega (arith, exact n (omega (arith, card)), stands .0),
               omega (arith, exact (n + 1) (omega (arith, card)), stands .1),

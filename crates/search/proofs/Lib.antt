@@ -1,12 +1,14 @@
--- Chains, Walks: chains and their walks. Names, Needs: what the chains and the links make good. Followed, Indexes: the
--- search forwards. Tallies: a tally in memory. Marks, Closures: the closure of the bookings.
+-- Walks: along links. Entries, Names, Needs: what entries, their chains and the links make good. Following, Followed, Indexes: the
+-- search forwards. Striking: the one backwards. Tallies: a tally in memory. Marks, Closures: the closure of the bookings.
 -- Judging: a grid tested as it is.
-pub mod Chains
 pub mod Walks
+pub mod Entries
 pub mod Names
-pub mod Followed
 pub mod Needs
+pub mod Following
+pub mod Followed
 pub mod Indexes
+pub mod Striking
 pub mod Tallies
 pub mod Marks
 pub mod Closures

@@ -8,16 +8,16 @@
 use Prim.Native.Nat.{ℕ, _+_, _*_, _≤_, _<_}
 use mathlib.Core.Path.{_≡_}
 use mathlib.Core.List.{List}
-use mathlib.Core.Bool.{false}
+use mathlib.Core.Bool.{Bool, false}
 use lib.ListN.{length, getD, replicate}
 use Rattle.words.specs.Limits.{maxCards, maxShapes}
 use Rattle.words.specs.Sizes.{maxGrid}
 use Rattle.board.specs.Grid.{on}
 use Rattle.board.specs.Machine.{Marks, FirstMissing}
 use Rattle.board.specs.Board.{Flooded}
-use Rattle.typing.specs.Needs.{boardOf, Ready}
+use Rattle.typing.specs.Needs.{boardOf}
 use Rattle.bookings.specs.Bookings.{cardAt, shapeAt}
-use Rattle.search.specs.Indexes.{Starts}
+use Rattle.search.specs.Walks.{LinksReady}
 use Rattle.search.specs.declared.Unfit.{Unfit}
 use Rattle.search.specs.declared.Unfit.the-variants as unfit
 
@@ -45,11 +45,10 @@ pub record Marked (bookings : List ℕ) (shapes k : ℕ) (grid : List ℕ) : Typ
   pub only : (p : ℕ) → p < length grid → on grid p ≡ false → BookedAt bookings shapes k p
   pub each : (p : ℕ) → BookedAt bookings shapes k p → on grid p ≡ false
 
--- What the closure asks: a script that is ready, bookings that are read, a byte for each pair, and room in the queue.
-pub record CloseAsked (script bookings : List ℕ) (count : ℕ) (names starts : List ℕ) (cards shapes : ℕ)
-    (grid queue : List ℕ) : Type 0 where
-  pub ready : Ready script names shapes
-  pub starting : Starts script starts
+-- What the closure asks: where each card's links stand, bookings that are read, a byte for each pair, and room in the queue.
+pub record CloseAsked (script starts first next bookings : List ℕ) (count : ℕ) (names : List ℕ) (cards shapes : ℕ)
+    (incoming : Bool) (grid queue : List ℕ) : Type 0 where
+  pub links : LinksReady script starts first next names shapes incoming
   pub all-cards : cards ≡ getD script 0 0
   pub words : 1 + 2 * count ≤ length bookings
   pub booked-in : BookingsIn bookings cards shapes count

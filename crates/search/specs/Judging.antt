@@ -1,6 +1,7 @@
 -- A grid tested against itself and against bookings; no part of a promise.
--- NeedsHad     a set has what some links of a card ask for under a shape; NeedsAsked: what testing that asks
--- GridAsked    what testing the pairs of a grid asks; PairAsked: and one pair
+-- HasAll       a set has all that is good
+-- LeavingTested, ArrivingTested   what testing what the links from a card, and those to it, ask for asks
+-- GridAsked    what testing the pairs of a grid asks; MetAsked: and one pair
 -- Failing      a pair of a grid is not met under it
 -- HeldAsked    what looking for the bookings asks; Missing: a booking is not in the grid
 -- Assumes nothing.
@@ -9,36 +10,41 @@ use mathlib.Core.Path.{_≡_}
 use mathlib.Core.List.{List}
 use mathlib.Core.Bool.{Bool, true, false}
 use lib.ListN.{length, getD}
-use Rattle.script.specs.Link.{label, far}
+use Rattle.bags.specs.Label.{outgoing, incoming}
+use Rattle.script.specs.Index.{ArrivalsOf}
 use Rattle.board.specs.Grid.{on}
 use Rattle.bookings.specs.Bookings.{cardAt, shapeAt}
-use Rattle.typing.specs.Needs.{entryAt, hasNamed, metTest, Ready}
-use Rattle.search.specs.Indexes.{Starts}
+use Rattle.typing.specs.Needs.{metTest}
+use Rattle.search.specs.Walks.{LinksReady}
+use Rattle.search.specs.Follows.{RowAsked}
 use Rattle.search.specs.Closing.{BookingsIn}
 
--- The set has the pair that each of the links lo up to hi leads to from the shape t.
-abbrev pub NeedsHad : List ℕ → List ℕ → ℕ → ℕ → ℕ → ℕ → (ℕ → Bool) → Type 0
-NeedsHad script names shapes lo hi t X = (i : ℕ) → lo ≤ i → i < hi
-    → hasNamed X (far script i * shapes) (entryAt names t (label script i)) ≡ true
+-- The set has all that is good.
+abbrev pub HasAll : (ℕ → Bool) → (ℕ → Type 0) → Type 0
+HasAll X Good = (q : ℕ) → Good q → X q ≡ true
 
--- What testing the links lo up to hi asks.
-pub record NeedsAsked (script names : List ℕ) (shapes lo hi t : ℕ) (grid : List ℕ) : Type 0 where
-  pub ready : Ready script names shapes
-  pub shape-in : t < shapes
+-- What testing the links lo up to hi by a row asks.
+pub record LeavingTested (script row : List ℕ) (shapes lo hi : ℕ) (grid : List ℕ) : Type 0 where
+  pub row-in : RowAsked outgoing script row shapes (length grid)
   pub rising : lo ≤ hi
   pub links-in : hi ≤ getD script 1 0
-  pub full : length grid ≡ getD script 0 0 * shapes
 
--- What testing the pairs of a grid asks: where each card's links start, and a grid of the pairs that fit.
-pub record GridAsked (script starts names : List ℕ) (shapes : ℕ) (fitting grid : List ℕ) : Type 0 where
-  pub ready : Ready script names shapes
-  pub starting : Starts script starts
+-- What testing the links to card m by a row asks.
+pub record ArrivingTested (script first next row : List ℕ) (shapes m : ℕ) (grid : List ℕ) : Type 0 where
+  pub row-in : RowAsked incoming script row shapes (length grid)
+  pub arrivals : ArrivalsOf script first next (m + 1) (getD script 1 0)
+
+-- What testing the pairs of a grid asks: where each card's links stand, and a grid of the pairs that fit.
+pub record GridAsked (script starts first next names : List ℕ) (shapes : ℕ) (incoming : Bool) (fitting grid : List ℕ)
+    : Type 0 where
+  pub links : LinksReady script starts first next names shapes incoming
   pub full : length grid ≡ getD script 0 0 * shapes
   pub tested : length fitting ≡ length grid
 
 -- And a pair of it.
-pub record PairAsked (script starts names : List ℕ) (shapes : ℕ) (fitting grid : List ℕ) (p : ℕ) : Type 0 where
-  pub lent : GridAsked script starts names shapes fitting grid
+pub record MetAsked (script starts first next names : List ℕ) (shapes : ℕ) (incoming : Bool) (fitting grid : List ℕ)
+    (p : ℕ) : Type 0 where
+  pub lent : GridAsked script starts first next names shapes incoming fitting grid
   pub on-board : p < length grid
 
 -- The grid has the pair at place p, which is not met under it.

@@ -1,8 +1,9 @@
 -- The search backwards: what it strikes, asks and finds; no part of a promise.
--- NamedGood    the pairs of a card that a struck pair makes fall, by one link
--- TargetGood   those that it makes fall by all links to its card
--- NamedAsked, TargetAsked   what striking these asks
--- RoundsAsked, StrikeAsked  what the search asks, with its indexes and without
+-- NamedGood    the pairs of a card whose shape names a shape for a label; NamedAsked: what striking them asks
+-- NeedGood     the pairs that need one of a link's far end, by the link seen one way
+-- NeedAsked    what striking by links asks; SourcesAsked, TargetsAsked: by those to a card, and by those from it
+-- NeedingAsked what striking all pairs that need one asks
+-- RoundsAsked, StrikeAsked  what the search asks, with its index of names and without
 -- Searched     its answer; StrikesLeft: with what becomes of the grid
 -- Assumes nothing.
 use Prim.Native.Nat.{ℕ, suc, _+_, _*_, _≤_, _<_}
@@ -12,13 +13,17 @@ use mathlib.Core.Bool.{Bool}
 use lib.ListN.{length, getD}
 use Rattle.words.specs.Limits.{maxLabels, maxShapes}
 use Rattle.words.specs.Sizes.{maxGrid}
-use Rattle.script.specs.Link.{near, label, far}
+use Rattle.bags.specs.Label.{Way}
+use Rattle.template.specs.Machine.{entryAt}
+use Rattle.script.specs.Link.{nearAt, labelAt}
+use Rattle.script.specs.Index.{ArrivalsOf}
 use Rattle.board.specs.Grid.{on}
 use Rattle.board.specs.Board.{Board, Finished}
 use Rattle.board.specs.Machine.{Marks}
 use Rattle.board.specs.Work.{Work, Room}
-use Rattle.typing.specs.Needs.{entryAt, boardOf, Ready}
-use Rattle.search.specs.Indexes.{Table, NameIndex, Indexed}
+use Rattle.typing.specs.Needs.{boardOf, Ready}
+use Rattle.search.specs.Walks.{LinksReady}
+use Rattle.search.specs.Indexes.{Table, NameIndex}
 
 -- The pairs of the card at `base` whose shape names u for the label k.
 pub record NamedGood (names : List ℕ) (shapes k base u p : ℕ) : Type 0 where
@@ -27,14 +32,7 @@ pub record NamedGood (names : List ℕ) (shapes k base u p : ℕ) : Type 0 where
   pub names-it : entryAt names by k ≡ suc u
   pub at : p ≡ base + by
 
--- Those of all links to card m.
-pub record TargetGood (script names : List ℕ) (shapes m u p : ℕ) : Type 0 where
-  pub link : ℕ
-  pub below : link < getD script 1 0
-  pub goes : far script link ≡ m
-  pub good : NamedGood names shapes (label script link) (near script link * shapes) u p
-
--- What striking the pairs of the card at `base` asks.
+-- What striking these asks.
 pub record NamedAsked (names : List ℕ) (shapes : ℕ) (named alike : List ℕ) (k base u : ℕ) (w : Work) : Type 0 where
   pub table : Table names shapes
   pub places : NameIndex names shapes named alike
@@ -45,25 +43,53 @@ pub record NamedAsked (names : List ℕ) (shapes : ℕ) (named alike : List ℕ)
   pub pairs : base + shapes ≤ length (w .grid)
   pub room : Room w
 
--- What striking the pairs that need the one of card m and shape u asks.
-pub record TargetAsked (script first next names : List ℕ) (shapes : ℕ) (named alike : List ℕ) (m u : ℕ) (w : Work)
-    : Type 0 where
-  pub indexed : Indexed script first next names shapes named alike
-  pub card-in : m < getD script 0 0
+-- The pairs of link i's near end, seen one way, whose shape names u for its label: they need u at its far end.
+abbrev pub NeedGood : Way → List ℕ → List ℕ → ℕ → ℕ → ℕ → ℕ → Type 0
+NeedGood way script names shapes u i p =
+    NamedGood names shapes (labelAt way script i) (nearAt way script i * shapes) u p
+
+-- What striking by links the pairs that need the shape u asks.
+pub record NeedAsked (script names : List ℕ) (shapes : ℕ) (named alike : List ℕ) (u : ℕ) (w : Work) : Type 0 where
+  pub ready : Ready script names shapes
+  pub places : NameIndex names shapes named alike
   pub shape-in : u < shapes
   pub full : length (w .grid) ≡ getD script 0 0 * shapes
   pub room : Room w
 
+-- By the links to card m.
+pub record SourcesAsked (script first next names : List ℕ) (shapes : ℕ) (named alike : List ℕ) (m u : ℕ) (w : Work)
+    : Type 0 where
+  pub need : NeedAsked script names shapes named alike u w
+  pub arrivals : ArrivalsOf script first next (m + 1) (getD script 1 0)
+
+-- By the links lo up to hi.
+pub record TargetsAsked (script names : List ℕ) (shapes : ℕ) (named alike : List ℕ) (lo hi u : ℕ) (w : Work)
+    : Type 0 where
+  pub need : NeedAsked script names shapes named alike u w
+  pub rising : lo ≤ hi
+  pub links-in : hi ≤ getD script 1 0
+
+-- What striking all pairs that need the one at place q asks.
+pub record NeedingAsked (script starts first next names : List ℕ) (shapes : ℕ) (incoming : Bool)
+    (named alike : List ℕ) (q : ℕ) (w : Work) : Type 0 where
+  pub links : LinksReady script starts first next names shapes incoming
+  pub places : NameIndex names shapes named alike
+  pub on-board : q < length (w .grid)
+  pub full : length (w .grid) ≡ getD script 0 0 * shapes
+  pub room : Room w
+
 -- What the search asks: the indexes, a byte for each pair, and room in the queue for all.
-pub record RoundsAsked (script first next names : List ℕ) (shapes : ℕ) (named alike grid queue : List ℕ) : Type 0 where
-  pub indexed : Indexed script first next names shapes named alike
+pub record RoundsAsked (script starts first next names : List ℕ) (shapes : ℕ) (incoming : Bool)
+    (named alike grid queue : List ℕ) : Type 0 where
+  pub links : LinksReady script starts first next names shapes incoming
+  pub places : NameIndex names shapes named alike
   pub full : length grid ≡ getD script 0 0 * shapes
   pub room : length grid ≤ length queue
 
--- What it asks where the indexes are still to be built.
-pub record StrikeAsked (script names : List ℕ) (links shapes : ℕ) (grid queue : List ℕ) : Type 0 where
-  pub ready : Ready script names shapes
-  pub all-links : links ≡ getD script 1 0
+-- What it asks where the index of names is still to be built.
+pub record StrikeAsked (script starts first next names : List ℕ) (shapes : ℕ) (incoming : Bool) (grid queue : List ℕ)
+    : Type 0 where
+  pub links : LinksReady script starts first next names shapes incoming
   pub full : length grid ≡ getD script 0 0 * shapes
   pub room : length grid ≤ length queue
 

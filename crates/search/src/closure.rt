@@ -30,24 +30,38 @@ fn mark_bookings(bookings: &[u16], count: u16, cards: usize, shapes: usize, grid
 // Writes the closure of the bookings into the grid, whatever it held, and returns its number of pairs.
 pub fn close(
     script: &[u16],
+    starts: &[u16],
+    first: &[u16],
+    next: &[u16],
     bookings: &[u16],
     count: u16,
     names: &[u8],
-    starts: &[u16],
     cards: usize,
     shapes: usize,
+    incoming: bool,
     grid: &mut [u8],
     queue: &mut [u16],
 ) -> usize
-    requires { ⌜ CloseAsked (now script) (now bookings) count (now names) (now starts) cards shapes
-        (now grid) (now queue) ⌝ }
+    requires { ⌜ CloseAsked (now script) (now starts) (now first) (now next) (now bookings) count (now names)
+        cards shapes incoming (now grid) (now queue) ⌝ }
     ensures { λ r. ⌜ Closes (now (script .entry)) (now (names .entry)) shapes (now (bookings .entry)) count
         (now (grid .exit)) r ⌝ }
 {
     fill(grid, 1);
     mark_bookings(bookings, count, cards, shapes, grid);
     let booked = list_off(grid, queue);
-    let found = flood(script, starts, names, shapes, grid, queue, booked);
+    let found = flood(
+        script,
+        starts,
+        first,
+        next,
+        names,
+        shapes,
+        incoming,
+        grid,
+        queue,
+        booked,
+    );
     flip(grid);
     found
 }

@@ -1,37 +1,123 @@
-// The search forwards: from the pairs that are queued, along the links of what is found.
+// The search forwards: from the pairs that are queued, along the links of what is found, from a card and to it.
+ghost use Rattle.bags.specs.Label.{outgoing, incoming as arriving};
 ghost use Rattle.board.specs.Work.{work, Swept};
-ghost use Rattle.search.specs.Follows.{CardGood, CardAsked, FloodAsked, Followed};
+ghost use Rattle.typing.specs.Needs.{Needs};
+ghost use Rattle.search.specs.Walks.{Leaving, Arriving};
+ghost use Rattle.search.specs.Follows.{EntryGood, LedGood, LedAsked, LeavingAsked, ArrivingAsked, PairAsked};
+ghost use Rattle.search.specs.Follows.{FloodAsked, Followed};
 use board::strike_one;
+use words::MAX_KINDS;
 use words::MAX_LABELS;
 use words::byte;
 use words::wide;
 
-// Strikes what the links lo up to hi of a card lead to from its shape t.
-fn strike_needs(
+// Strikes the pair of the card at `base` that an entry names, if it names one.
+fn strike_entry(entry: u8, base: usize, grid: &mut [u8], queue: &mut [u16], tail: usize) -> usize
+    requires { ⌜ LedAsked entry base (work (now grid) (now queue) tail) ⌝ }
+    ensures { λ r. ⌜ Swept (EntryGood entry base)
+        (work (now (grid .entry)) (now (queue .entry)) tail) (work (now (grid .exit)) (now (queue .exit)) r) ⌝ }
+{
+    let number = byte(entry);
+    if number == 0 {
+        return tail;
+    }
+    strike_one(grid, queue, tail, base + (number - 1))
+}
+
+// Strikes what the links lo up to hi lead to, by the entries that a row has for their kinds.
+fn follow_leaving(
     script: &[u16],
-    names: &[u8],
+    row: &[u8],
     shapes: usize,
     lo: usize,
     hi: usize,
-    t: usize,
     grid: &mut [u8],
     queue: &mut [u16],
     tail: usize,
 ) -> usize
-    requires { ⌜ CardAsked (now script) (now names) shapes lo hi t (work (now grid) (now queue) tail) ⌝ }
-    ensures { λ r. ⌜ Swept (CardGood (now (script .entry)) (now (names .entry)) shapes lo hi t)
+    requires { ⌜ LeavingAsked (now script) (now row) shapes lo hi (work (now grid) (now queue) tail) ⌝ }
+    ensures { λ r. ⌜ Swept (Leaving (LedGood outgoing (now (script .entry)) (now (row .entry)) shapes) lo hi)
         (work (now (grid .entry)) (now (queue .entry)) tail) (work (now (grid .exit)) (now (queue .exit)) r) ⌝ }
 {
     let mut end = tail;
     let mut i = lo;
     while i < hi {
         let kind = wide(script[3 + 3 * i]);
-        let m = wide(script[4 + 3 * i]);
-        let entry = byte(names[t * MAX_LABELS + kind]);
-        if 0 < entry {
-            end = strike_one(grid, queue, end, m * shapes + (entry - 1));
-        }
+        let to = wide(script[4 + 3 * i]);
+        end = strike_entry(row[kind], to * shapes, grid, queue, end);
         i += 1;
+    }
+    end
+}
+
+// Strikes what the links to card m lead back to, by the entries that a row has for their kinds.
+fn follow_arriving(
+    script: &[u16],
+    first: &[u16],
+    next: &[u16],
+    row: &[u8],
+    shapes: usize,
+    m: usize,
+    grid: &mut [u8],
+    queue: &mut [u16],
+    tail: usize,
+) -> usize
+    requires { ⌜ ArrivingAsked (now script) (now first) (now next) (now row) shapes m
+        (work (now grid) (now queue) tail) ⌝ }
+    ensures { λ r. ⌜ Swept (Arriving (now (script .entry)) m
+        (LedGood arriving (now (script .entry)) (now (row .entry)) shapes))
+        (work (now (grid .entry)) (now (queue .entry)) tail) (work (now (grid .exit)) (now (queue .exit)) r) ⌝ }
+{
+    let mut end = tail;
+    let mut at = wide(first[m]);
+    while 0 < at {
+        let i = at - 1;
+        let from = wide(script[2 + 3 * i]);
+        let kind = wide(script[3 + 3 * i]);
+        end = strike_entry(row[kind], from * shapes, grid, queue, end);
+        at = wide(next[i]);
+    }
+    end
+}
+
+// Strikes what the pair at place q needs: what the links from its card lead to, and, where shapes name incoming kinds,
+// what the links to it lead back to.
+fn follow_pair(
+    script: &[u16],
+    starts: &[u16],
+    first: &[u16],
+    next: &[u16],
+    names: &[u8],
+    shapes: usize,
+    incoming: bool,
+    q: usize,
+    grid: &mut [u8],
+    queue: &mut [u16],
+    tail: usize,
+) -> usize
+    requires { ⌜ PairAsked (now script) (now starts) (now first) (now next) (now names) shapes incoming q
+        (work (now grid) (now queue) tail) ⌝ }
+    ensures { λ r. ⌜ Swept (Needs (now (script .entry)) (now (names .entry)) shapes q)
+        (work (now (grid .entry)) (now (queue .entry)) tail) (work (now (grid .exit)) (now (queue .exit)) r) ⌝ }
+{
+    let n = q / shapes;
+    let base = q % shapes * MAX_LABELS;
+    let half = base + MAX_KINDS;
+    let lo = wide(starts[n]);
+    let hi = wide(starts[n + 1]);
+    let end = follow_leaving(
+        script,
+        &names[base..half],
+        shapes,
+        lo,
+        hi,
+        grid,
+        queue,
+        tail,
+    );
+    if incoming {
+        let row = &names[half..half + MAX_KINDS];
+        return follow_arriving(script, first, next, row, shapes, n, grid, queue, end);
     }
     end
 }
@@ -41,13 +127,17 @@ fn strike_needs(
 pub fn flood(
     script: &[u16],
     starts: &[u16],
+    first: &[u16],
+    next: &[u16],
     names: &[u8],
     shapes: usize,
+    incoming: bool,
     grid: &mut [u8],
     queue: &mut [u16],
     booked: usize,
 ) -> usize
-    requires { ⌜ FloodAsked (now script) (now starts) (now names) shapes (now grid) (now queue) booked ⌝ }
+    requires { ⌜ FloodAsked (now script) (now starts) (now first) (now next) (now names) shapes incoming
+        (now grid) (now queue) booked ⌝ }
     ensures { λ r. ⌜ Followed (now (script .entry)) (now (names .entry)) shapes
         (now (grid .entry)) (now (grid .exit)) r ⌝ }
 {
@@ -55,10 +145,19 @@ pub fn flood(
     let mut head = 0;
     while head < tail {
         let q = wide(queue[head]);
-        let n = q / shapes;
-        let lo = wide(starts[n]);
-        let hi = wide(starts[n + 1]);
-        tail = strike_needs(script, names, shapes, lo, hi, q % shapes, grid, queue, tail);
+        tail = follow_pair(
+            script,
+            starts,
+            first,
+            next,
+            names,
+            shapes,
+            incoming,
+            q,
+            grid,
+            queue,
+            tail,
+        );
         head += 1;
     }
     tail

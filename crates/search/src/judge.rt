@@ -2,35 +2,44 @@
 ghost use mathlib.Core.Bool.{true};
 ghost use mathlib.Core.Logic.{_↔_};
 ghost use mathlib.Core.Path.{_≡_};
+ghost use Prim.Native.Nat.{ℕ, _<_};
 ghost use lib.ListN.{length};
 ghost use Rattle.words.specs.First.{First};
+ghost use Rattle.bags.specs.Label.{outgoing, incoming as arriving};
 ghost use Rattle.board.specs.Grid.{on};
 ghost use Rattle.typing.specs.Needs.{metTest};
-ghost use Rattle.search.specs.Judging.{NeedsHad, NeedsAsked, GridAsked, PairAsked, Failing, HeldAsked, Missing};
+ghost use Rattle.search.specs.Walks.{Leaving, Arriving};
+ghost use Rattle.search.specs.Follows.{EntryGood, LedGood};
+ghost use Rattle.search.specs.Judging.{HasAll, LeavingTested, ArrivingTested, GridAsked, MetAsked, Failing};
+ghost use Rattle.search.specs.Judging.{HeldAsked, Missing};
+use words::MAX_KINDS;
 use words::MAX_LABELS;
 use words::byte;
 use words::wide;
 
-// Whether the grid has the pair that each of the links lo up to hi of a card leads to from its shape t.
-fn needs_had(
-    script: &[u16],
-    names: &[u8],
-    shapes: usize,
-    lo: usize,
-    hi: usize,
-    t: usize,
-    grid: &[u8],
-) -> bool
-    requires { ⌜ NeedsAsked (now script) (now names) shapes lo hi t (now grid) ⌝ }
-    ensures { λ r. ⌜ (r ≡ true) ↔ NeedsHad (now (script .entry)) (now (names .entry)) shapes lo hi t
-        (on (now (grid .entry))) ⌝ }
+// Whether the grid has the pair of the card at `base` that an entry names, if it names one.
+fn entry_had(entry: u8, base: usize, grid: &[u8]) -> bool
+    requires { ⌜ ((p : ℕ) → EntryGood entry base p → p < length (now grid)) ⌝ }
+    ensures { λ r. ⌜ (r ≡ true) ↔ HasAll (on (now (grid .entry))) (EntryGood entry base) ⌝ }
+{
+    let number = byte(entry);
+    if number == 0 {
+        return true;
+    }
+    grid[base + (number - 1)] == 1
+}
+
+// Whether the grid has what the links lo up to hi lead to, by the entries that a row has for their kinds.
+fn leaving_had(script: &[u16], row: &[u8], shapes: usize, lo: usize, hi: usize, grid: &[u8]) -> bool
+    requires { ⌜ LeavingTested (now script) (now row) shapes lo hi (now grid) ⌝ }
+    ensures { λ r. ⌜ (r ≡ true) ↔ HasAll (on (now (grid .entry)))
+        (Leaving (LedGood outgoing (now (script .entry)) (now (row .entry)) shapes) lo hi) ⌝ }
 {
     let mut i = lo;
     while i < hi {
         let kind = wide(script[3 + 3 * i]);
-        let m = wide(script[4 + 3 * i]);
-        let entry = byte(names[t * MAX_LABELS + kind]);
-        if 0 < entry && grid[m * shapes + (entry - 1)] != 1 {
+        let to = wide(script[4 + 3 * i]);
+        if !entry_had(row[kind], to * shapes, grid) {
             return false;
         }
         i += 1;
@@ -38,17 +47,49 @@ fn needs_had(
     true
 }
 
-// Whether the pair at a place is met under the grid: its counts fit, and the grid has what its card's links ask for.
+// Whether the grid has what the links to card m lead back to, by the entries that a row has for their kinds.
+fn arriving_had(
+    script: &[u16],
+    first: &[u16],
+    next: &[u16],
+    row: &[u8],
+    shapes: usize,
+    m: usize,
+    grid: &[u8],
+) -> bool
+    requires { ⌜ ArrivingTested (now script) (now first) (now next) (now row) shapes m (now grid) ⌝ }
+    ensures { λ r. ⌜ (r ≡ true) ↔ HasAll (on (now (grid .entry)))
+        (Arriving (now (script .entry)) m (LedGood arriving (now (script .entry)) (now (row .entry)) shapes)) ⌝ }
+{
+    let mut at = wide(first[m]);
+    while 0 < at {
+        let i = at - 1;
+        let from = wide(script[2 + 3 * i]);
+        let kind = wide(script[3 + 3 * i]);
+        if !entry_had(row[kind], from * shapes, grid) {
+            return false;
+        }
+        at = wide(next[i]);
+    }
+    true
+}
+
+// Whether the pair at a place is met under the grid: its counts fit, and the grid has what the links from its card ask
+// for and, where shapes name incoming kinds, what those to it ask for.
 pub fn pair_met(
     script: &[u16],
     starts: &[u16],
+    first: &[u16],
+    next: &[u16],
     names: &[u8],
     shapes: usize,
+    incoming: bool,
     fitting: &[u8],
     grid: &[u8],
     place: usize,
 ) -> bool
-    requires { ⌜ PairAsked (now script) (now starts) (now names) shapes (now fitting) (now grid) place ⌝ }
+    requires { ⌜ MetAsked (now script) (now starts) (now first) (now next) (now names) shapes incoming
+        (now fitting) (now grid) place ⌝ }
     ensures { λ r. ⌜ r ≡ metTest (now (script .entry)) (now (names .entry)) shapes (now (fitting .entry))
         (on (now (grid .entry))) place ⌝ }
 {
@@ -56,27 +97,53 @@ pub fn pair_met(
         return false;
     }
     let n = place / shapes;
+    let base = place % shapes * MAX_LABELS;
+    let half = base + MAX_KINDS;
     let lo = wide(starts[n]);
     let hi = wide(starts[n + 1]);
-    needs_had(script, names, shapes, lo, hi, place % shapes, grid)
+    if !leaving_had(script, &names[base..half], shapes, lo, hi, grid) {
+        return false;
+    }
+    if incoming {
+        let row = &names[half..half + MAX_KINDS];
+        return arriving_had(script, first, next, row, shapes, n, grid);
+    }
+    true
 }
 
 // Finds the lowest pair of the grid that is not met under it: the length where there is none.
 pub fn first_unmet(
     script: &[u16],
     starts: &[u16],
+    first: &[u16],
+    next: &[u16],
     names: &[u8],
     shapes: usize,
+    incoming: bool,
     fitting: &[u8],
     grid: &[u8],
 ) -> usize
-    requires { ⌜ GridAsked (now script) (now starts) (now names) shapes (now fitting) (now grid) ⌝ }
+    requires { ⌜ GridAsked (now script) (now starts) (now first) (now next) (now names) shapes incoming
+        (now fitting) (now grid) ⌝ }
     ensures { λ r. ⌜ First (Failing (now (script .entry)) (now (names .entry)) shapes (now (fitting .entry))
         (now (grid .entry))) (length (now (grid .entry))) r ⌝ }
 {
     let mut place = 0;
     while place < grid.len() {
-        if grid[place] == 1 && !pair_met(script, starts, names, shapes, fitting, grid, place) {
+        if grid[place] == 1
+            && !pair_met(
+                script,
+                starts,
+                first,
+                next,
+                names,
+                shapes,
+                incoming,
+                fitting,
+                grid,
+                place,
+            )
+        {
             return place;
         }
         place += 1;

@@ -1,6 +1,7 @@
 // The two searches over pairs of a card and a shape, each linear in links times shapes: backwards from the pairs whose
 // counts do not fit, for the largest typing, and forwards from the bookings, for the smallest.
-//   index     what they go by: the table's places by label and shape named, links by target, where a card's links start
+// Links are seen from both ends: those from a card stand side by side, those to it are a chain.
+//   index     the table's places by label and shape named
 //   strike    backwards: the rounds of strikes
 //   follow    forwards: what the links of what is found lead to
 //   closure   the closure of the bookings, and its lowest pair that does not fit
@@ -13,7 +14,6 @@ mod strike;
 
 pub use closure::close;
 pub use closure::first_unfit;
-pub use index::link_starts;
 pub use judge::first_unheld;
 pub use judge::first_unmet;
 pub use judge::pair_met;

@@ -2,18 +2,19 @@
 ghost use mathlib.Core.Path.{_≡_};
 ghost use Prim.Native.Nat.{_≤_};
 ghost use Rattle.words.specs.Sizes.{maxGrid};
+ghost use Rattle.bags.specs.Label.{outgoing, incoming as arriving};
 ghost use Rattle.board.specs.Work.{work, Swept};
+ghost use Rattle.typing.specs.Needs.{Needs};
 ghost use Rattle.search.specs.Tally.{closed};
-ghost use Rattle.search.specs.Strikes.{NamedGood, TargetGood, NamedAsked, TargetAsked, RoundsAsked, StrikeAsked};
-ghost use Rattle.search.specs.Strikes.{StrikesLeft};
+ghost use Rattle.search.specs.Walks.{Leaving, Arriving};
+ghost use Rattle.search.specs.Strikes.{NamedGood, NamedAsked, NeedGood, SourcesAsked, TargetsAsked, NeedingAsked};
+ghost use Rattle.search.specs.Strikes.{RoundsAsked, StrikeAsked, StrikesLeft};
 use crate::Tally;
-use crate::index::chain;
 use crate::index::index_names;
 use board::list_off;
 use board::strike_one;
-use words::MAX_CARDS;
+use words::MAX_KINDS;
 use words::MAX_LABELS;
-use words::MAX_LINKS;
 use words::MAX_SHAPES;
 use words::TABLE_SIZE;
 use words::wide;
@@ -46,8 +47,8 @@ fn strike_named(
     end
 }
 
-// Strikes what needs the pair of card m and shape u, by the chain of the links to m.
-fn strike_target(
+// Strikes the pairs at the start of a link to card m that need the shape u there, by the chain of these links.
+fn strike_sources(
     script: &[u16],
     first: &[u16],
     next: &[u16],
@@ -61,9 +62,10 @@ fn strike_target(
     queue: &mut [u16],
     tail: usize,
 ) -> usize
-    requires { ⌜ TargetAsked (now script) (now first) (now next) (now names) shapes (now named) (now alike) m u
+    requires { ⌜ SourcesAsked (now script) (now first) (now next) (now names) shapes (now named) (now alike) m u
         (work (now grid) (now queue) tail) ⌝ }
-    ensures { λ r. ⌜ Swept (TargetGood (now (script .entry)) (now (names .entry)) shapes m u)
+    ensures { λ r. ⌜ Swept (Arriving (now (script .entry)) m
+        (NeedGood outgoing (now (script .entry)) (now (names .entry)) shapes u))
         (work (now (grid .entry)) (now (queue .entry)) tail) (work (now (grid .exit)) (now (queue .exit)) r) ⌝ }
 {
     let mut end = tail;
@@ -85,6 +87,106 @@ fn strike_target(
             end,
         );
         at = wide(next[i]);
+    }
+    end
+}
+
+// Strikes the pairs at the end of one of the links lo up to hi, all from one card, that need the shape u there: by their
+// incoming labels.
+fn strike_targets(
+    script: &[u16],
+    names: &[u8],
+    shapes: usize,
+    named: &[u16],
+    alike: &[u16],
+    lo: usize,
+    hi: usize,
+    u: usize,
+    grid: &mut [u8],
+    queue: &mut [u16],
+    tail: usize,
+) -> usize
+    requires { ⌜ TargetsAsked (now script) (now names) shapes (now named) (now alike) lo hi u
+        (work (now grid) (now queue) tail) ⌝ }
+    ensures { λ r. ⌜ Swept (Leaving (NeedGood arriving (now (script .entry)) (now (names .entry)) shapes u) lo hi)
+        (work (now (grid .entry)) (now (queue .entry)) tail) (work (now (grid .exit)) (now (queue .exit)) r) ⌝ }
+{
+    let mut end = tail;
+    let mut i = lo;
+    while i < hi {
+        let kind = wide(script[3 + 3 * i]);
+        let to = wide(script[4 + 3 * i]);
+        end = strike_named(
+            names,
+            shapes,
+            named,
+            alike,
+            MAX_KINDS + kind,
+            to * shapes,
+            u,
+            grid,
+            queue,
+            end,
+        );
+        i += 1;
+    }
+    end
+}
+
+// Strikes what needs the pair at place q: by the links to its card and, where shapes name incoming kinds, by those from
+// it.
+fn strike_needing(
+    script: &[u16],
+    starts: &[u16],
+    first: &[u16],
+    next: &[u16],
+    names: &[u8],
+    shapes: usize,
+    incoming: bool,
+    named: &[u16],
+    alike: &[u16],
+    q: usize,
+    grid: &mut [u8],
+    queue: &mut [u16],
+    tail: usize,
+) -> usize
+    requires { ⌜ NeedingAsked (now script) (now starts) (now first) (now next) (now names) shapes incoming
+        (now named) (now alike) q (work (now grid) (now queue) tail) ⌝ }
+    ensures { λ r. ⌜ Swept (λ p. Needs (now (script .entry)) (now (names .entry)) shapes p q)
+        (work (now (grid .entry)) (now (queue .entry)) tail) (work (now (grid .exit)) (now (queue .exit)) r) ⌝ }
+{
+    let m = q / shapes;
+    let u = q % shapes;
+    let end = strike_sources(
+        script,
+        first,
+        next,
+        names,
+        shapes,
+        named,
+        alike,
+        m,
+        u,
+        grid,
+        queue,
+        tail,
+    );
+    if incoming {
+        let lo = wide(starts[m]);
+        let hi = wide(starts[m + 1]);
+        return strike_targets(
+            script,
+            names,
+            shapes,
+            named,
+            alike,
+            lo,
+            hi,
+            u,
+            grid,
+            queue,
+            end,
+        );
     }
     end
 }
@@ -113,17 +215,19 @@ fn after_round(tally: Tally, struck: usize) -> Tally
 // end.
 fn strike_rounds(
     script: &[u16],
+    starts: &[u16],
     first: &[u16],
     next: &[u16],
     names: &[u8],
     shapes: usize,
+    incoming: bool,
     named: &[u16],
     alike: &[u16],
     grid: &mut [u8],
     queue: &mut [u16],
 ) -> Tally
-    requires { ⌜ RoundsAsked (now script) (now first) (now next) (now names) shapes (now named) (now alike)
-        (now grid) (now queue) ⌝ }
+    requires { ⌜ RoundsAsked (now script) (now starts) (now first) (now next) (now names) shapes incoming
+        (now named) (now alike) (now grid) (now queue) ⌝ }
     ensures { λ r. ⌜ StrikesLeft (now (script .entry)) (now (names .entry)) shapes
         (now (grid .entry)) (now (grid .exit)) (r .rounds) (r .struck) ⌝ }
 {
@@ -139,16 +243,17 @@ fn strike_rounds(
             tally = after_round(tally, tail);
         }
         let q = wide(queue[head]);
-        tail = strike_target(
+        tail = strike_needing(
             script,
+            starts,
             first,
             next,
             names,
             shapes,
+            incoming,
             named,
             alike,
-            q / shapes,
-            q % shapes,
+            q,
             grid,
             queue,
             tail,
@@ -161,28 +266,31 @@ fn strike_rounds(
 // Strikes rounds from a grid that has the pairs whose counts fit, until one strikes nothing.
 pub fn strike_all(
     script: &[u16],
+    starts: &[u16],
+    first: &[u16],
+    next: &[u16],
     names: &[u8],
-    links: usize,
     shapes: usize,
+    incoming: bool,
     grid: &mut [u8],
     queue: &mut [u16],
 ) -> Tally
-    requires { ⌜ StrikeAsked (now script) (now names) links shapes (now grid) (now queue) ⌝ }
+    requires { ⌜ StrikeAsked (now script) (now starts) (now first) (now next) (now names) shapes incoming
+        (now grid) (now queue) ⌝ }
     ensures { λ r. ⌜ StrikesLeft (now (script .entry)) (now (names .entry)) shapes
         (now (grid .entry)) (now (grid .exit)) (r .rounds) (r .struck) ⌝ }
 {
     let mut named = [0u16; TABLE_SIZE + 1];
     let mut alike = [0u16; TABLE_SIZE];
     index_names(names, shapes, &mut named, &mut alike);
-    let mut first = [0u16; MAX_CARDS];
-    let mut next = [0u16; MAX_LINKS];
-    chain(script, links, &mut first, &mut next);
     strike_rounds(
         script,
-        &first,
-        &next,
+        starts,
+        first,
+        next,
         names,
         shapes,
+        incoming,
         &named,
         &alike,
         grid,

@@ -11,6 +11,7 @@ use lib.ListN.{getD}
 use Rattle.words.specs.Reading.{Reading, then, mapped}
 use Rattle.bags.specs.Part.{Part}
 use Rattle.bags.specs.Choice.{Neighbour}
+use Rattle.bags.specs.Look.{lookedAt}
 use Rattle.template.specs.Template.{Template, readTemplate}
 use Rattle.script.specs.Link.{neighbours}
 use Rattle.script.specs.Script.{ScriptCounts, readScript}
@@ -26,9 +27,10 @@ pub record Sheet : Type 0 where
 abbrev pub partOf : Sheet → ℕ → Part
 partOf s t = getD (s .parts) t Part.nothing
 
--- Every link of the card, under its kind, whatever the shape.
+-- The neighbours of card n that shape t looks at: those of every outgoing link, and of the incoming ones whose kind it
+-- names.
 abbrev pub neighboursOf : Sheet → ℕ → ℕ → List Neighbour
-neighboursOf s n t = neighbours (s .script) n (s .links)
+neighboursOf s n t = lookedAt (partOf s t) (neighbours (s .script) n (s .links))
 
 -- Where a grid has the pair of card n and shape t.
 abbrev pub place : Sheet → ℕ → ℕ → ℕ

@@ -5,6 +5,7 @@
 -- reads-shapes        each of so many shapes was read at its place, and the last ends where the words end
 -- Accepted            an accepted template: its sizes, and for each shape the part and its place
 -- template-accepted   a template that is accepted is so
+-- entry-past          its shapes have no entry for an incoming kind that is none of its own
 -- Assumes nothing.
 use mathlib.Core.Path.{_≡_, refl, ap, _∙_, subst}
 use mathlib.Core.List.{List, _∷_}
@@ -13,7 +14,10 @@ use native.Mathlib.Omega.{arith}
 use borrow.Author.Tests.{ltb-false, leb-false}
 use lib.ListN.{length, getD}
 use lib.Dec.{ltb, leb}
-use Rattle.bags.specs.Part.{Part, Single, ShapesBelow, LabelsBelow, depth}
+use Rattle.bags.specs.Label.{outgoing, incoming, labelOf}
+use Rattle.bags.specs.Part.{Part, Names, Single, ShapesBelow, KindsBelow, depth}
+use Rattle.bags.specs.Named.{named}
+use Rattle.bags.proofs.Naming.{OfKindBelow, names-kind, named-declares, declares-names}
 use Rattle.words.specs.Limits.{maxKinds, maxShapes, maxTemplate, maxDepth}
 use Rattle.words.specs.Reading.{accepted}
 use Rattle.words.proofs.Readings.{accepted-same, passed, then-accepted}
@@ -21,7 +25,7 @@ use Rattle.template.specs.declared.Sizes.{Sizes}
 use Rattle.template.specs.Reading.{Found, found, readPart}
 use Rattle.template.specs.Template.{Placed, placed, wholePart, noNames, readShape, readShapes, Template}
 use Rattle.template.specs.Template.{sizesOf, readTemplate}
-use Rattle.template.specs.Machine.{shapePlace}
+use Rattle.template.specs.Machine.{entryAt, Tabled, shapePlace}
 use Rattle.template.proofs.Laws.{reads-within}
 use Rattle.template.proofs.Trees.{LimitsOk, PartRead, reads-part}
 use Rattle.template.proofs.ShapeLaws.{shapes-first, shapes-last, shapes-length, template-shapes-read}
@@ -57,7 +61,7 @@ module _ (sizes : Sizes) (words : List ℕ) (b : sizes .kinds ≤ maxKinds) wher
         after = after;
         whole = v;
         part = reads-part sizes words (at + 1 + getD words at 0) maxDepth (at + 1) noNames q
-            (at + 1 + getD words at 0) after b v;
+            (at + 1 + getD words at 0) after (omega arith) v;
       })
 
   -- A shape that was read.
@@ -144,7 +148,7 @@ pub record Accepted (words : List ℕ) (t : Template) : Type 0 where
       (shapePlace words (suc s) 2)
   pub single : (s : ℕ) → s < t .shapes → Single (getD (t .parts) s Part.nothing)
   pub shapes-below : (s : ℕ) → s < t .shapes → ShapesBelow (t .shapes) (getD (t .parts) s Part.nothing)
-  pub labels-below : (s : ℕ) → s < t .shapes → LabelsBelow (t .kinds) (getD (t .parts) s Part.nothing)
+  pub kinds-below : (s : ℕ) → s < t .shapes → KindsBelow (t .kinds) (getD (t .parts) s Part.nothing)
   pub depth-bound : (s : ℕ) → s < t .shapes → depth (getD (t .parts) s Part.nothing) ≤ maxDepth
   pub limits : (s : ℕ) → s < t .shapes → LimitsOk (getD (t .parts) s Part.nothing)
 
@@ -181,7 +185,7 @@ module _ (words : List ℕ) where
         shape = shape;
         single = λ s i. shape s i .part .single;
         shapes-below = λ s i. shape s i .part .shapes;
-        labels-below = λ s i. shape s i .part .labels;
+        kinds-below = λ s i. shape s i .part .kinds;
         depth-bound = λ s i. shape s i .part .deep;
         limits = λ s i. shape s i .part .limits;
       }
@@ -204,3 +208,28 @@ module _ (words : List ℕ) where
       (shapes-accepted (record { kinds = kinds; shapes = shapes; parts = all .value }) (ltb-false (length words) 2 low)
       (ltb-false maxTemplate (length words) high) (ltb-false kinds 1 kinds-low) (ltb-false maxKinds kinds kinds-high)
       (ltb-false shapes 1 shapes-low) (ltb-false maxShapes shapes shapes-high) refl refl (all .next) read)
+
+-- A label that a part does not name has no entry.
+unnamed-none : (p : Part) (k : ℕ) → (Names p k → ⊥) → named p k ≡ 0
+unnamed-none p k h = by-entry (named p k) refl
+  where
+    by-entry : (m : ℕ) → named p k ≡ m → named p k ≡ 0
+    by-entry zero e = e
+    by-entry (suc s) e = absurd (h (declares-names p k s (named-declares p k s e)))
+
+-- An incoming label past the kinds is of no kind below them.
+past-kinds : (kinds k : ℕ) → kinds ≤ maxKinds → kinds ≤ k → OfKindBelow kinds (labelOf incoming k) → ⊥
+past-kinds kinds k few past (outgoing, kind, l, q) = omega arith
+past-kinds kinds k few past (incoming, kind, l, q) = omega arith
+
+-- The table has no entry for an incoming kind that the template does not have.
+pub entry-past :
+    (words names : List ℕ) (t : Template) → readTemplate words ≡ accepted t → Tabled (t .parts) names → (s k : ℕ) →
+    s < t .shapes → t .kinds ≤ k → k < maxKinds → entryAt names s (labelOf incoming k) ≡ 0
+entry-past words names t e table s k below past high =
+    let a = template-accepted words t e in
+    let p = getD (t .parts) s Part.nothing in
+    table s (labelOf incoming k) (omega (arith, a .trees-length)) (omega arith)
+    ∙ unnamed-none p (labelOf incoming k)
+    (λ n. past-kinds (t .kinds) k (a .kinds-high) past
+    (names-kind (t .kinds) p (a .kinds-below s below) (labelOf incoming k) n))

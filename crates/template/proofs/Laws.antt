@@ -1,22 +1,29 @@
 -- Laws of specs/Reading: what a reading is under the tests that lead to each answer of the code.
--- code-…             what a code starts, by its range
+-- code-…             what a code starts, by its range; `code-link`: 256 and a label start the link of that label
+-- code-case          what a code starts, case by case
+-- label-kind         each label is that of a kind, one way or the other
 -- link-…             a link: one law for each refusal, and `link-good`
 -- part-…, group-…    a part by its code, and a group
 -- run-…              a run of parts
 -- reads-above, reads-within   the next place after a part is above it and not past the end
 -- Assumes nothing.
 use mathlib.Core.Path.{_≡_, refl, ap, sym, _∙_}
-use mathlib.Core.Bool.{true, false, not}
+use mathlib.Core.Bool.{true, false, not, cond}
+use mathlib.Core.Logic.{⊎-elim}
 use mathlib.Core.List.{List}
 use Prim.Native.Nat.{ℕ, zero, suc, _+_, _-_, _≤_, _<_}
 use native.Mathlib.Omega.{arith}
 use native.Mathlib.Numerals.{sub-one}
-use borrow.Author.Tests.{le-ltb, lt-ltb, le-leb, lt-leb, eq-eqb, ne-eqb, ltb-false, leb-false}
+use borrow.Author.Tests.{le-ltb, lt-ltb, le-leb, lt-leb, eq-eqb, ne-eqb, eqb-true, eqb-false, ltb-true, ltb-false}
+use borrow.Author.Tests.{leb-false}
 use lib.ListN.{getD, set}
 use lib.Dec.{ltb, leb, eqb}
+use Rattle.bags.specs.Label.{Way, outgoing, incoming, firstLabel, labelOf}
 use Rattle.bags.specs.Part.{Part, Parts}
-use Rattle.words.specs.Limits.{minGroup, maxGroup}
+use Rattle.bags.proofs.Naming.{OfKindBelow}
+use Rattle.words.specs.Limits.{maxKinds, maxLabels, minGroup, maxGroup}
 use Rattle.words.specs.Reading.{Reading, accepted, turnedDown, then, mapped}
+use Rattle.words.proofs.Bools.{cond-case, le-or-lt}
 use Rattle.words.proofs.Readings.{accepted-same, accepted-turned, refuse-case}
 use Rattle.template.specs.declared.Read.{Read}
 use Rattle.template.specs.declared.Read.the-variants.{Next, Refused}
@@ -57,23 +64,58 @@ code-middle n a b =
     let h : n < 256 = omega arith in
     simp (ne-eqb _ _ e, le-ltb _ _ f, le-ltb _ _ g, le-ltb _ _ a, lt-ltb _ _ h)
 
-pub code-link : (n : ℕ) → 256 ≤ n → n ≤ 319 → codeOf n ≡ link (n - 256)
-code-link n a b =
+-- From 256 on.
+code-top :
+    (n : ℕ) → 256 ≤ n →
+    codeOf n
+    ≡ cond (ltb n 320) (link (firstLabel outgoing) (n - 256))
+    (cond (ltb n 384) (link (firstLabel incoming) (n - 320)) unknown)
+code-top n a =
     let e : n ≡ 0 → ⊥ = omega arith in
     let f : 4 ≤ n = omega arith in
     let g : 16 ≤ n = omega arith in
     let h : 18 ≤ n = omega arith in
-    let i : n < 320 = omega arith in
-    simp (ne-eqb _ _ e, le-ltb _ _ f, le-ltb _ _ g, le-ltb _ _ h, le-ltb _ _ a, lt-ltb _ _ i)
+    simp (ne-eqb _ _ e, le-ltb _ _ f, le-ltb _ _ g, le-ltb _ _ h, le-ltb _ _ a)
 
-pub code-high : (n : ℕ) → 320 ≤ n → codeOf n ≡ unknown
+pub code-link :
+    (way : Way) (kind n : ℕ) → kind < maxKinds → n ≡ 256 + labelOf way kind → codeOf n ≡ link (firstLabel way) kind
+code-link outgoing kind n l e =
+    let f : n < 320 = omega arith in
+    let g : n - 256 ≡ kind = omega arith in
+    code-top n (omega arith) ∙ simp (lt-ltb _ _ f, g)
+code-link incoming kind n l e =
+    let f : 320 ≤ n = omega arith in
+    let g : n < 384 = omega arith in
+    let h : n - 320 ≡ kind = omega arith in
+    code-top n (omega arith) ∙ simp (le-ltb _ _ f, lt-ltb _ _ g, h)
+
+pub code-high : (n : ℕ) → 384 ≤ n → codeOf n ≡ unknown
 code-high n a =
-    let e : n ≡ 0 → ⊥ = omega arith in
-    let f : 4 ≤ n = omega arith in
-    let g : 16 ≤ n = omega arith in
-    let h : 18 ≤ n = omega arith in
-    let i : 256 ≤ n = omega arith in
-    simp (ne-eqb _ _ e, le-ltb _ _ f, le-ltb _ _ g, le-ltb _ _ h, le-ltb _ _ i, le-ltb _ _ a)
+    let f : 320 ≤ n = omega arith in
+    code-top n (omega arith) ∙ simp (le-ltb _ _ f, le-ltb _ _ a)
+
+-- What holds of all that a code can start holds of what it starts: a link's code is 256 and its label.
+pub code-case :
+    (P : Code → Type 0) (n : ℕ) → (n ≡ 0 → P nothing) → (1 ≤ n → n < 4 → P (single (wrapped n))) →
+    (16 ≤ n → n < 18 → P (group (gathered n))) →
+    ((way : Way) (kind : ℕ) → n ≡ 256 + labelOf way kind → P (link (firstLabel way) kind)) → P unknown → P (codeOf n)
+code-case P n none one many linked other =
+    cond-case P (eqb n 0) _ _ (λ e. none (eqb-true n 0 e))
+    (λ e. cond-case P (ltb n 4) _ _ (λ f. one (omega (arith, eqb-false n 0 e)) (ltb-true n 4 f))
+    (λ f. cond-case P (ltb n 16) _ _ (λ g. other)
+    (λ g. cond-case P (ltb n 18) _ _ (λ h. many (ltb-false n 16 g) (ltb-true n 18 h))
+    (λ h. cond-case P (ltb n 256) _ _ (λ i. other)
+    (λ i. cond-case P (ltb n 320) _ _ (λ j. linked outgoing (n - 256) (omega (arith, ltb-false n 256 i)))
+    (λ j. cond-case P (ltb n 384) _ _ (λ k. linked incoming (n - 320) (omega (arith, ltb-false n 320 j)))
+    (λ k. other)))))))
+
+-- Each label is that of a kind, one way or the other.
+pub label-kind : (label : ℕ) → label < maxLabels → OfKindBelow maxKinds label
+label-kind label l =
+    ⊎-elim
+    (λ h. (incoming, label - maxKinds, omega arith, omega arith))
+    (λ h. (outgoing, label, h, omega arith))
+    (le-or-lt maxKinds label)
 
 -- What is made of a part changes no answer.
 mapped-outcome : {A B : Type 0} (f : A → B) (x : Reading (Found A)) → outcome x ≡ outcome (mapped (into f) x)
@@ -85,44 +127,45 @@ unfolding shown
 next-same e = (ap (λ (s : Step). s .next) (accepted-same e), ap (λ (s : Step). s .row) (accepted-same e))
 
 -- A link, in the order of its refusals.
-module _ (words : List ℕ) (end : ℕ) (sizes : Sizes) (at : ℕ) (row : List ℕ) where
-  pub link-short :
-      (kind : ℕ) → end - at < 4 → shown (Refused 4 end) row ≡ outcome (readLink words end sizes at row kind)
+module _ (words : List ℕ) (end : ℕ) (sizes : Sizes) (at : ℕ) (row : List ℕ) (first kind : ℕ) where
+  pub link-short : end - at < 4 → shown (Refused 4 end) row ≡ outcome (readLink words end sizes at row first kind)
   unfolding readLink shown
-  link-short kind h = simp (lt-ltb _ _ h)
+  link-short h = simp (lt-ltb _ _ h)
 
   pub link-kind :
-      (kind : ℕ) → 4 ≤ end - at → sizes .kinds ≤ kind →
-      shown (Refused 7 at) row ≡ outcome (readLink words end sizes at row kind)
+      4 ≤ end - at → sizes .kinds ≤ kind →
+      shown (Refused 7 at) row ≡ outcome (readLink words end sizes at row first kind)
   unfolding readLink shown
-  link-kind kind h i = simp (le-ltb _ _ h, le-leb _ _ i)
+  link-kind h i = simp (le-ltb _ _ h, le-leb _ _ i)
 
   pub link-again :
-      (kind : ℕ) → 4 ≤ end - at → kind < sizes .kinds → (getD row kind 0 ≡ 0 → ⊥) →
-      shown (Refused 8 at) row ≡ outcome (readLink words end sizes at row kind)
+      4 ≤ end - at → kind < sizes .kinds → (getD row (first + kind) 0 ≡ 0 → ⊥) →
+      shown (Refused 8 at) row ≡ outcome (readLink words end sizes at row first kind)
   unfolding readLink shown
-  link-again kind h i j = simp (le-ltb _ _ h, lt-leb _ _ i, ne-eqb _ _ j)
+  link-again h i j = simp (le-ltb _ _ h, lt-leb _ _ i, ne-eqb _ _ j)
 
   pub link-shape :
-      (kind : ℕ) → 4 ≤ end - at → kind < sizes .kinds → getD row kind 0 ≡ 0 → sizes .shapes ≤ getD words (at + 1) 0 →
-      shown (Refused 9 (at + 1)) row ≡ outcome (readLink words end sizes at row kind)
+      4 ≤ end - at → kind < sizes .kinds → getD row (first + kind) 0 ≡ 0 →
+      sizes .shapes ≤ getD words (at + 1) 0 →
+      shown (Refused 9 (at + 1)) row ≡ outcome (readLink words end sizes at row first kind)
   unfolding readLink shown
-  link-shape kind h i e j = simp (le-ltb _ _ h, lt-leb _ _ i, eq-eqb _ _ e, le-leb _ _ j)
+  link-shape h i e j = simp (le-ltb _ _ h, lt-leb _ _ i, eq-eqb _ _ e, le-leb _ _ j)
 
   pub link-good :
-      (kind entry : ℕ) → 4 ≤ end - at → kind < sizes .kinds → getD row kind 0 ≡ 0 →
+      (entry : ℕ) → 4 ≤ end - at → kind < sizes .kinds → getD row (first + kind) 0 ≡ 0 →
       getD words (at + 1) 0 < sizes .shapes → entry ≡ getD words (at + 1) 0 + 1 →
       limitsOk (getD words (at + 2) 0) (getD words (at + 3) 0) ≡ true →
-      shown (Next (at + 4)) (set row kind entry) ≡ outcome (readLink words end sizes at row kind)
+      shown (Next (at + 4)) (set row (first + kind) entry) ≡ outcome (readLink words end sizes at row first kind)
   unfolding readLink shown
-  link-good kind entry h i e j q o = simp (q, le-ltb _ _ h, lt-leb _ _ i, eq-eqb _ _ e, lt-leb _ _ j, o)
+  link-good entry h i e j q o = simp (q, le-ltb _ _ h, lt-leb _ _ i, eq-eqb _ _ e, lt-leb _ _ j, o)
 
   pub link-limits :
-      (kind : ℕ) → 4 ≤ end - at → kind < sizes .kinds → getD row kind 0 ≡ 0 → getD words (at + 1) 0 < sizes .shapes →
+      4 ≤ end - at → kind < sizes .kinds → getD row (first + kind) 0 ≡ 0 →
+      getD words (at + 1) 0 < sizes .shapes →
       limitsOk (getD words (at + 2) 0) (getD words (at + 3) 0) ≡ false →
-      shown (Refused 10 (at + 2)) row ≡ outcome (readLink words end sizes at row kind)
+      shown (Refused 10 (at + 2)) row ≡ outcome (readLink words end sizes at row first kind)
   unfolding readLink shown
-  link-limits kind h i e j o = simp (le-ltb _ _ h, lt-leb _ _ i, eq-eqb _ _ e, lt-leb _ _ j, o)
+  link-limits h i e j o = simp (le-ltb _ _ h, lt-leb _ _ i, eq-eqb _ _ e, lt-leb _ _ j, o)
 
 -- A part whose code is missing, or that stands too deep.
 module _ (words : List ℕ) (end : ℕ) (sizes : Sizes) (at : ℕ) (row : List ℕ) where
@@ -179,15 +222,15 @@ module _
   part-middle a b = by-code unknown (code-middle _ a b)
 
   pub part-high :
-      320 ≤ getD words at 0 → shown (Refused 5 at) row ≡ outcome (readPart left words end sizes at row)
+      384 ≤ getD words at 0 → shown (Refused 5 at) row ≡ outcome (readPart left words end sizes at row)
   unfolding shown
   part-high a = by-code unknown (code-high _ a)
 
   pub part-link :
-      256 ≤ getD words at 0 → getD words at 0 ≤ 319 →
-      outcome (readLink words end sizes at row (getD words at 0 - 256))
+      (way : Way) (kind : ℕ) → kind < maxKinds → getD words at 0 ≡ 256 + labelOf way kind →
+      outcome (readLink words end sizes at row (firstLabel way) kind)
       ≡ outcome (readPart left words end sizes at row)
-  part-link a b = by-code (link (getD words at 0 - 256)) (code-link _ a b)
+  part-link way kind a e = by-code (link (firstLabel way) kind) (code-link way kind _ a e)
 
   module _ (a : 16 ≤ getD words at 0) (b : getD words at 0 ≤ 17) where
     by-group :
@@ -295,14 +338,14 @@ within-run inner end h (suc n) at row le =
     (λ a m left b. within-mapped m end (Parts.more a) (readRun inner n m left) (within-run inner end h n m left b))
 
 within-link :
-    (words : List ℕ) (end : ℕ) (sizes : Sizes) (at : ℕ) (row : List ℕ) (kind : ℕ) →
-    Within (at + 1) end (readLink words end sizes at row kind)
+    (words : List ℕ) (end : ℕ) (sizes : Sizes) (at : ℕ) (row : List ℕ) (first kind : ℕ) →
+    Within (at + 1) end (readLink words end sizes at row first kind)
 unfolding readLink
-within-link words end sizes at row kind =
+within-link words end sizes at row first kind =
     let W : Reading (Found Part) → Type 0 = Within (at + 1) end in
     refuse-case 4 end W (ltb (end - at) 4) _ (λ e. tt)
     (λ e. refuse-case 7 at W (leb (sizes .kinds) kind) _ (λ e₂. tt)
-    (λ e₂. refuse-case 8 at W (not (eqb (getD row kind 0) 0)) _ (λ e₃. tt)
+    (λ e₂. refuse-case 8 at W (not (eqb (getD row (first + kind) 0) 0)) _ (λ e₃. tt)
     (λ e₃. refuse-case 9 (at + 1) W (leb (sizes .shapes) (getD words (at + 1) 0)) _ (λ e₄. tt)
     (λ e₄. refuse-case 10 (at + 2) W (not (limitsOk (getD words (at + 2) 0) (getD words (at + 3) 0))) _ (λ e₅. tt)
     (λ e₅. omega (arith, ltb-false (end - at) 4 e))))))
@@ -323,7 +366,7 @@ within-code (group f) inner words end sizes at row h w =
     (λ e₂. refuse-case 11 (at + 1) W (ltb maxGroup (getD words (at + 1) 0)) _ (λ e₃. tt)
     (λ e₃. within-less (at + 2) (at + 1) end (readRun inner (getD words (at + 1) 0) (at + 2) row) (omega arith)
     (within-run inner end w (getD words (at + 1) 0) (at + 2) row (omega (arith, ltb-false (end - at) 2 e)))))))
-within-code (link kind) inner words end sizes at row h w = within-link words end sizes at row kind
+within-code (link first kind) inner words end sizes at row h w = within-link words end sizes at row first kind
 within-code unknown inner words end sizes at row h w = tt
 
 within-part :

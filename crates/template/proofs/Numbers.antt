@@ -51,12 +51,12 @@ run-numbers inner h (suc n) at row =
 
 module _ (words : List ℕ) (end : ℕ) (sizes : Sizes) where
   link-numbers :
-      (at : ℕ) (row : List ℕ) (kind : ℕ) → Numbered TemplateNumber (readLink words end sizes at row kind)
+      (at : ℕ) (row : List ℕ) (first kind : ℕ) → Numbered TemplateNumber (readLink words end sizes at row first kind)
   unfolding readLink
-  link-numbers at row kind =
+  link-numbers at row first kind =
       tested 4 end (ltb (end - at) 4) _ (omega arith) (omega arith)
       (tested 7 at (leb (sizes .kinds) kind) _ (omega arith) (omega arith)
-      (tested 8 at (not (eqb (getD row kind 0) 0)) _ (omega arith) (omega arith)
+      (tested 8 at (not (eqb (getD row (first + kind) 0) 0)) _ (omega arith) (omega arith)
       (tested 9 (at + 1) (leb (sizes .shapes) (getD words (at + 1) 0)) _ (omega arith) (omega arith)
       (tested 10 (at + 2) (not (limitsOk (getD words (at + 2) 0) (getD words (at + 3) 0))) _ (omega arith) (omega arith)
       tt))))
@@ -74,7 +74,7 @@ module _ (words : List ℕ) (end : ℕ) (sizes : Sizes) where
       (tested 11 (at + 1) (ltb (getD words (at + 1) 0) minGroup) _ (omega arith) (omega arith)
       (tested 11 (at + 1) (ltb maxGroup (getD words (at + 1) 0)) _ (omega arith) (omega arith)
       (run-numbers inner h (getD words (at + 1) 0) (at + 2) row))))
-  code-numbers (link kind) inner at row h = link-numbers at row kind
+  code-numbers (link first kind) inner at row h = link-numbers at row first kind
   code-numbers unknown inner at row h = (omega arith, omega arith)
 
   part-numbers : (left at : ℕ) (row : List ℕ) → Numbered TemplateNumber (readPart left words end sizes at row)

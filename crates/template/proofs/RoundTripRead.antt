@@ -9,13 +9,14 @@ use mathlib.Core.Path.{_≡_, refl, sym, ap, subst, _∙_}
 use mathlib.Core.Bool.{Bool, true, false, not}
 use mathlib.Core.List.{List, [], _∷_}
 use native.Mathlib.Omega.{arith}
-use borrow.Author.Tests.{leb-true, leb-false, ltb-true, ltb-false, eqb-true, eqb-false}
+use borrow.Author.Tests.{leb-true, leb-false, ltb-false, eqb-true, eqb-false}
 use lib.ListN.{length, getD, length-append}
 use lib.Dec.{ltb, leb, eqb}
 use Rattle.words.specs.Limits.{minGroup, maxGroup, maxCount, maxDepth, noLimit}
 use Rattle.words.specs.Reading.{Reading, accepted, turnedDown, then, mapped}
 use Rattle.words.proofs.Bools.{cond-case, never-both, is-true, not-of-false}
 use Rattle.words.proofs.Readings.{refuse-case}
+use Rattle.bags.specs.Label.{firstLabel}
 use Rattle.bags.specs.Part.{Part, Parts, limitUnless, limitOf}
 use Rattle.template.specs.declared.Sizes.{Sizes}
 use Rattle.template.specs.Reading.{Code, wrapped, gathered, codeOf, Found, found, into, after, limitsOk}
@@ -23,6 +24,7 @@ use Rattle.template.specs.Reading.{readLink, readRun, readGroup, readCod
 use Rattle.template.specs.Template.{Placed, onto, noNames, wholePart, readShape, readShapes}
 use Rattle.template.specs.Writer.{writeLimit, runLength, writePart, writeRun, writeShapes, LimitsIn}
 use Rattle.template.specs.Writer.{WithinLimits, RunWithinLimits}
+use Rattle.template.proofs.Laws.{code-case}
 use Rattle.template.proofs.WriterPlaces.{Stands, stands-nil, stands-cons, stands-four, stands-append}
 
 -- ---- readings
@@ -58,7 +60,7 @@ limit-word high = by-test (eqb high noLimit) refl
     by-test true e = sym (eqb-true high noLimit e)
     by-test false e = refl
 
-wrapped-words : (n : ℕ) (p : Part) → (n ≡ 0 → ⊥) → n < 4 → writePart (wrapped n p) ≡ n ∷ writePart p
+wrapped-words : (n : ℕ) (p : Part) → 1 ≤ n → n < 4 → writePart (wrapped n p) ≡ n ∷ writePart p
 wrapped-words n p d l =
     cond-case (λ q. writePart q ≡ n ∷ writePart p) (eqb n 1) _ _
     (λ e. ap (λ (k : ℕ). k ∷ writePart p) (sym (eqb-true n 1 e)))
@@ -127,7 +129,7 @@ module _ (words : List ℕ) (end : ℕ) where
       (after (λ p next left. mapped (into (Parts.more p)) (readRun inner n next left))) (h at row)
       (λ f w. rest-back inner n at f w (λ next left b. run-back inner h n next left b))
 
-  wrapped-back : (n at : ℕ) → getD words at 0 ≡ n → (n ≡ 0 → ⊥) → n < 4 → (f : Found Part)
+  wrapped-back : (n at : ℕ) → getD words at 0 ≡ n → 1 ≤ n → n < 4 → (f : Found Part)
       → PartBack (at + 1) f → PartBack at (into (wrapped n) f)
   wrapped-back n at here d l (found p next row) w =
       let (s, e, b, limits) = w in
@@ -154,22 +156,20 @@ module _ (words : List ℕ) (end : ℕ) where
         gathered-limits n ps (omega arith, omega arith, limits),
       )
 
-  link-back : (sizes : Sizes) (n at : ℕ) (row : List ℕ) → getD words at 0 ≡ n → 256 ≤ n
-      → Holds (PartBack at) (readLink words end sizes at row (n - 256))
+  link-back : (sizes : Sizes) (at : ℕ) (row : List ℕ) (first kind : ℕ) → getD words at 0 ≡ 256 + (first + kind)
+      → Holds (PartBack at) (readLink words end sizes at row first kind)
   unfolding readLink
-  link-back sizes n at row here l =
+  link-back sizes at row first kind here =
       let P : Reading (Found Part) → Type 0 = Holds (PartBack at) in
       refuse-case 4 end P (ltb (end - at) 4) _ (λ e. tt)
-      (λ e. refuse-case 7 at P (leb (sizes .kinds) (n - 256)) _ (λ f. tt)
-      (λ f. refuse-case 8 at P (not (eqb (getD row (n - 256) 0) 0)) _ (λ g. tt)
+      (λ e. refuse-case 7 at P (leb (sizes .kinds) kind) _ (λ f. tt)
+      (λ f. refuse-case 8 at P (not (eqb (getD row (first + kind) 0) 0)) _ (λ g. tt)
       (λ g. refuse-case 9 (at + 1) P (leb (sizes .shapes) (getD words (at + 1) 0)) _ (λ i. tt)
       (λ i. refuse-case 10 (at + 2) P (not (limitsOk (getD words (at + 2) 0) (getD words (at + 3) 0))) _ (λ j. tt)
       (λ j.
-      let room : 4 ≤ end - at = ltb-false _ _ e in
-      let code : n ≡ 256 + (n - 256) = omega arith in (
-        stands-four words at (256 + (n - 256)) (getD words (at + 1) 0) (getD words (at + 2) 0)
-            (writeLimit (limitOf (getD words (at + 3) 0))) (here ∙ code) refl refl
-            (sym (limit-word (getD words (at + 3) 0))),
+      let room : 4 ≤ end - at = ltb-false _ _ e in (
+        stands-four words at (256 + (first + kind)) (getD words (at + 1) 0) (getD words (at + 2) 0)
+            (writeLimit (limitOf (getD words (at + 3) 0))) here refl refl (sym (limit-word (getD words (at + 3) 0))),
         refl,
         omega arith,
         limits-in (getD words (at + 2) 0) (getD words (at + 3) 0) (is-true (λ o. never-both (not-of-false o) j)),
@@ -198,16 +198,13 @@ module _ (words : List ℕ) (end : ℕ) where
       → Holds (PartBack at) (readCode (codeOf n) inner words end sizes at row)
   code-back inner sizes h n at row here l =
       let P : Code → Type 0 = λ code. Holds (PartBack at) (readCode code inner words end sizes at row) in
-      cond-case P (eqb n 0) _ _
-      (λ e. (stands-cons words at 0 [] (here ∙ eqb-true n 0 e) (stands-nil words (at + 1)), refl, omega arith, tt))
-      (λ e. cond-case P (ltb n 4) _ _
-      (λ f. mapped-holds (PartBack (at + 1)) (PartBack at) (into (wrapped n)) (inner (at + 1) row) (h (at + 1) row)
-      (wrapped-back n at here (eqb-false n 0 e) (ltb-true n 4 f)))
-      (λ f. cond-case P (ltb n 16) _ _ (λ g. tt)
-      (λ g. cond-case P (ltb n 18) _ _
-      (λ i. group-back inner h n at row here (ltb-false n 16 g) (ltb-true n 18 i))
-      (λ i. cond-case P (ltb n 256) _ _ (λ j. tt)
-      (λ j. cond-case P (ltb n 320) _ _ (λ k. link-back sizes n at row here (ltb-false n 256 j)) (λ k. tt))))))
+      code-case P n
+      (λ e. (stands-cons words at 0 [] (here ∙ e) (stands-nil words (at + 1)), refl, omega arith, tt))
+      (λ a b. mapped-holds (PartBack (at + 1)) (PartBack at) (into (wrapped n)) (inner (at + 1) row) (h (at + 1) row)
+      (wrapped-back n at here a b))
+      (λ a b. group-back inner h n at row here a b)
+      (λ way kind e. link-back sizes at row (firstLabel way) kind (here ∙ e))
+      tt
 
   pub part-back : (sizes : Sizes) (left at : ℕ) (row : List ℕ)
       → Holds (PartBack at) (readPart left words end sizes at row)

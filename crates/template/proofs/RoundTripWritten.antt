@@ -4,7 +4,7 @@
 --   shapes-written   the words of shapes up to a template's end are read as their parts
 -- Assumes nothing.
 use Prim.Native.Nat.{ℕ, zero, suc, _+_, _-_, _≤_, _<_}
-use mathlib.Core.Path.{_≡_, refl, ap, _∙_}
+use mathlib.Core.Path.{_≡_, refl, sym, ap, _∙_}
 use mathlib.Core.Logic.{inl, inr}
 use mathlib.Core.Bool.{true}
 use mathlib.Core.List.{List, [], _∷_, _++_}
@@ -14,9 +14,9 @@ use lib.ListN.{length, getD, set, length-append}
 use Rattle.words.specs.Limits.{maxKinds, maxLabels, maxDepth, minGroup, maxGroup, noLimit}
 use Rattle.words.specs.Reading.{Reading, accepted}
 use Rattle.bags.specs.Part.{Limit, at-most, no-limit, Part, Parts, Names, RunNames, Single, RunSingle, depth}
-use Rattle.bags.specs.Part.{runDepth, ShapesBelow, RunShapesBelow, LabelsBelow, RunLabelsBelow, limitOf}
+use Rattle.bags.specs.Part.{runDepth, ShapesBelow, RunShapesBelow, KindsBelow, RunKindsBelow, limitOf}
 use Rattle.template.specs.declared.Sizes.{Sizes}
-use Rattle.template.specs.Reading.{single, group, link, codeOf, Found, found, limitsOk, readLink, readRun}
+use Rattle.template.specs.Reading.{single, group, codeOf, Found, found, limitsOk, readLink, readRun}
 use Rattle.template.specs.Reading.{readGroup, readCode, readPart}
 use Rattle.template.specs.Template.{placed, noNames, readShape, readShapes, sizesOf}
 use Rattle.template.specs.Writer.{writeLimit, runLength, writePart, writeRun, writeShapes, LimitsIn}
@@ -41,15 +41,10 @@ limit-read low (at-most high) h =
     simp (ne-eqb _ _ d)
 limit-read low no-limit h = refl
 
-code-of-link : (kind : ℕ) → kind < maxKinds → codeOf (256 + kind) ≡ link kind
-code-of-link kind l =
-    let e : 256 + kind - 256 ≡ kind = omega arith in
-    code-link (256 + kind) (omega arith) (omega arith) ∙ ap link e
-
 -- What a part must be to be read with so many levels left, where the row has an entry for each label named before.
 pub record PartReady (sizes : Sizes) (left : ℕ) (row : List ℕ) (p : Part) : Type 0 where
   pub once : Single p
-  pub labels : LabelsBelow (sizes .kinds) p
+  pub labels : KindsBelow (sizes .kinds) p
   pub targets : ShapesBelow (sizes .shapes) p
   pub deep : depth p ≤ left
   pub limits : WithinLimits p
@@ -58,7 +53,7 @@ pub record PartReady (sizes : Sizes) (left : ℕ) (row : List ℕ) (p : Part) : 
 -- The same of a run of parts.
 record RunReady (sizes : Sizes) (left : ℕ) (row : List ℕ) (ps : Parts) : Type 0 where
   pub once : RunSingle ps
-  pub labels : RunLabelsBelow (sizes .kinds) ps
+  pub labels : RunKindsBelow (sizes .kinds) ps
   pub targets : RunShapesBelow (sizes .shapes) ps
   pub deep : runDepth ps ≤ left
   pub limits : RunWithinLimits ps
@@ -66,12 +61,12 @@ record RunReady (sizes : Sizes) (left : ℕ) (row : List ℕ) (ps : Parts) : Typ
 
 module _ {sizes : Sizes} (left : ℕ) (row : List ℕ) where
   -- a part one level further in
-  ready : (p : Part) → Single p → LabelsBelow (sizes .kinds) p → ShapesBelow (sizes .shapes) p → depth p ≤ left
+  ready : (p : Part) → Single p → KindsBelow (sizes .kinds) p → ShapesBelow (sizes .shapes) p → depth p ≤ left
       → WithinLimits p → ((k : ℕ) → Names p k → getD row k 0 ≡ 0) → PartReady sizes left row p
   ready p a b c d e f =
       record { once = a; labels = b; targets = c; deep = d; limits = e; fresh = f }
 
-  run-ready : (ps : Parts) → RunSingle ps → RunLabelsBelow (sizes .kinds) ps → RunShapesBelow (sizes .shapes) ps
+  run-ready : (ps : Parts) → RunSingle ps → RunKindsBelow (sizes .kinds) ps → RunShapesBelow (sizes .shapes) ps
       → runDepth ps ≤ left → RunWithinLimits ps → ((k : ℕ) → RunNames ps k → getD row k 0 ≡ 0)
       → RunReady sizes left row ps
   run-ready ps a b c d e f =
@@ -86,18 +81,19 @@ module _ (words : List ℕ) (end : ℕ) (sizes : Sizes) (few : sizes .kinds ≤ 
   part-at zero at code row d l e = absurd (omega arith)
   part-at (suc left) at code row d l e = let n : suc left - 1 ≡ left = omega arith in simp (lt-leb _ _ l, e, n)
 
-  link-at : (at : ℕ) (row : List ℕ) (kind shape low : ℕ) (high : Limit)
-      → kind < sizes .kinds → getD row kind 0 ≡ 0 → shape < sizes .shapes → LimitsIn low high
-      → Stands words at (writePart (Part.link kind shape low high)) → at + 4 ≤ end
-      → readLink words end sizes at row kind
-      ≡ accepted (found (Part.link kind shape low high) (at + 4) (set row kind (shape + 1)))
+  link-at : (at : ℕ) (row : List ℕ) (first kind label shape low : ℕ) (high : Limit) → label ≡ first + kind
+      → kind < sizes .kinds → getD row label 0 ≡ 0 → shape < sizes .shapes → LimitsIn low high
+      → Stands words at (writePart (Part.link label shape low high)) → at + 4 ≤ end
+      → readLink words end sizes at row first kind
+      ≡ accepted (found (Part.link label shape low high) (at + 4) (set row label (shape + 1)))
   unfolding readLink
-  link-at at row kind shape low high k u t limits s e =
+  link-at at row first kind label shape low high q k u t limits s e =
       let a : 4 ≤ end - at = omega arith in
       let f : getD words (at + 1) 0 ≡ shape = s 1 (omega arith) in
       let g : getD words (at + 2) 0 ≡ low = s 2 (omega arith) in
       let h : getD words (at + 3) 0 ≡ writeLimit high = s 3 (omega arith) in
       simp (
+        sym q,
         le-ltb _ _ a,
         lt-leb _ _ k,
         eq-eqb _ _ u,
@@ -189,12 +185,13 @@ module _ (words : List ℕ) (end : ℕ) (sizes : Sizes) (few : sizes .kinds ≤ 
         (run-written ps (left - 1) (at + 2) row
         (run-ready (left - 1) row ps (r .once) (r .labels) (r .targets) (omega (arith, r .deep)) limits (r .fresh))
         (inside-group at 17 (runLength ps) (writeRun ps) s) (omega arith))
-    part-written (Part.link kind shape low high) left at row r s e =
-        part-at left at (256 + kind) row (r .deep) (omega arith)
-        (stands-here words at (256 + kind) (shape ∷ low ∷ writeLimit high ∷ []) s)
+    part-written (Part.link label shape low high) left at row r s e =
+        let (way, kind, l, q) = r .labels in
+        part-at left at (256 + label) row (r .deep) (omega arith)
+        (stands-here words at (256 + label) (shape ∷ low ∷ writeLimit high ∷ []) s)
         ∙ simp (
-          code-of-link kind (omega (arith, r .labels)),
-          link-at at row kind shape low high (r .labels) (r .fresh kind refl) (r .targets) (r .limits) s e,
+          code-link way kind (256 + label) (omega arith) (ap (_+_ 256) q),
+          link-at at row _ kind label shape low high q l (r .fresh label refl) (r .targets) (r .limits) s e,
         )
 
     run-written : (ps : Parts) (left at : ℕ) (row : List ℕ) → RunReady sizes left row ps

@@ -7,18 +7,20 @@
 use mathlib.Core.Path.{_≡_, refl, ap, sym, _∙_}
 use mathlib.Core.Bool.{Bool, true, false, not}
 use mathlib.Core.List.{List}
-use mathlib.Core.Logic.{inl, inr, ⊎-elim}
+use mathlib.Core.Logic.{⊎-elim}
 use Prim.Native.Nat.{ℕ, zero, suc, _+_, _-_, _≤_, _<_, max}
 use native.Mathlib.Omega.{arith}
 use native.Mathlib.Nat.{max-le}
 use native.Mathlib.Numerals.{add-one}
-use borrow.Author.Tests.{leb-true, leb-false, ltb-false, eqb-true, eqb-false, eq-eqb}
+use borrow.Author.Tests.{leb-true, leb-false, ltb-false, eqb-true, eqb-false}
 use lib.ListN.{length, getD, set, length-set, replicate}
 use lib.Seq.{getD-set-same, getD-set-other}
 use lib.Dec.{ltb, leb, eqb}
-use Rattle.bags.specs.Part.{Limit, at-most, no-limit, Part, Parts, Names, RunNames, Single, ShapesBelow, LabelsBelow}
+use Rattle.bags.specs.Label.{Way, outgoing, incoming, firstLabel, labelOf}
+use Rattle.bags.specs.Part.{Limit, at-most, no-limit, Part, Parts, Names, Single, ShapesBelow, KindsBelow}
 use Rattle.bags.specs.Part.{depth, runDepth, limitOf}
 use Rattle.bags.specs.Named.{entry, firstEntry, named, runNamed}
+use Rattle.bags.proofs.Naming.{named-none}
 use Rattle.template.specs.declared.Sizes.{Sizes}
 use Rattle.template.specs.Reading.{Code, single, wrapped, gathered, codeOf, Found, found, into, after, limitsOk}
 use Rattle.template.specs.Reading.{readLink, readRun, readGroup, readCode, readPart}
@@ -27,6 +29,7 @@ use Rattle.words.specs.Limits.{maxKinds, maxLabels, maxCount, noLimit, minGroup
 use Rattle.words.specs.Reading.{Reading, accepted, turnedDown, then, mapped}
 use Rattle.words.proofs.Bools.{cond-case, bool-case, never-both}
 use Rattle.words.proofs.Readings.{refuse-case}
+use Rattle.template.proofs.Laws.{code-case}
 
 -- A link's low and high are within their limits (docs/FORMAT.md, "Templates").
 abbrev pub InLimits : ℕ → Limit → Type 0
@@ -49,7 +52,7 @@ abbrev mutual
   RunLimitsOk (Parts.more p ps) = LimitsOk p × RunLimitsOk ps
 
 -- The entries of a table.
-pub first-none : (n : ℕ) → firstEntry n 0 ≡ n
+first-none : (n : ℕ) → firstEntry n 0 ≡ n
 first-none zero = refl
 first-none (suc n) = refl
 
@@ -66,31 +69,13 @@ no-entry zero k = refl
 no-entry (suc n) zero = refl
 no-entry (suc n) (suc k) = no-entry n k
 
--- A label that stands in a part has an entry.
-mutual
-  pub names-entry : (p : Part) (k : ℕ) → Names p k → named p k ≡ 0 → ⊥
-  names-entry Part.nothing k n e = n
-  names-entry (Part.star p) k n e = names-entry p k n e
-  names-entry (Part.plus p) k n e = names-entry p k n e
-  names-entry (Part.optional p) k n e = names-entry p k n e
-  names-entry (Part.choice ps) k n e = run-names-entry ps k n e
-  names-entry (Part.all ps) k n e = run-names-entry ps k n e
-  names-entry (Part.link label shape low high) k n e =
-      let q : entry true shape ≡ 0 = rw (eq-eqb _ _ n) at e in
-      omega arith
-
-  run-names-entry : (ps : Parts) (k : ℕ) → RunNames ps k → runNamed ps k ≡ 0 → ⊥
-  run-names-entry Parts.none k n e = n
-  run-names-entry (Parts.more p ps) k (inl n) e = names-entry p k n (first-zero (named p k) (runNamed ps k) e .0)
-  run-names-entry (Parts.more p ps) k (inr n) e = run-names-entry ps k n (first-zero (named p k) (runNamed ps k) e .1)
-
 -- What is known of a part that was read with so many levels left, and of the row after it.
 pub record PartRead (sizes : Sizes) (left : ℕ) (row : List ℕ) (p : Part) (after : List ℕ) : Type 0 where
   -- no label stands twice
   pub single : Single p
-  -- its shapes, labels, depth and limits are allowed
+  -- its shapes, kinds, depth and limits are allowed
   pub shapes : ShapesBelow (sizes .shapes) p
-  pub labels : LabelsBelow (sizes .kinds) p
+  pub kinds : KindsBelow (sizes .kinds) p
   pub deep : depth p ≤ left
   pub limits : LimitsOk p
   -- the labels that it names were not named before
@@ -131,14 +116,23 @@ limits-in low high =
     (λ e₂. cond-case P (ltb high low) _ _ (λ e₃ o. never-both o refl)
     (λ e₃ o. rw e₂ (ltb-false _ _ e, ltb-false _ _ e₃, leb-true _ _ o))))
 
--- The row after a link whose kind had no entry.
+-- The row after a link whose label had no entry.
 link-entry :
-    (row : List ℕ) (kind shape k : ℕ) → kind < length row → getD row kind 0 ≡ 0 →
-    getD (set row kind (shape + 1)) k 0 ≡ firstEntry (getD row k 0) (entry (eqb k kind) shape)
-link-entry row kind shape k b e =
-    bool-case (eqb k kind)
-    (λ q. rw (q, eqb-true k kind q, e) (getD-set-same row kind (shape + 1) 0 b ∙ add-one shape))
-    (λ q. rw (q, first-none) (getD-set-other row kind k (shape + 1) 0 (eqb-false k kind q)))
+    (row : List ℕ) (label shape k : ℕ) → label < length row → getD row label 0 ≡ 0 →
+    getD (set row label (shape + 1)) k 0 ≡ firstEntry (getD row k 0) (entry (eqb k label) shape)
+link-entry row label shape k b e =
+    bool-case (eqb k label)
+    (λ q. rw (q, eqb-true k label q, e) (getD-set-same row label (shape + 1) 0 b ∙ add-one shape))
+    (λ q. rw (q, first-none) (getD-set-other row label k (shape + 1) 0 (eqb-false k label q)))
+
+-- The labels of a way start at the count of kinds at the latest.
+first-high : (way : Way) → firstLabel way ≤ maxKinds
+first-high outgoing = omega arith
+first-high incoming = omega arith
+
+-- The row has an entry for each label of so many kinds.
+abbrev Room : ℕ → List ℕ → Type 0
+Room kinds row = maxKinds + kinds ≤ length row
 
 module _ (sizes : Sizes) where
   -- A part inside star, plus or optional.
@@ -152,7 +146,7 @@ module _ (sizes : Sizes) where
       (λ e. record {
         single = w .single;
         shapes = w .shapes;
-        labels = w .labels;
+        kinds = w .kinds;
         deep = deep;
         limits = w .limits;
         fresh = w .fresh;
@@ -163,7 +157,7 @@ module _ (sizes : Sizes) where
       (λ e₂. record {
         single = w .single;
         shapes = w .shapes;
-        labels = w .labels;
+        kinds = w .kinds;
         deep = deep;
         limits = w .limits;
         fresh = w .fresh;
@@ -173,7 +167,7 @@ module _ (sizes : Sizes) where
       (λ e₂. record {
         single = w .single;
         shapes = w .shapes;
-        labels = w .labels;
+        kinds = w .kinds;
         deep = deep;
         limits = w .limits;
         fresh = w .fresh;
@@ -190,7 +184,7 @@ module _ (sizes : Sizes) where
       (λ e. record {
         single = w .single;
         shapes = w .shapes;
-        labels = w .labels;
+        kinds = w .kinds;
         deep = w .deep;
         limits = w .limits;
         fresh = w .fresh;
@@ -203,7 +197,7 @@ module _ (sizes : Sizes) where
       record {
         single = tt;
         shapes = tt;
-        labels = tt;
+        kinds = tt;
         deep = omega arith;
         limits = tt;
         fresh = λ k n. absurd n;
@@ -216,7 +210,7 @@ module _ (sizes : Sizes) where
       record {
         single = tt;
         shapes = tt;
-        labels = tt;
+        kinds = tt;
         deep = omega arith;
         limits = tt;
         fresh = λ k n. absurd n;
@@ -236,10 +230,10 @@ module _ (sizes : Sizes) where
         single = (
           a .single,
           b .single,
-          λ k n o. names-entry p k n (first-zero (getD row k 0) (named p k) (sym (a .entries k) ∙ b .fresh k o) .1),
+          λ k n o. named-none p k (first-zero (getD row k 0) (named p k) (sym (a .entries k) ∙ b .fresh k o) .1) n,
         );
         shapes = (a .shapes, b .shapes);
-        labels = (a .labels, b .labels);
+        kinds = (a .kinds, b .kinds);
         deep = omega arith;
         limits = (a .limits, b .limits);
         fresh =
@@ -252,28 +246,29 @@ module _ (sizes : Sizes) where
         size = b .size ∙ a .size;
       }
 
-  -- A link whose kind had no entry.
+  -- A link whose label had no entry.
   link-read :
-      (left : ℕ) (row : List ℕ) (kind shape low high : ℕ) → kind < sizes .kinds → sizes .kinds ≤ length row →
-      getD row kind 0 ≡ 0 → shape < sizes .shapes → limitsOk low high ≡ true →
-      PartRead sizes (suc left) row (Part.link kind shape low (limitOf high)) (set row kind (shape + 1))
-  link-read left row kind shape low high a b e c o =
+      (left : ℕ) (row : List ℕ) (way : Way) (kind shape low high : ℕ) → kind < sizes .kinds → Room (sizes .kinds) row →
+      getD row (labelOf way kind) 0 ≡ 0 → shape < sizes .shapes → limitsOk low high ≡ true →
+      PartRead sizes (suc left) row (Part.link (labelOf way kind) shape low (limitOf high))
+      (set row (labelOf way kind) (shape + 1))
+  link-read left row way kind shape low high a b e c o =
       record {
         single = tt;
         shapes = c;
-        labels = a;
+        kinds = (way, kind, a, refl);
         deep = omega arith;
         limits = limits-in low high o;
         fresh = λ k n. rw n e;
-        entries = λ k. link-entry row kind shape k (omega arith) e;
-        size = length-set row kind (shape + 1);
+        entries = λ k. link-entry row (labelOf way kind) shape k (omega (arith, first-high way)) e;
+        size = length-set row (labelOf way kind) (shape + 1);
       }
 
   -- A run of parts, each of which is read so.
   run-reads :
       (inner : ℕ → List ℕ → Reading (Found Part)) (left : ℕ) →
-      ((at : ℕ) (row : List ℕ) → sizes .kinds ≤ length row → Finds (PartRead sizes left row) (inner at row)) →
-      (n at : ℕ) (row : List ℕ) → sizes .kinds ≤ length row →
+      ((at : ℕ) (row : List ℕ) → Room (sizes .kinds) row → Finds (PartRead sizes left row) (inner at row)) →
+      (n at : ℕ) (row : List ℕ) → Room (sizes .kinds) row →
       Finds (λ ps after. PartRead sizes (suc left) row (Part.choice ps) after) (readRun inner n at row)
   unfolding readRun
   run-reads inner left h zero at row b = none-read left row
@@ -288,22 +283,22 @@ module _ (sizes : Sizes) where
 
   module _ (words : List ℕ) (end : ℕ) where
     link-reads :
-        (left at : ℕ) (row : List ℕ) (kind : ℕ) → sizes .kinds ≤ length row →
-        Finds (PartRead sizes (suc left) row) (readLink words end sizes at row kind)
+        (left at : ℕ) (row : List ℕ) (way : Way) (kind : ℕ) → Room (sizes .kinds) row →
+        Finds (PartRead sizes (suc left) row) (readLink words end sizes at row (firstLabel way) kind)
     unfolding readLink
-    link-reads left at row kind b =
+    link-reads left at row way kind b =
         let P : Reading (Found Part) → Type 0 = Finds (PartRead sizes (suc left) row) in
         refuse-case 4 end P (ltb (end - at) 4) _ (λ e. tt)
         (λ e. refuse-case 7 at P (leb (sizes .kinds) kind) _ (λ e₂. tt)
-        (λ e₂. refuse-case 8 at P (not (eqb (getD row kind 0) 0)) _ (λ e₃. tt)
+        (λ e₂. refuse-case 8 at P (not (eqb (getD row (labelOf way kind) 0) 0)) _ (λ e₃. tt)
         (λ e₃. refuse-case 9 (at + 1) P (leb (sizes .shapes) (getD words (at + 1) 0)) _ (λ e₄. tt)
         (λ e₄. refuse-case 10 (at + 2) P (not (limitsOk (getD words (at + 2) 0) (getD words (at + 3) 0))) _ (λ e₅. tt)
-        (λ e₅. link-read left row kind (getD words (at + 1) 0) (getD words (at + 2) 0) (getD words (at + 3) 0)
+        (λ e₅. link-read left row way kind (getD words (at + 1) 0) (getD words (at + 2) 0) (getD words (at + 3) 0)
         (leb-false _ _ e₂) b (eqb-true _ _ (true-of-not e₃)) (leb-false _ _ e₄) (true-of-not e₅))))))
 
     group-reads :
-        (left at : ℕ) (row : List ℕ) → sizes .kinds ≤ length row →
-        ((m : ℕ) (l : List ℕ) → sizes .kinds ≤ length l →
+        (left at : ℕ) (row : List ℕ) → Room (sizes .kinds) row →
+        ((m : ℕ) (l : List ℕ) → Room (sizes .kinds) l →
         Finds (PartRead sizes left l) (readPart left words end sizes m l)) →
         Finds (λ ps after. PartRead sizes (suc left) row (Part.choice ps) after)
         (readGroup (readPart left words end sizes) words end at row)
@@ -316,8 +311,8 @@ module _ (sizes : Sizes) where
         (λ e₃. run-reads (readPart left words end sizes) left h (getD words (at + 1) 0) (at + 2) row b)))
 
     code-reads :
-        (n left at : ℕ) (row : List ℕ) → sizes .kinds ≤ length row →
-        ((m : ℕ) (l : List ℕ) → sizes .kinds ≤ length l →
+        (n left at : ℕ) (row : List ℕ) → Room (sizes .kinds) row →
+        ((m : ℕ) (l : List ℕ) → Room (sizes .kinds) l →
         Finds (PartRead sizes left l) (readPart left words end sizes m l)) →
         Finds (PartRead sizes (suc left) row)
         (readCode (codeOf n) (readPart left words end sizes) words end sizes at row)
@@ -325,22 +320,19 @@ module _ (sizes : Sizes) where
         let P : Code → Type 0 =
         λ code. Finds (PartRead sizes (suc left) row)
         (readCode code (readPart left words end sizes) words end sizes at row) in
-        cond-case P (eqb n 0) _ _ (λ e. nothing-read left row)
-        (λ e. cond-case P (ltb n 4) _ _
-        (λ e₂. finds-mapped (PartRead sizes left row) (PartRead sizes (suc left) row) (wrapped n)
+        code-case P n (λ e. nothing-read left row)
+        (λ a c. finds-mapped (PartRead sizes left row) (PartRead sizes (suc left) row) (wrapped n)
         (λ p after w. wrapped-read n left row p after w) (readPart left words end sizes (at + 1) row)
         (h (at + 1) row b))
-        (λ e₂. cond-case P (ltb n 16) _ _ (λ e₃. tt)
-        (λ e₃. cond-case P (ltb n 18) _ _
-        (λ e₄. finds-mapped (λ ps after. PartRead sizes (suc left) row (Part.choice ps) after)
+        (λ a c. finds-mapped (λ ps after. PartRead sizes (suc left) row (Part.choice ps) after)
         (PartRead sizes (suc left) row) (gathered n)
         (λ ps after w. gathered-read n (suc left) row ps after w)
         (readGroup (readPart left words end sizes) words end at row) (group-reads left at row b h))
-        (λ e₄. cond-case P (ltb n 256) _ _ (λ e₅. tt)
-        (λ e₅. cond-case P (ltb n 320) _ _ (λ e₆. link-reads left at row (n - 256) b) (λ e₆. tt))))))
+        (λ way kind e. link-reads left at row way kind b)
+        tt
 
     part-reads :
-        (left at : ℕ) (row : List ℕ) → sizes .kinds ≤ length row →
+        (left at : ℕ) (row : List ℕ) → Room (sizes .kinds) row →
         Finds (PartRead sizes left row) (readPart left words end sizes at row)
     unfolding readPart
     part-reads zero at row b = refuse-case 4 end (Finds (PartRead sizes zero row)) (leb end at) _ (λ e. tt) (λ e. tt)
@@ -350,7 +342,7 @@ module _ (sizes : Sizes) where
 
     -- A part that was read is allowed, and the row has its names.
     pub reads-part :
-        (left at : ℕ) (row : List ℕ) (p : Part) (next : ℕ) (after : List ℕ) → sizes .kinds ≤ length row →
+        (left at : ℕ) (row : List ℕ) (p : Part) (next : ℕ) (after : List ℕ) → Room (sizes .kinds) row →
         readPart left words end sizes at row ≡ accepted (found p next after) → PartRead sizes left row p after
     reads-part left at row p next after b e = rw e at (part-reads left at row b)
 
@@ -359,5 +351,5 @@ module _ (sizes : Sizes) where
         (left at : ℕ) (p : Part) (next : ℕ) (after : List ℕ) → sizes .kinds ≤ maxKinds →
         readPart left words end sizes at noNames ≡ accepted (found p next after) → (k : ℕ) → getD after k 0 ≡ named p k
     reads-names left at p next after b e k =
-        let w = reads-part left at noNames p next after b e in
+        let w = reads-part left at noNames p next after (omega arith) e in
         w .entries k ∙ ap (λ (n : ℕ). firstEntry n (named p k)) (no-entry maxLabels k)

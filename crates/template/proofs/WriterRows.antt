@@ -18,7 +18,7 @@ abbrev mutual
   rowAfter (Part.optional p) row = rowAfter p row
   rowAfter (Part.choice ps) row = runRowAfter ps row
   rowAfter (Part.all ps) row = runRowAfter ps row
-  rowAfter (Part.link kind shape low high) row = set row kind (shape + 1)
+  rowAfter (Part.link label shape low high) row = set row label (shape + 1)
 
   pub runRowAfter : Parts → List ℕ → List ℕ
   runRowAfter Parts.none row = row
@@ -32,7 +32,7 @@ mutual
   row-kept (Part.optional p) row k h = row-kept p row k h
   row-kept (Part.choice ps) row k h = run-row-kept ps row k h
   row-kept (Part.all ps) row k h = run-row-kept ps row k h
-  row-kept (Part.link kind shape low high) row k h = getD-set-other row kind k (shape + 1) 0 h
+  row-kept (Part.link label shape low high) row k h = getD-set-other row label k (shape + 1) 0 h
 
   run-row-kept : (ps : Parts) (row : List ℕ) (k : ℕ) → (RunNames ps k → ⊥)
       → getD (runRowAfter ps row) k 0 ≡ getD row k 0

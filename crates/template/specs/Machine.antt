@@ -1,9 +1,9 @@
 -- What the inner functions of the reader go by, and where shapes stand; no part of a promise.
 -- Step, shown, outcome   what the code shows of a part that is read: the next place and the row, or the refusal
 -- readOf                 what it shows of a shape, or of all shapes
--- Inside                 what the readers of a part ask
+-- Inside, LinkAsked      what the readers of a part, and of a link, ask
 -- Ready, RowNames        what the readers of a shape ask, and the names that they leave in its row
--- Tabled                 a table has the shapes that each shape names
+-- entryAt, Tabled        an entry of the table of names; the table has the shapes that each shape names
 -- Empty, Filled          what filling the table of names asks, and what it leaves there
 -- shapePlace             where a shape's count of words stands
 -- Assumes nothing.
@@ -47,11 +47,18 @@ abbrev pub readOf : {A : Type 0} → Reading (Placed A) → Read
 readOf (accepted read) = Next (read .next)
 readOf (turnedDown number place) = Refused number place
 
--- The words end at `end` or later, the row has room for all kinds, and the counts are within their limits.
+-- The words end at `end` or later, the row has an entry for each label, and the counts are within their limits.
 pub record Inside (words : List ℕ) (end : ℕ) (sizes : Sizes) (row : List ℕ) : Type 0 where
   pub end-in : end ≤ length words
-  pub kinds-in : sizes .kinds ≤ length row
+  pub labels-in : length row ≡ maxLabels
+  pub kinds-high : sizes .kinds ≤ maxKinds
   pub shapes-high : sizes .shapes ≤ maxShapes
+
+-- What the reader of a link asks, whose labels start at `first`.
+pub record LinkAsked (words : List ℕ) (at end : ℕ) (sizes : Sizes) (row : List ℕ) (first : ℕ) : Type 0 where
+  pub inside : Inside words end sizes row
+  pub code-in : at < end
+  pub first-in : first ≤ maxKinds
 
 -- The counts are within their limits, and the row names nothing.
 pub record Ready (sizes : Sizes) (row : List ℕ) : Type 0 where
@@ -69,11 +76,14 @@ pub record Empty (sizes : Sizes) (names : List ℕ) : Type 0 where
   pub shapes-high : sizes .shapes ≤ maxShapes
   pub unnamed : names ≡ replicate tableSize 0
 
+-- The entry of the shape t for the label k.
+abbrev pub entryAt : List ℕ → ℕ → ℕ → ℕ
+entryAt names t k = getD names (t * maxLabels + k) 0
+
 -- A table has a row of labels for each shape: the shape that the part names for the label plus one, or 0 for none.
 abbrev pub Tabled : List Part → List ℕ → Type 0
 Tabled parts names =
-    (t k : ℕ) → t < length parts → k < maxLabels
-    → getD names (t * maxLabels + k) 0 ≡ named (getD parts t Part.nothing) k
+    (t k : ℕ) → t < length parts → k < maxLabels → entryAt names t k ≡ named (getD parts t Part.nothing) k
 
 -- A table has the names of all shapes that were read.
 abbrev pub Filled : Reading (Placed (List Part)) → List ℕ → Type 0

@@ -4,8 +4,7 @@
 -- Found                   what was read, with the next place and the row
 -- readLink, readGroup     a link, and a group, at a place
 -- readRun, readPart       a run of parts, and a part: each leads to the other
--- A row has, for each label, the shape that the shape being read has named for it so far plus one, or 0. A label is a
--- link's kind.
+-- A row has, for each label, the shape that the shape being read has named for it so far plus one, or 0.
 -- Assumes nothing.
 use Prim.Native.Nat.{ℕ, zero, suc, _+_, _-_}
 use mathlib.Core.List.{List}
@@ -14,15 +13,17 @@ use lib.ListN.{getD, set}
 use lib.Dec.{ltb, leb, eqb}
 use Rattle.words.specs.Limits.{maxCount, noLimit, minGroup, maxGroup}
 use Rattle.words.specs.Reading.{Reading, accepted, turnedDown, refuse, then, mapped}
+use Rattle.bags.specs.Label.{outgoing, incoming, firstLabel}
 use Rattle.bags.specs.Part.{Part, Parts, limitOf}
 use Rattle.template.specs.declared.Sizes.{Sizes}
 
--- What a code starts: nothing, one part that is wrapped, a group of parts, a link of a kind, or nothing known.
+-- What a code starts: nothing, one part that is wrapped, a group of parts, a link, or nothing known.
 pub data Code : Type 0 where
   nothing : Code
   single : (Part → Part) → Code
   group : (Parts → Part) → Code
-  link : ℕ → Code
+  -- where the labels of its way start, and its kind
+  link : ℕ → ℕ → Code
   unknown : Code
 
 -- 1: star, 2: plus, 3: optional.
@@ -33,7 +34,8 @@ wrapped n p = cond (eqb n 1) (Part.star p) (cond (eqb n 2) (Part.plus p) (Part.o
 abbrev pub gathered : ℕ → Parts → Part
 gathered n ps = cond (eqb n 16) (Part.choice ps) (Part.all ps)
 
--- 0; 1 to 3; 16 and 17; 256 to 319; 4 to 15, 18 to 255 and 320 and above are unknown.
+-- 0; 1 to 3; 16 and 17; 256 to 319, outgoing links; 320 to 383, incoming ones; 4 to 15, 18 to 255 and 384 and above are
+-- unknown.
 abbrev pub codeOf : ℕ → Code
 codeOf n =
     cond (eqb n 0) nothing
@@ -41,7 +43,8 @@ codeOf n =
     (cond (ltb n 16) unknown
     (cond (ltb n 18) (group (gathered n))
     (cond (ltb n 256) unknown
-    (cond (ltb n 320) (link (n - 256)) unknown)))))
+    (cond (ltb n 320) (link (firstLabel outgoing) (n - 256))
+    (cond (ltb n 384) (link (firstLabel incoming) (n - 320)) unknown))))))
 
 -- What was read, the next place and the row.
 pub data Found (A : Type 0) : Type 0 where
@@ -61,19 +64,19 @@ limitsOk low high =
     cond (ltb maxCount low) false (cond (eqb high noLimit) true (cond (ltb high low) false (leb high maxCount)))
 
 -- A link: the code, then its shape, low and high. 4: a word is missing. 7: the kind is not below the count of kinds.
--- 8: it stands in this shape already. 9: the shape is not below the count of shapes. 10: low or high.
-unfoldable pub readLink : List ℕ → ℕ → Sizes → ℕ → List ℕ → ℕ → Reading (Found Part)
-readLink words end sizes at row kind =
+-- 8: it stands in this shape already, the same way. 9: the shape is not below the count of shapes. 10: low or high.
+unfoldable pub readLink : List ℕ → ℕ → Sizes → ℕ → List ℕ → ℕ → ℕ → Reading (Found Part)
+readLink words end sizes at row first kind =
     refuse 4 end (ltb (end - at) 4)
     (refuse 7 at (leb (sizes .kinds) kind)
-    (refuse 8 at (not (eqb (getD row kind 0) 0))
+    (refuse 8 at (not (eqb (getD row (first + kind) 0) 0))
     (refuse 9 (at + 1) (leb (sizes .shapes) (getD words (at + 1) 0))
     (refuse 10 (at + 2) (not (limitsOk (getD words (at + 2) 0) (getD words (at + 3) 0)))
     (accepted
     (found
-    (Part.link kind (getD words (at + 1) 0) (getD words (at + 2) 0) (limitOf (getD words (at + 3) 0)))
+    (Part.link (first + kind) (getD words (at + 1) 0) (getD words (at + 2) 0) (limitOf (getD words (at + 3) 0)))
     (at + 4)
-    (set row kind (getD words (at + 1) 0 + 1))))))))
+    (set row (first + kind) (getD words (at + 1) 0 + 1))))))))
 
 -- So many parts one after the other, each read by `inner`.
 unfoldable pub readRun : (ℕ → List ℕ → Reading (Found Part)) → ℕ → ℕ → List ℕ → Reading (Found Parts)
@@ -95,7 +98,7 @@ abbrev pub readCode :
 readCode nothing inner words end sizes at row = accepted (found Part.nothing (at + 1) row)
 readCode (single f) inner words end sizes at row = mapped (into f) (inner (at + 1) row)
 readCode (group f) inner words end sizes at row = mapped (into f) (readGroup inner words end at row)
-readCode (link kind) inner words end sizes at row = readLink words end sizes at row kind
+readCode (link first kind) inner words end sizes at row = readLink words end sizes at row first kind
 readCode unknown inner words end sizes at row = turnedDown 5 at
 
 -- The part at a place below the shape's end, where `left` levels are still allowed. 4: the code is missing. 6: the part

@@ -9,7 +9,7 @@ use mathlib.Core.Path.{_≡_}
 use mathlib.Core.List.{List, [], _∷_, _++_}
 use lib.ListN.{length, getD}
 use Rattle.words.specs.Limits.{maxKinds, maxShapes, maxTemplate, maxDepth, minGroup, maxGroup, maxCount, noLimit}
-use Rattle.bags.specs.Part.{Limit, at-most, no-limit, Part, Parts, Single, ShapesBelow, LabelsBelow, depth}
+use Rattle.bags.specs.Part.{Limit, at-most, no-limit, Part, Parts, Single, ShapesBelow, KindsBelow, depth}
 
 -- A link's high: a number, or the word for no limit.
 abbrev pub writeLimit : Limit → ℕ
@@ -30,7 +30,7 @@ abbrev mutual
   writePart (Part.optional p) = 3 ∷ writePart p
   writePart (Part.choice ps) = 16 ∷ runLength ps ∷ writeRun ps
   writePart (Part.all ps) = 17 ∷ runLength ps ∷ writeRun ps
-  writePart (Part.link kind shape low high) = (256 + kind) ∷ shape ∷ low ∷ writeLimit high ∷ []
+  writePart (Part.link label shape low high) = (256 + label) ∷ shape ∷ low ∷ writeLimit high ∷ []
 
   pub writeRun : Parts → List ℕ
   writeRun Parts.none = []
@@ -59,7 +59,7 @@ abbrev mutual
   WithinLimits (Part.optional p) = WithinLimits p
   WithinLimits (Part.choice ps) = (minGroup ≤ runLength ps) × (runLength ps ≤ maxGroup) × RunWithinLimits ps
   WithinLimits (Part.all ps) = (minGroup ≤ runLength ps) × (runLength ps ≤ maxGroup) × RunWithinLimits ps
-  WithinLimits (Part.link kind shape low high) = LimitsIn low high
+  WithinLimits (Part.link label shape low high) = LimitsIn low high
 
   pub RunWithinLimits : Parts → Type 0
   RunWithinLimits Parts.none = Unit {0}
@@ -67,10 +67,10 @@ abbrev mutual
 
 -- What the part of a shape must be, in a template of so many kinds and shapes.
 pub record PartFormed (kinds shapes : ℕ) (p : Part) : Type 0 where
-  -- no kind stands twice
+  -- no kind stands twice the same way
   pub once : Single p
   -- its kinds and shapes are the template's
-  pub labels : LabelsBelow kinds p
+  pub labels : KindsBelow kinds p
   pub targets : ShapesBelow shapes p
   -- it is not too deep, and its numbers are within the limits
   pub deep : depth p ≤ maxDepth

@@ -10,7 +10,8 @@ ghost use Rattle.template.specs.Answer.{templateSaid};
 ghost use Rattle.template.specs.Reading.{limitsOk, readLink, readPart, readRun};
 ghost use Rattle.template.specs.Template.{readShape, readShapes, Template, readTemplate, templateSays};
 ghost use Rattle.template.specs.Machine.{Tabled};
-ghost use Rattle.template.specs.Machine.{shown, outcome, readOf, Inside, Ready, RowNames, Empty, Filled};
+ghost use Rattle.template.specs.Machine.{shown, outcome, readOf, Inside, LinkAsked, Ready, RowNames, Empty};
+ghost use Rattle.template.specs.Machine.{Filled};
 use words::MAX_COUNT;
 use words::MAX_DEPTH;
 use words::MAX_GROUP;
@@ -77,11 +78,20 @@ fn limits_ok(low: u16, high: u16) -> bool
     high <= MAX_COUNT
 }
 
-// The link of this kind whose code is at `at`, below `end`. Its shape is entered in the row.
-fn link(words: &[u16], at: usize, end: usize, sizes: Sizes, row: &mut [u8], kind: Kind) -> Read
-    requires { ⌜ (at < end) × Inside (now words) end sizes (now row) ⌝ }
+// The link of this kind whose code is at `at`, below `end`. Its shape is entered in the row, at its label: `first` is
+// where the labels of its way start.
+fn link(
+    words: &[u16],
+    at: usize,
+    end: usize,
+    sizes: Sizes,
+    row: &mut [u8],
+    first: usize,
+    kind: Kind,
+) -> Read
+    requires { ⌜ LinkAsked (now words) at end sizes (now row) first ⌝ }
     ensures { λ r. ⌜ shown r (now (row .exit))
-        ≡ outcome (readLink (now (words .entry)) end sizes at (now (row .entry)) (kind .0)) ⌝ }
+        ≡ outcome (readLink (now (words .entry)) end sizes at (now (row .entry)) first (kind .0)) ⌝ }
 {
     if end - at < 4 {
         return Read::Refused(4, end);
@@ -89,7 +99,7 @@ fn link(words: &[u16], at: usize, end: usize, sizes: Sizes, row: &mut [u8], kind
     if sizes.kinds <= kind.0 {
         return Read::Refused(7, at);
     }
-    let label = kind.0 as usize;
+    let label = first + kind.0 as usize;
     if row[label] != 0 {
         return Read::Refused(8, at);
     }
@@ -136,7 +146,8 @@ fn part(words: &[u16], at: usize, end: usize, sizes: Sizes, left: usize, row: &m
             run(words, at + 2, end, sizes, left - 1, row, count)
         }
         18..=255 => Read::Refused(5, at),
-        256..=319 => link(words, at, end, sizes, row, Kind(code - 256)),
+        256..=319 => link(words, at, end, sizes, row, 0, Kind(code - 256)),
+        320..=383 => link(words, at, end, sizes, row, MAX_KINDS, Kind(code - 320)),
         _ => Read::Refused(5, at),
     }
 }

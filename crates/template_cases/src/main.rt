@@ -77,6 +77,8 @@ fn codes() {
     show(b"code-256", &[1, 1, 4, 256, 0, 0, 0]);
     show(b"code-319", &[64, 1, 4, 319, 0, 0, 0]);
     show(b"code-320", &[64, 1, 4, 320, 0, 0, 0]);
+    show(b"code-383", &[64, 1, 4, 383, 0, 0, 0]);
+    show(b"code-384", &[64, 1, 4, 384, 0, 0, 0]);
     show(b"code-65535", &[64, 1, 4, 65535, 0, 0, 0]);
 }
 
@@ -183,6 +185,45 @@ fn kinds() {
     show(
         b"kind-in-two-shapes",
         &[1, 2, 4, 256, 0, 0, 1, 4, 256, 1, 0, 1],
+    );
+}
+
+// The same of incoming links, whose kinds stand apart from those of outgoing ones.
+fn incoming() {
+    show(b"incoming-of-1-word", &[1, 1, 1, 320]);
+    show(b"incoming-of-3-words", &[1, 1, 3, 320, 0, 0]);
+    show(b"incoming-at-its-shape-end", &[1, 2, 3, 320, 0, 0, 1, 0]);
+    show(b"words-before-incoming-kind", &[1, 1, 2, 321, 0]);
+    show(b"incoming-below-the-count", &[2, 1, 4, 321, 0, 0, 0]);
+    show(b"incoming-at-the-count", &[1, 1, 4, 321, 0, 0, 0]);
+    show(b"incoming-63-of-63", &[63, 1, 4, 383, 0, 0, 0]);
+    show(b"incoming-before-shape", &[1, 1, 4, 321, 9, 9000, 0]);
+    show(b"incoming-shape-at-the-count", &[1, 1, 4, 320, 1, 9000, 0]);
+    show(b"incoming-high-below-low", &[1, 1, 4, 320, 0, 1, 0]);
+    show(b"both-ways", &[1, 1, 10, 17, 2, 256, 0, 0, 1, 320, 0, 0, 1]);
+    show(
+        b"both-ways-incoming-first",
+        &[1, 1, 10, 16, 2, 320, 0, 0, 1, 256, 0, 0, 1],
+    );
+    show(
+        b"incoming-twice-in-all",
+        &[1, 1, 10, 17, 2, 320, 0, 0, 1, 320, 0, 0, 1],
+    );
+    show(
+        b"incoming-twice-in-choice",
+        &[1, 1, 10, 16, 2, 320, 0, 0, 1, 320, 0, 0, 1],
+    );
+    show(
+        b"incoming-twice-inside-star",
+        &[1, 1, 11, 17, 2, 1, 320, 0, 0, 1, 320, 0, 0, 1],
+    );
+    show(
+        b"outgoing-twice-past-incoming",
+        &[1, 1, 14, 17, 3, 256, 0, 0, 1, 320, 0, 0, 1, 256, 0, 0, 1],
+    );
+    show(
+        b"incoming-in-two-shapes",
+        &[1, 2, 4, 320, 0, 0, 1, 4, 320, 1, 0, 1],
     );
 }
 
@@ -310,6 +351,7 @@ fn main() {
     codes();
     group_counts();
     kinds();
+    incoming();
     limits();
     depths();
     many_shapes();

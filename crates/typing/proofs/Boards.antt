@@ -17,7 +17,9 @@ use native.Mathlib.Omega.{arith}
 use lib.Dec.{eqb}
 use lib.ListN.{getD}
 use borrow.Author.Tests.{eqb-true, eq-eqb}
-use Rattle.script.specs.Link.{near, label, far}
+use Rattle.bags.specs.Label.{Way, outgoing, incoming}
+use Rattle.template.specs.Machine.{entryAt}
+use Rattle.script.specs.Link.{nearAt, labelAt, farAt}
 use Rattle.words.specs.Limits.{maxLabels, maxShapes}
 use Rattle.words.specs.Sizes.{maxGrid}
 use Rattle.board.specs.Grid.{on}
@@ -25,7 +27,7 @@ use Rattle.board.specs.Machine.{all}
 use Rattle.board.specs.Board.{Inside, Lawful}
 use Rattle.words.proofs.Bools.{never-both, true-or-false, is-false, and-first, and-second, and-both}
 use Rattle.board.proofs.Tally.{all-at, all-of, all-not}
-use Rattle.typing.specs.Needs.{entryAt, Needs, hasNamed, linkTest, metTest, boardOf, Ready}
+use Rattle.typing.specs.Needs.{Needs, hasNamed, endTest, linkTest, metTest, boardOf, Ready}
 use Rattle.words.proofs.Places.{place-in, card-in, shape-in, place-of}
 
 -- ---- an entry of the table
@@ -57,51 +59,83 @@ pick-not false b h = never-both refl h
 
 -- ---- one link
 module _ (script names : List ℕ) (shapes : ℕ) (X : ℕ → Bool) (p : ℕ) where
-  -- the test of the pair that link i leads to
-  abbrev led-to : ℕ → Bool
-  led-to i = hasNamed X (far script i * shapes) (entryAt names (p % shapes) (label script i))
+  -- the test of the pair that link i leads to, seen one way
+  abbrev led-to : Way → ℕ → Bool
+  led-to way i = hasNamed X (farAt way script i * shapes) (entryAt names (p % shapes) (labelAt way script i))
+
+  end-at : (q : ℕ) (d : Needs script names shapes p q) → endTest (d .way) script names shapes X p (d .link) ≡ true
+      → X q ≡ true
+  unfolding endTest
+  end-at q d h =
+      let way = d .way in
+      let i = d .link in
+      let here = eq-eqb (nearAt way script i) (p / shapes) (d .starts) in
+      let there = pick-at (eqb (nearAt way script i) (p / shapes)) (led-to way i) h here in
+      subst (λ (x : ℕ). X x ≡ true) (sym (d .leads))
+      (named-at X (farAt way script i * shapes) (entryAt names (p % shapes) (labelAt way script i)) (d .shape) there
+      (d .names-it))
+
+  -- both ends of a link are tested
+  end-of-link : (way : Way) (i : ℕ) → linkTest script names shapes X p i ≡ true
+      → endTest way script names shapes X p i ≡ true
+  unfolding linkTest
+  end-of-link outgoing i h =
+      and-first (endTest outgoing script names shapes X p i) (endTest incoming script names shapes X p i) h
+  end-of-link incoming i h =
+      and-second (endTest outgoing script names shapes X p i) (endTest incoming script names shapes X p i) h
 
   link-at : (q : ℕ) (d : Needs script names shapes p q) → linkTest script names shapes X p (d .link) ≡ true → X q ≡ true
-  unfolding linkTest
-  link-at q d h =
-      let i = d .link in
-      let here = eq-eqb (near script i) (p / shapes) (d .starts) in
-      let there = pick-at (eqb (near script i) (p / shapes)) (led-to i) h here in
-      subst (λ (x : ℕ). X x ≡ true) (sym (d .leads))
-      (named-at X (far script i * shapes) (entryAt names (p % shapes) (label script i)) (d .shape) there
-      (d .names-it))
+  link-at q d h = end-at q d (end-of-link (d .way) (d .link) h)
+
+  -- what link i needs seen one way
+  need : (way : Way) (i u : ℕ) → i < getD script 1 0 → eqb (nearAt way script i) (p / shapes) ≡ true
+      → entryAt names (p % shapes) (labelAt way script i) ≡ suc u
+      → Needs script names shapes p (farAt way script i * shapes + u)
+  need way i u l e n = record {
+    way = way;
+    link = i;
+    below = l;
+    starts = eqb-true (nearAt way script i) (p / shapes) e;
+    shape = u;
+    names-it = n;
+    leads = refl;
+  }
+
+  end-of : (way : Way) (i : ℕ) → i < getD script 1 0 → ((q : ℕ) → Needs script names shapes p q → X q ≡ true)
+      → endTest way script names shapes X p i ≡ true
+  unfolding endTest
+  end-of way i l h = pick-of (eqb (nearAt way script i) (p / shapes)) (led-to way i) (λ e.
+      named-of X (farAt way script i * shapes) (entryAt names (p % shapes) (labelAt way script i)) (λ u n.
+      h (farAt way script i * shapes + u) (need way i u l e n)))
 
   link-of : (i : ℕ) → i < getD script 1 0 → ((q : ℕ) → Needs script names shapes p q → X q ≡ true)
       → linkTest script names shapes X p i ≡ true
   unfolding linkTest
-  link-of i l h = pick-of (eqb (near script i) (p / shapes)) (led-to i) (λ e.
-      named-of X (far script i * shapes) (entryAt names (p % shapes) (label script i)) (λ u n.
-      h (far script i * shapes + u) (record {
-        link = i;
-        below = l;
-        starts = eqb-true (near script i) (p / shapes) e;
-        shape = u;
-        names-it = n;
-        leads = refl;
-      })))
+  link-of i l h =
+      and-both (endTest outgoing script names shapes X p i) (endTest incoming script names shapes X p i)
+      (end-of outgoing i l h) (end-of incoming i l h)
 
-  link-not : (i : ℕ) → i < getD script 1 0 → linkTest script names shapes X p i ≡ false
-      → (q : ℕ) × Needs script names shapes p q × (X q ≡ false)
+  -- a need that the set has not
+  abbrev Lacks : Type 0
+  Lacks = (q : ℕ) × Needs script names shapes p q × (X q ≡ false)
+
+  end-not : (way : Way) (i : ℕ) → i < getD script 1 0 → endTest way script names shapes X p i ≡ false → Lacks
+  unfolding endTest
+  end-not way i l h =
+      let (here, there) = pick-not (eqb (nearAt way script i) (p / shapes)) (led-to way i) h in
+      let (u, n, off) = named-not X (farAt way script i * shapes)
+      (entryAt names (p % shapes) (labelAt way script i)) there in
+      (farAt way script i * shapes + u, need way i u l here n, off)
+
+  link-not : (i : ℕ) → i < getD script 1 0 → linkTest script names shapes X p i ≡ false → Lacks
   unfolding linkTest
   link-not i l h =
-      let both = pick-not (eqb (near script i) (p / shapes)) (led-to i) h in
-      let u = named-not X (far script i * shapes) (entryAt names (p % shapes) (label script i)) (both .1) in (
-        far script i * shapes + u .0,
-        record {
-          link = i;
-          below = l;
-          starts = eqb-true (near script i) (p / shapes) (both .0);
-          shape = u .0;
-          names-it = u .1;
-          leads = refl;
-        },
-        u .2,
-      )
+      let out = endTest outgoing script names shapes X p i in
+      let back = endTest incoming script names shapes X p i in
+      ⊎-elim
+      (λ (o : out ≡ true). end-not incoming i l (is-false (λ b. never-both (and-both out back o b) h)))
+      (λ (o : out ≡ false). end-not outgoing i l o)
+      (true-or-false out)
 
 -- ---- the board
 module _ {script names : List ℕ} {shapes : ℕ} (ready : Ready script names shapes) where
@@ -115,20 +149,21 @@ module _ {script names : List ℕ} {shapes : ℕ} (ready : Ready script names sh
       let here = ready .entry-in (p / maxLabels) (p % maxLabels) row (shape-in maxLabels some p) in
       omega (arith, here, ap (λ (x : ℕ). getD names x 0) (place-of maxLabels some p), ready .few-shapes)
 
-  pub entry-shape : (t i u : ℕ) → t < shapes → i < getD script 1 0 → entryAt names t (label script i) ≡ suc u
-      → u < shapes
-  entry-shape t i u lt li e = omega (arith, ready .entry-in t (label script i) lt (ready .label-in i li), e)
+  pub entry-shape : (way : Way) (t i u : ℕ) → t < shapes → i < getD script 1 0
+      → entryAt names t (labelAt way script i) ≡ suc u → u < shapes
+  entry-shape way t i u lt li e =
+      omega (arith, ready .entry-in t (labelAt way script i) lt (ready .label-in way i li), e)
 
-  -- m is the card that link i leads to, and u the shape that t names for its label
-  pub led-in : (t i m u : ℕ) → t < shapes → i < getD script 1 0 → m ≡ far script i
-      → entryAt names t (label script i) ≡ suc u → m * shapes + u < getD script 0 0 * shapes
-  led-in t i m u lt li to e =
-      place-in (getD script 0 0) shapes m u (omega (arith, ready .far-in i li)) (entry-shape t i u lt li e)
+  -- m is the far end of link i, and u the shape that t names for its label
+  pub led-in : (way : Way) (t i m u : ℕ) → t < shapes → i < getD script 1 0 → m ≡ farAt way script i
+      → entryAt names t (labelAt way script i) ≡ suc u → m * shapes + u < getD script 0 0 * shapes
+  led-in way t i m u lt li to e =
+      place-in (getD script 0 0) shapes m u (omega (arith, ready .far-in way i li)) (entry-shape way t i u lt li e)
 
   pub needs-in : (p q : ℕ) → Needs script names shapes p q → q < getD script 0 0 * shapes
   needs-in p q d = subst (λ (x : ℕ). x < getD script 0 0 * shapes) (sym (d .leads))
-      (led-in (p % shapes) (d .link) (far script (d .link)) (d .shape) (shape-in shapes (ready .one-shape) p)
-      (d .below) refl (d .names-it))
+      (led-in (d .way) (p % shapes) (d .link) (farAt (d .way) script (d .link)) (d .shape)
+      (shape-in shapes (ready .one-shape) p) (d .below) refl (d .names-it))
 
   module _ (fits : List ℕ) where
     -- the tests of all links

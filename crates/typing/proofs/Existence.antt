@@ -1,6 +1,6 @@
 -- For every sheet that is read there is a board that stands for it, so the contracts leave no choice on any input.
 --   listOf             a list by its entries
---   namesOf, countsOf, fitsOf   a sheet's table of names, a card's counts, and the grid of fits
+--   namesOf, fitsOf    a sheet's table of names, and its grid of fits
 --   represented        a board stands for each sheet of a template and a script
 --   largest-no-choice, smallest-no-choice, both-no-choice   two answers to one call are the same, and so are the grids
 -- Assumes nothing.
@@ -14,11 +14,8 @@ use native.Mathlib.Nat.{le-of-suc-le-suc, not-suc-le-zero}
 use lib.ListN.{length, getD}
 use Rattle.words.specs.Limits.{maxLabels}
 use Rattle.bags.specs.Named.{named}
-use Rattle.bags.specs.Bag.{count}
 use Rattle.bags.specs.Interval.{fits}
-use Rattle.bags.specs.Proposition.{labelCount}
 use Rattle.template.specs.Machine.{Tabled}
-use Rattle.script.specs.Link.{neighbours}
 use Rattle.board.specs.Grid.{on, bit}
 use Rattle.board.specs.Board.{Board}
 use Rattle.words.proofs.Bools.{true-or-false}
@@ -37,7 +34,7 @@ use Rattle.typing.proofs.Represents.{Represents}
 use Rattle.typing.proofs.Unique.{Represented, largest-says-unique, smallest-says-unique, both-says-unique}
 use Rattle.typing.proofs.Unique.{largest-said-unique, smallest-said-unique, both-said-unique}
 use Rattle.sheet.proofs.Accepted.{SheetAccepted, sheet-read}
-use Rattle.typing.proofs.Instance.{FitsGrid, CountsOf, counts-all, fits-grid, represents}
+use Rattle.typing.proofs.Instance.{FitsGrid, countsOf, fits-grid, represents}
 
 -- f 0, f 1, .., f (n - 1).
 listOf : (ℕ → ℕ) → ℕ → List ℕ
@@ -65,16 +62,10 @@ on-bit grid p b e = ⊎-elim
 namesOf : Sheet → List ℕ
 namesOf s = listOf (λ p. named (partOf s (p / maxLabels)) (p % maxLabels)) (s .shapes * maxLabels)
 
--- The counts of the labels of card n.
-countsOf : Sheet → ℕ → ℕ → List ℕ
-countsOf s kinds n = listOf (λ k. labelCount (neighbours (s .script) n (s .links)) k) kinds
-
--- The test of a card's counts against a shape, and the grid of these: 1 where they fit.
-abbrev fitsAt : Sheet → ℕ → ℕ → ℕ → Bool
-fitsAt s kinds n t = let counts = countsOf s kinds n in fits (length counts) (partOf s t) (count counts)
-
+-- The grid of which pairs fit by counts.
 fitsOf : Sheet → ℕ → List ℕ
-fitsOf s kinds = listOf (λ p. bit (fitsAt s kinds (p / s .shapes) (p % s .shapes))) (size s)
+fitsOf s kinds =
+    listOf (λ p. bit (fits kinds (partOf s (p % s .shapes)) (countsOf s (p / s .shapes)))) (size s)
 
 module _ {words : List ℕ} {kinds : ℕ} {s : Sheet} (read : SheetAccepted words kinds s) where
   names-tabled : Tabled (s .parts) (namesOf s)
@@ -91,24 +82,15 @@ module _ {words : List ℕ} {kinds : ℕ} {s : Sheet} (read : SheetAccepted word
   unfolding namesOf
   names-room = omega (arith, list-length (λ p. named (partOf s (p / maxLabels)) (p % maxLabels)) (s .shapes * maxLabels))
 
-  counts-right : (n : ℕ) → CountsOf s n (countsOf s kinds n)
-  unfolding countsOf
-  counts-right n =
-      let f : ℕ → ℕ = λ k. labelCount (neighbours (s .script) n (s .links)) k in
-      counts-all read n (countsOf s kinds n) (omega (arith, list-length f kinds))
-      (λ k l. list-at f kinds k (omega (arith, list-length f kinds)))
-
   fits-right : FitsGrid s (fitsOf s kinds)
   unfolding fitsOf
-  fits-right = fits-grid read (fitsOf s kinds) (λ n t ln lt. (
-    countsOf s kinds n,
-    counts-right n,
-    on-bit (fitsOf s kinds) (place s n t) (fitsAt s kinds n t)
-        (list-at (λ p. bit (fitsAt s kinds (p / s .shapes) (p % s .shapes))) (size s) (place s n t)
-        (place-in (s .cards) (s .shapes) n t ln lt)
-        ∙ ap₂ (λ (x y : ℕ). bit (fitsAt s kinds x y)) (card-of (s .shapes) (read .shapes .shapes-low) n t lt)
-        (shape-of (s .shapes) (read .shapes .shapes-low) n t lt)),
-  ))
+  fits-right = fits-grid read (fitsOf s kinds) (λ n t ln lt.
+      on-bit (fitsOf s kinds) (place s n t) (fits kinds (partOf s t) (countsOf s n))
+      (list-at (λ p. bit (fits kinds (partOf s (p % s .shapes)) (countsOf s (p / s .shapes)))) (size s) (place s n t)
+      (place-in (s .cards) (s .shapes) n t ln lt)
+      ∙ ap₂ (λ (x y : ℕ). bit (fits kinds (partOf s y) (countsOf s x)))
+      (card-of (s .shapes) (read .shapes .shapes-low) n t lt)
+      (shape-of (s .shapes) (read .shapes .shapes-low) n t lt)))
 
   some-board : (B : Board) × Represents s B
   some-board = (

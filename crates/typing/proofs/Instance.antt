@@ -1,7 +1,7 @@
 -- The board of a template's table of names, a script and a grid of fits stands for their sheet.
 --   FitsGrid     a grid is 1 just where a card's counts fit a shape
---   CountsOf     a list has the counts of a card's labels; counts-all: enough that it has those below its length
---   fits-counted the test of such a list says whether the card's counts fit; fits-grid: and the grid of these tests
+--   countsOf     how many neighbours a card has of each label; none-past: none of an outgoing one past the kinds
+--   fits-counted the test of these says whether what a shape looks at fits it; fits-grid: and the grid of these tests
 --   entry-exact  an entry of the table is the shape declared
 --   ready        a template and a script that are read are ready to be searched
 --   represents   the board stands for the sheet
@@ -12,73 +12,77 @@ use mathlib.Core.Logic.{⊎-elim, _↔_}
 use mathlib.Core.Bool.{true}
 use mathlib.Core.List.{List, List·Memᴰ}
 use native.Mathlib.Omega.{arith}
-use lib.ListN.{length, getD, List·getD-eq-default}
-use Rattle.words.specs.Limits.{maxLabels}
+use lib.ListN.{length, getD}
+use Rattle.words.specs.Limits.{maxKinds, maxLabels}
+use Rattle.bags.specs.Label.{Way, outgoing, incoming, labelOf}
 use Rattle.bags.specs.Part.{Names, Declares}
-use Rattle.bags.specs.Bag.{Fits, count}
+use Rattle.bags.specs.Bag.{Fits}
+use Rattle.bags.specs.Look.{seen}
 use Rattle.bags.specs.Interval.{fits}
 use Rattle.bags.specs.Choice.{to}
 use Rattle.bags.specs.Proposition.{labelCount}
-use Rattle.bags.proofs.Naming.{names-dec, names-declares, declares-below, declares-unique, named-exact}
+use Rattle.bags.proofs.Naming.{names-dec, names-declares, declares-names, declares-below, declares-unique}
+use Rattle.bags.proofs.Naming.{named-exact}
 use Rattle.bags.proofs.Exact.{fits-exact}
-use Rattle.bags.proofs.Decide.{list-decided}
+use Rattle.bags.proofs.Looking.{looks-named, looked-exact, looked-count}
+use Rattle.bags.proofs.Decide.{fits-decided}
 use Rattle.bags.proofs.Choosing.{met-exact}
-use Rattle.template.specs.Machine.{Tabled}
-use Rattle.script.specs.Link.{label, far, neighbours}
+use Rattle.template.specs.Machine.{Tabled, entryAt}
+use Rattle.script.specs.Link.{kindAt, nearAt, labelAt, farAt, neighbours}
 use Rattle.script.proofs.Neighbours.{neighbours-exact}
+use Rattle.script.proofs.Counts.{way-count, way-count-none}
 use Rattle.board.specs.Grid.{on}
 use Rattle.board.specs.Board.{Lawful}
-use Rattle.words.proofs.Bools.{le-or-lt}
-use Rattle.typing.specs.Needs.{entryAt, Needs, metTest, boardOf, Ready}
+use Rattle.typing.specs.Needs.{Needs, metTest, boardOf, Ready}
 use Rattle.words.proofs.Places.{card-of, shape-of}
 use Rattle.typing.proofs.Boards.{board-lawful}
 use Rattle.sheet.specs.Sheet.{Sheet, partOf, neighboursOf, place}
 use Rattle.typing.specs.Typing.{Pairs, Has, Met}
 use Rattle.sheet.proofs.Accepted.{SheetAccepted}
 use Rattle.typing.proofs.Represents.{Follows, Represents}
-use Rattle.typing.proofs.Neighbours.{targets-of, targets-at, label-counted, label-none}
+use Rattle.typing.proofs.Neighbours.{targets-of, targets-at, label-counted}
 
--- A grid is 1 just where the counts of a card's links fit a shape.
+-- A grid is 1 just where the counts of the links of a card that a shape looks at fit it.
 abbrev pub FitsGrid : Sheet → List ℕ → Type 0
 FitsGrid s grid = (n t : ℕ) → n < s .cards → t < s .shapes
     → (on grid (place s n t) ≡ true) ↔ Fits (s .shapes) (partOf s t) (labelCount (neighboursOf s n t))
 
--- The list has the counts of the labels of card n, and 0 for others.
-abbrev pub CountsOf : Sheet → ℕ → List ℕ → Type 0
-CountsOf s n counts = (k : ℕ) → getD counts k 0 ≡ labelCount (neighbours (s .script) n (s .links)) k
+-- How many neighbours card n has of each label.
+abbrev pub countsOf : Sheet → ℕ → ℕ → ℕ
+countsOf s n k = labelCount (neighbours (s .script) n (s .links)) k
 
 module _ {words : List ℕ} {kinds : ℕ} {s : Sheet} (read : SheetAccepted words kinds s) where
   -- ---- counts
-  -- no neighbour has a label that is not below the count of kinds
-  pub counts-all : (n : ℕ) (counts : List ℕ) → kinds ≤ length counts
-      → ((k : ℕ) → k < length counts → getD counts k 0 ≡ labelCount (neighbours (s .script) n (s .links)) k)
-      → CountsOf s n counts
-  counts-all n counts room each k = ⊎-elim
-      (λ l. List·getD-eq-default counts 0 l
-      ∙ sym (label-none (neighbours (s .script) n (s .links)) k (λ name card m e.
-      let (i, li, f, g, h) = neighbours-exact (s .script) n name card (s .links) .0 m in
-      omega (arith, read .links .kind-below i li, g, e))))
-      (λ l. each k l)
-      (le-or-lt (length counts) k)
+  pub kind-in : (i : ℕ) → i < s .links → kindAt (s .script) i < maxKinds
+  kind-in i l = omega (arith, read .links .kind-below i l, read .shapes .kinds-high)
 
-  fits-counted : (n t : ℕ) (counts : List ℕ) → t < s .shapes → CountsOf s n counts
-      → (fits (length counts) (partOf s t) (count counts) ≡ true)
+  -- no link has a kind that is none of the template's
+  pub none-past : (n k : ℕ) → kinds ≤ k → k < maxKinds → countsOf s n k ≡ 0
+  none-past n k past few =
+      let own : k ≡ labelOf outgoing k = omega arith in
+      ap (countsOf s n) own ∙ way-count outgoing (s .script) n k (s .links) few kind-in
+      ∙ way-count-none outgoing (s .script) n k (s .links)
+      (λ i l e. omega (arith, read .links .kind-below i l, e))
+
+  fits-counted : (n t : ℕ) → t < s .shapes
+      → (fits kinds (partOf s t) (countsOf s n) ≡ true)
       ↔ Fits (s .shapes) (partOf s t) (labelCount (neighboursOf s n t))
-  fits-counted n t counts lt c =
-      let same : count counts ≡ labelCount (neighboursOf s n t) = fun-ext c in
-      let decided = list-decided (s .shapes) (partOf s t) counts (read .shapes .single t lt)
-      (read .shapes .shapes-below t lt) in (
-        λ e. subst (λ (w : ℕ → ℕ). Fits (s .shapes) (partOf s t) w) same (decided .1 e),
-        λ f. decided .0 (subst (λ (w : ℕ → ℕ). Fits (s .shapes) (partOf s t) w) (sym same) f),
+  fits-counted n t lt =
+      let p = partOf s t in
+      let same : labelCount (neighboursOf s n t) ≡ seen p (countsOf s n) =
+      fun-ext (looked-count p (neighbours (s .script) n (s .links))) in
+      let decided = fits-decided p (countsOf s n) kinds (read .shapes .kinds-high) (none-past n) (s .shapes)
+      (read .shapes .single t lt) (read .shapes .shapes-below t lt) in (
+        λ e. subst (λ (w : ℕ → ℕ). Fits (s .shapes) p w) (sym same) (decided .1 e),
+        λ f. decided .0 (subst (λ (w : ℕ → ℕ). Fits (s .shapes) p w) same f),
       )
 
   pub fits-grid : (grid : List ℕ) → ((n t : ℕ) → n < s .cards → t < s .shapes
-      → (counts : List ℕ) × CountsOf s n counts
-      × (on grid (place s n t) ≡ fits (length counts) (partOf s t) (count counts)))
+      → on grid (place s n t) ≡ fits kinds (partOf s t) (countsOf s n))
       → FitsGrid s grid
   fits-grid grid tested n t ln lt =
-      let (counts, those, here) = tested n t ln lt in
-      let exact = fits-counted n t counts lt those in
+      let here = tested n t ln lt in
+      let exact = fits-counted n t lt in
       (λ e. exact .0 (sym here ∙ e), λ f. here ∙ exact .1 f)
 
   -- the counts fit, so the part names the label of each neighbour
@@ -95,8 +99,17 @@ module _ {words : List ℕ} {kinds : ℕ} {s : Sheet} (read : SheetAccepted word
           absurd (omega (arith, exact .0 f .1 name h, label-counted (neighboursOf s n t) name card m))
 
   -- ---- the table
-  kind-in : (i : ℕ) → i < s .links → label (s .script) i < maxLabels
-  kind-in i l = omega (arith, read .links .kind-below i l, read .shapes .kinds-high)
+  label-in : (way : Way) (i : ℕ) → i < s .links → labelAt way (s .script) i < maxLabels
+  label-in outgoing i l = omega (arith, kind-in i l)
+  label-in incoming i l = omega (arith, kind-in i l)
+
+  near-in : (way : Way) (i : ℕ) → i < s .links → nearAt way (s .script) i < s .cards
+  near-in outgoing i l = read .links .from-below i l
+  near-in incoming i l = read .links .to-below i l
+
+  far-in : (way : Way) (i : ℕ) → i < s .links → farAt way (s .script) i < s .cards
+  far-in outgoing i l = read .links .to-below i l
+  far-in incoming i l = read .links .from-below i l
 
   -- the script's own count of links
   links-below : {i : ℕ} → i < getD (s .script) 1 0 → i < s .links
@@ -125,9 +138,9 @@ module _ {words : List ℕ} {kinds : ℕ} {s : Sheet} (read : SheetAccepted word
       few-cards = omega (arith, read .links .cards, read .links .cards-bound);
       few-links = omega (arith, read .links .links, read .links .links-bound);
       words = omega (arith, read .links .links, read .links .size);
-      near-in = λ i l. omega (arith, read .links .from-below i (links-below l), read .links .cards);
-      label-in = λ i l. kind-in i (links-below l);
-      far-in = λ i l. omega (arith, read .links .to-below i (links-below l), read .links .cards);
+      near-in = λ way i l. omega (arith, near-in way i (links-below l), read .links .cards);
+      label-in = λ way i l. label-in way i (links-below l);
+      far-in = λ way i l. omega (arith, far-in way i (links-below l), read .links .cards);
       table = room;
       entry-in = entry-in;
     }
@@ -136,28 +149,32 @@ module _ {words : List ℕ} {kinds : ℕ} {s : Sheet} (read : SheetAccepted word
     needs-follows : (n t q : ℕ) → t < s .shapes → Needs (s .script) names (s .shapes) (place s n t) q → Follows s n t q
     needs-follows n t q lt d =
         let l = links-below (d .below) in
+        let k = labelAt (d .way) (s .script) (d .link) in
         record {
+          way = d .way;
           link = d .link;
           shape = d .shape;
           below = l;
           starts = d .starts ∙ card-of (s .shapes) (read .shapes .shapes-low) n t lt;
-          declares = entry-exact t (label (s .script) (d .link)) (d .shape) lt (kind-in (d .link) l) .0
-              (ap (λ (x : ℕ). entryAt names x (label (s .script) (d .link)))
+          declares = entry-exact t k (d .shape) lt (label-in (d .way) (d .link) l) .0
+              (ap (λ (x : ℕ). entryAt names x k)
               (sym (shape-of (s .shapes) (read .shapes .shapes-low) n t lt)) ∙ d .names-it);
           leads = d .leads;
         }
 
     follows-needs : (n t q : ℕ) → t < s .shapes → Follows s n t q → Needs (s .script) names (s .shapes) (place s n t) q
-    follows-needs n t q lt f = record {
-      link = f .link;
-      below = subst (λ (x : ℕ). f .link < x) (read .links .links) (f .below);
-      starts = f .starts ∙ sym (card-of (s .shapes) (read .shapes .shapes-low) n t lt);
-      shape = f .shape;
-      names-it = ap (λ (x : ℕ). entryAt names x (label (s .script) (f .link)))
-          (shape-of (s .shapes) (read .shapes .shapes-low) n t lt)
-          ∙ entry-exact t (label (s .script) (f .link)) (f .shape) lt (kind-in (f .link) (f .below)) .1 (f .declares);
-      leads = f .leads;
-    }
+    follows-needs n t q lt f =
+        let k = labelAt (f .way) (s .script) (f .link) in
+        record {
+          way = f .way;
+          link = f .link;
+          below = subst (λ (x : ℕ). f .link < x) (read .links .links) (f .below);
+          starts = f .starts ∙ sym (card-of (s .shapes) (read .shapes .shapes-low) n t lt);
+          shape = f .shape;
+          names-it = ap (λ (x : ℕ). entryAt names x k) (shape-of (s .shapes) (read .shapes .shapes-low) n t lt)
+              ∙ entry-exact t k (f .shape) lt (label-in (f .way) (f .link) (f .below)) .1 (f .declares);
+          leads = f .leads;
+        }
 
     -- ---- Proposition 8.1 on the board
     module _ (room : s .shapes * maxLabels ≤ length names) (grid : List ℕ) (right : FitsGrid s grid) where
@@ -173,16 +190,18 @@ module _ {words : List ℕ} {kinds : ℕ} {s : Sheet} (read : SheetAccepted word
             f,
             targets-of (Has s X) (partOf s t) (neighboursOf s n t) (λ name card m.
                 let (u, d) = neighbour-declared n t name card lt f m in
-                let (i, li, from, kind, card-is) = neighbours-exact (s .script) n name card (s .links) .0 m in (
+                let seen-one = looked-exact (partOf s t) name card (neighbours (s .script) n (s .links)) .0 m in
+                let l = neighbours-exact (s .script) n name card (s .links) .0 (seen-one .0) in (
                   u,
                   d,
                   law .met-dep X (place s n t) (place s card u) e (follows-needs n t (place s card u) lt (record {
-                    link = i;
+                    way = l .way;
+                    link = l .link;
                     shape = u;
-                    below = li;
-                    starts = from;
-                    declares = subst (λ (k : ℕ). Declares (partOf s t) k u) (sym kind) d;
-                    leads = ap (λ (x : ℕ). place s x u) (sym card-is);
+                    below = l .below;
+                    starts = l .near-is;
+                    declares = subst (λ (k : ℕ). Declares (partOf s t) k u) (sym (l .label-is)) d;
+                    leads = ap (λ (x : ℕ). place s x u) (sym (l .far-is));
                   })),
                 )),
           )
@@ -194,10 +213,20 @@ module _ {words : List ℕ} {kinds : ℕ} {s : Sheet} (read : SheetAccepted word
           (read .shapes .single t lt) (read .shapes .shapes-below t lt) .0 m in
           law .met-of X (place s n t) (right n t ln lt .1 f) (λ q d.
           let w = needs-follows n t q lt d in
-          let k = label (s .script) (w .link) in
-          let there = far (s .script) (w .link) in
+          let k = labelAt (w .way) (s .script) (w .link) in
+          let there = farAt (w .way) (s .script) (w .link) in
+          let all = neighbours (s .script) n (s .links) in
+          let led = neighbours-exact (s .script) n k there (s .links) .1 (record {
+            way = w .way;
+            link = w .link;
+            below = w .below;
+            near-is = w .starts;
+            label-is = refl;
+            far-is = refl;
+          }) in
+          let named = looks-named (partOf s t) k (declares-names (partOf s t) k (w .shape) (w .declares)) in
           let (u, declares, has) = targets-at (Has s X) (partOf s t) (neighboursOf s n t) targets k there
-          (neighbours-exact (s .script) n k there (s .links) .1 (w .link, w .below, w .starts, refl, refl)) in
+          (looked-exact (partOf s t) k there all .1 (led, named)) in
           let same = declares-unique (partOf s t) (read .shapes .single t lt) k u (w .shape) declares (w .declares) in
           subst (λ (x : ℕ). X x ≡ true) (ap (λ (x : ℕ). place s there x) same ∙ sym (w .leads)) has)
 
@@ -208,7 +237,7 @@ module _ {words : List ℕ} {kinds : ℕ} {s : Sheet} (read : SheetAccepted word
         lawful = law;
         met-exact = λ X n t ln lt. (test-met X n t ln lt, met-test X n t ln lt);
         needs-exact = λ n t q ln lt. (needs-follows n t q lt, follows-needs n t q lt);
-        target-in = read .links .to-below;
+        target-in = far-in;
         declared-in = λ t k u lt d.
             declares-below (s .shapes) (partOf s t) (read .shapes .shapes-below t lt) k u d;
       }

@@ -1,7 +1,6 @@
 -- A card's neighbours, one by one.
 --   targets-of, targets-at   all of them have the declared shapes exactly if each has
 --   label-counted            the label of a neighbour counts
---   label-none               a label that no neighbour has counts 0
 -- Assumes nothing.
 use Prim.Native.Nat.{ℕ, _<_}
 use mathlib.Core.Path.{_≡_, refl, ap, subst}
@@ -9,7 +8,7 @@ use mathlib.Core.Bool.{Bool}
 use mathlib.Core.List.{List, [], _∷_, List·Memᴰ, List·Memᴰ·head, List·Memᴰ·tail}
 use native.Mathlib.Omega.{arith}
 use lib.Dec.{eqb}
-use borrow.Author.Tests.{eq-eqb, ne-eqb}
+use borrow.Author.Tests.{eq-eqb}
 use Rattle.bags.specs.Part.{Part, Declares}
 use Rattle.bags.specs.Bag.{when}
 use Rattle.bags.specs.Choice.{Neighbour, to}
@@ -41,10 +40,3 @@ label-counted (to l f ∷ ns) label far (List·Memᴰ·head e) =
     let one : when (eqb label l) 1 ≡ 1 = ap (λ (b : Bool). when b 1) (eq-eqb label l same) in
     omega arith
 label-counted (to l f ∷ ns) label far (List·Memᴰ·tail m) = omega (arith, label-counted ns label far m)
-
-pub label-none : (ns : List Neighbour) (k : ℕ)
-    → ((label far : ℕ) → List·Memᴰ (to label far) ns → k ≡ label → ⊥) → labelCount ns k ≡ 0
-label-none [] k h = refl
-label-none (to l f ∷ ns) k h =
-    let none : when (eqb k l) 1 ≡ 0 = ap (λ (b : Bool). when b 1) (ne-eqb k l (h l f (List·Memᴰ·head refl))) in
-    omega (arith, label-none ns k (λ label far m. h label far (List·Memᴰ·tail m)))

@@ -11,22 +11,24 @@ use Prim.Native.Nat.{ℕ, _/_, _%_, _<_}
 use mathlib.Core.Path.{_≡_, sym, _∙_, subst}
 use mathlib.Core.Logic.{_↔_}
 use mathlib.Core.Bool.{true}
+use Rattle.bags.specs.Label.{Way}
 use Rattle.bags.specs.Part.{Declares}
 use Rattle.board.specs.Board.{Board, Lawful, SoundSet}
 use Rattle.board.proofs.Rounds.{mono}
-use Rattle.script.specs.Link.{near, label, far}
+use Rattle.script.specs.Link.{nearAt, labelAt, farAt}
 use Rattle.words.proofs.Places.{place-in, place-of, card-in, shape-in}
 use Rattle.sheet.specs.Sheet.{Sheet, partOf, place, size}
 use Rattle.typing.specs.Typing.{Pairs, Met, Sound}
 
 -- q is the place of a pair that the closure goes on to from card n with shape t.
 pub record Follows (s : Sheet) (n t q : ℕ) : Type 0 where
+  pub way : Way
   pub link : ℕ
   pub shape : ℕ
   pub below : link < s .links
-  pub starts : near (s .script) link ≡ n
-  pub declares : Declares (partOf s t) (label (s .script) link) shape
-  pub leads : q ≡ place s (far (s .script) link) shape
+  pub starts : nearAt way (s .script) link ≡ n
+  pub declares : Declares (partOf s t) (labelAt way (s .script) link) shape
+  pub leads : q ≡ place s (farAt way (s .script) link) shape
 
 pub record Represents (s : Sheet) (B : Board) : Type 0 where
   -- the board has a place for each pair, and Proposition 8.1 holds on it
@@ -38,7 +40,7 @@ pub record Represents (s : Sheet) (B : Board) : Type 0 where
   -- a place needs just what the closure goes on to from its pair
   pub needs-exact : (n t q : ℕ) → n < s .cards → t < s .shapes → B .Dep (place s n t) q ↔ Follows s n t q
   -- links lead to cards of the sheet, and shapes declare shapes of the sheet
-  pub target-in : (i : ℕ) → i < s .links → far (s .script) i < s .cards
+  pub target-in : (way : Way) (i : ℕ) → i < s .links → farAt way (s .script) i < s .cards
   pub declared-in : (t k u : ℕ) → t < s .shapes → Declares (partOf s t) k u → u < s .shapes
 
 -- Two sets agree on every pair of the sheet.

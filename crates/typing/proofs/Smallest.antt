@@ -17,13 +17,14 @@ use mathlib.Core.Logic.{_↔_}
 use mathlib.Core.List.{List, [], _∷_}
 use mathlib.Core.Bool.{true, false}
 use lib.ListN.{replicate}
+use Rattle.bags.specs.Label.{Way}
 use Rattle.bags.specs.Part.{Declares}
 use Rattle.board.specs.Grid.{on, tally}
 use Rattle.board.specs.Board.{Board, Flooded}
 use Rattle.board.specs.Board as board
 use Rattle.words.proofs.Bools.{never-both, is-false, bools-equal}
 use Rattle.board.proofs.Tally.{tally-ext}
-use Rattle.script.specs.Link.{near, label, far}
+use Rattle.script.specs.Link.{nearAt, labelAt, farAt}
 use Rattle.words.specs.Said.{values, refusal}
 use Rattle.sheet.specs.Sheet.{Sheet, partOf, place, size}
 use Rattle.typing.specs.Typing.{Pairs, Has, Met, Sound, Holds, Typing, SoundTyping}
@@ -55,26 +56,27 @@ module _ {s : Sheet} {Booked : ℕ → ℕ → Type 0} {grid : List ℕ} {m : �
 module _ {s : Sheet} {B : Board} (rep : Represents s B) {Booked : ℕ → ℕ → Type 0} (inside : BookedIn s Booked) where
   pub closure-in : {n t : ℕ} → Closure s Booked n t → (n < s .cards) × (t < s .shapes)
   closure-in (booked b) = inside _ _ b
-  closure-in (follow {n} {t} {u} c i l e d) =
-      (rep .target-in i l, rep .declared-in t (label (s .script) i) u (closure-in c .1) d)
+  closure-in (follow {n} {t} {u} c way i l e d) =
+      (rep .target-in way i l, rep .declared-in t (labelAt way (s .script) i) u (closure-in c .1) d)
 
   pub closure-place : {n t : ℕ} → Closure s Booked n t → place s n t < size s
   closure-place {n} {t} c = let (ln, lt) = closure-in c in pair-in rep n t ln lt
 
   -- what the closure goes on to is what the board's place needs
-  follow-needs : {n t : ℕ} → Closure s Booked n t → (i u : ℕ) → i < s .links → near (s .script) i ≡ n
-      → Declares (partOf s t) (label (s .script) i) u → B .Dep (place s n t) (place s (far (s .script) i) u)
-  follow-needs {n} {t} c i u l e d =
+  follow-needs : {n t : ℕ} → Closure s Booked n t → (way : Way) (i u : ℕ) → i < s .links → nearAt way (s .script) i ≡ n
+      → Declares (partOf s t) (labelAt way (s .script) i) u
+      → B .Dep (place s n t) (place s (farAt way (s .script) i) u)
+  follow-needs {n} {t} c way i u l e d =
       let (ln, lt) = closure-in c in
-      rep .needs-exact n t (place s (far (s .script) i) u) ln lt .1
-      (record { link = i; shape = u; below = l; starts = e; declares = d; leads = refl })
+      rep .needs-exact n t (place s (farAt way (s .script) i) u) ln lt .1
+      (record { way = way; link = i; shape = u; below = l; starts = e; declares = d; leads = refl })
 
   pub sound-over : (X : Pairs) → Sound s X → Holds s Booked X → {n t : ℕ} → Closure s Booked n t → Has s X n t
   sound-over X sound holds (booked b) = holds _ _ b
-  sound-over X sound holds (follow {n} {t} {u} c i l e d) =
+  sound-over X sound holds (follow {n} {t} {u} c way i l e d) =
       let (ln, lt) = closure-in c in
-      rep .lawful .met-dep X (place s n t) (place s (far (s .script) i) u)
-      (rep .met-exact X n t ln lt .1 (sound n t ln lt (sound-over X sound holds c))) (follow-needs c i u l e d)
+      rep .lawful .met-dep X (place s n t) (place s (farAt way (s .script) i) u)
+      (rep .met-exact X n t ln lt .1 (sound n t ln lt (sound-over X sound holds c))) (follow-needs c way i u l e d)
 
   -- one set that is the closure has all of another
   closure-under : (X Y : Pairs) → IsClosure s Booked X → IsClosure s Booked Y
@@ -99,7 +101,8 @@ module _ {s : Sheet} {B : Board} (rep : Represents s B) {Booked : ℕ → ℕ �
         let (ln, lt) = closure-in c in
         let f = rep .needs-exact n t q ln lt .0 d in
         subst (λ (x : ℕ). Y x ≡ true) (sym (f .leads))
-        (y .has (far (s .script) (f .link)) (f .shape) (follow c (f .link) (f .below) (f .starts) (f .declares)))
+        (y .has (farAt (f .way) (s .script) (f .link)) (f .shape)
+        (follow c (f .way) (f .link) (f .below) (f .starts) (f .declares)))
 
     pub closure-met : (B .ok (place s n t) ≡ true) ↔ Met s Y n t
     closure-met =
@@ -128,8 +131,8 @@ module _ {s : Sheet} {B : Board} (rep : Represents s B) {Booked : ℕ → ℕ �
 
   closed-of : {n t : ℕ} → Closure s Booked n t → board.Closed B (PlaceOf s Booked) (place s n t)
   closed-of (booked {n} {t} b) = board.booked (record { card = n; shape = t; pair = b; at = refl })
-  closed-of (follow {n} {t} {u} c i l e d) =
-      board.follow (closed-of c) (follow-needs c i u l e d)
+  closed-of (follow {n} {t} {u} c way i l e d) =
+      board.follow (closed-of c) (follow-needs c way i u l e d)
 
   of-closed : {p : ℕ} → board.Closed B (PlaceOf s Booked) p → PlaceOf s (Closure s Booked) p
   of-closed (board.booked b) =
@@ -139,9 +142,9 @@ module _ {s : Sheet} {B : Board} (rep : Represents s B) {Booked : ℕ → ℕ �
       let (ln, lt) = closure-in (c .pair) in
       let f = rep .needs-exact (c .card) (c .shape) q ln lt .0 (subst (λ (x : ℕ). B .Dep x q) (c .at) d) in
       record {
-        card = far (s .script) (f .link);
+        card = farAt (f .way) (s .script) (f .link);
         shape = f .shape;
-        pair = follow (c .pair) (f .link) (f .below) (f .starts) (f .declares);
+        pair = follow (c .pair) (f .way) (f .link) (f .below) (f .starts) (f .declares);
         at = f .leads;
       }
 

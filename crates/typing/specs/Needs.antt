@@ -1,10 +1,9 @@
 -- Which pairs a pair needs, by the script's words and the table of names, and their board; no part of a promise.
--- entryAt      a shape's entry for a label in the table of names: the shape named plus one, or 0
--- Needs        the pair at place p needs the pair at place q: a link of p's card leads to q's card, and p's shape names
---              q's shape for the link's label
+-- Needs        the pair at place p needs the pair at place q: p's card sees a link to q's card, one way, and p's shape
+--              names q's shape for the link's label
 -- metTest      the test of Proposition 8.1: the counts fit, and each link leads to a pair that is there
 -- boardOf      the board of a script, a table of names, and a grid that is 1 where the counts fit
--- hasNamed, linkTest   a set has the pair that an entry asks for; that a link leads to
+-- hasNamed, endTest, linkTest   a set has the pair that an entry asks for; that a link leads to, one way and both
 -- Ready        a script and a table of names that fit together
 -- Assumes nothing.
 use Prim.Native.Nat.{ℕ, zero, suc, _+_, _*_, _/_, _%_, _≤_, _<_}
@@ -14,35 +13,39 @@ use mathlib.Core.Bool.{Bool, true, _&&_, cond}
 use lib.ListN.{length, getD}
 use lib.Dec.{eqb}
 use Rattle.words.specs.Limits.{maxLabels, maxShapes, maxCards, maxLinks}
+use Rattle.bags.specs.Label.{Way, outgoing, incoming}
 use Rattle.board.specs.Grid.{on}
 use Rattle.board.specs.Machine.{all}
 use Rattle.board.specs.Board.{Board}
-use Rattle.script.specs.Link.{near, label, far}
+use Rattle.template.specs.Machine.{entryAt}
+use Rattle.script.specs.Link.{nearAt, labelAt, farAt}
 
--- The entry of the shape t for the label k.
-abbrev pub entryAt : List ℕ → ℕ → ℕ → ℕ
-entryAt names t k = getD names (t * maxLabels + k) 0
-
--- A link of p's card leads to q's card, and p's shape names q's shape for the link's label.
+-- A link that p's card sees one way leads to q's card, and p's shape names q's shape for the link's label.
 pub record Needs (script names : List ℕ) (shapes p q : ℕ) : Type 0 where
+  pub way : Way
   pub link : ℕ
   pub below : link < getD script 1 0
-  pub starts : near script link ≡ p / shapes
+  pub starts : nearAt way script link ≡ p / shapes
   pub shape : ℕ
-  pub names-it : entryAt names (p % shapes) (label script link) ≡ suc shape
-  pub leads : q ≡ far script link * shapes + shape
+  pub names-it : entryAt names (p % shapes) (labelAt way script link) ≡ suc shape
+  pub leads : q ≡ farAt way script link * shapes + shape
 
 -- The set has the far pair that an entry asks for; no entry asks for none.
 abbrev pub hasNamed : (ℕ → Bool) → ℕ → ℕ → Bool
 hasNamed X base zero = true
 hasNamed X base (suc u) = X (base + u)
 
--- Link i does not start at p's card, or the set has the pair that it leads to.
+-- Seen one way, link i is not one of p's card, or the set has the pair that it leads to.
+unfoldable pub endTest : Way → List ℕ → List ℕ → ℕ → (ℕ → Bool) → ℕ → ℕ → Bool
+endTest way script names shapes X p i =
+    cond (eqb (nearAt way script i) (p / shapes))
+    (hasNamed X (farAt way script i * shapes) (entryAt names (p % shapes) (labelAt way script i)))
+    true
+
+-- So it is seen either way.
 unfoldable pub linkTest : List ℕ → List ℕ → ℕ → (ℕ → Bool) → ℕ → ℕ → Bool
 linkTest script names shapes X p i =
-    cond (eqb (near script i) (p / shapes))
-    (hasNamed X (far script i * shapes) (entryAt names (p % shapes) (label script i)))
-    true
+    endTest outgoing script names shapes X p i && endTest incoming script names shapes X p i
 
 -- The counts of the pair at p fit, and the set has the pair that each link of its card leads to.
 unfoldable pub metTest : List ℕ → List ℕ → ℕ → List ℕ → (ℕ → Bool) → ℕ → Bool
@@ -64,8 +67,8 @@ pub record Ready (script names : List ℕ) (shapes : ℕ) : Type 0 where
   pub few-cards : getD script 0 0 ≤ maxCards
   pub few-links : getD script 1 0 ≤ maxLinks
   pub words : 2 + 3 * getD script 1 0 ≤ length script
-  pub near-in : (i : ℕ) → i < getD script 1 0 → near script i < getD script 0 0
-  pub label-in : (i : ℕ) → i < getD script 1 0 → label script i < maxLabels
-  pub far-in : (i : ℕ) → i < getD script 1 0 → far script i < getD script 0 0
+  pub near-in : (way : Way) (i : ℕ) → i < getD script 1 0 → nearAt way script i < getD script 0 0
+  pub label-in : (way : Way) (i : ℕ) → i < getD script 1 0 → labelAt way script i < maxLabels
+  pub far-in : (way : Way) (i : ℕ) → i < getD script 1 0 → farAt way script i < getD script 0 0
   pub table : shapes * maxLabels ≤ length names
   pub entry-in : (t k : ℕ) → t < shapes → k < maxLabels → entryAt names t k ≤ shapes

@@ -1,14 +1,14 @@
 -- The limits of the format (docs/FORMAT.md), each once. The code has the same numbers as constants (src/lib.rt).
 -- Assumes nothing.
-use Prim.Native.Nat.{ℕ}
+use Prim.Native.Nat.{ℕ, _*_}
 
 -- Kinds of links in a template.
 abbrev pub maxKinds : ℕ
 maxKinds = 64
 
--- Labels of a template: those of its kinds.
+-- Labels of a template: those of its kinds, each way.
 abbrev pub maxLabels : ℕ
-maxLabels = maxKinds
+maxLabels = 2 * maxKinds
 
 -- Shapes of a template.
 abbrev pub maxShapes : ℕ

@@ -4,7 +4,7 @@ ghost use Rattle.words.specs.Bounded.{Bounded};
 // The limits, as specs/Limits and specs/Sizes have them.
 pub const MAX_KINDS: usize = 64;
 
-pub const MAX_LABELS: usize = MAX_KINDS;
+pub const MAX_LABELS: usize = 2 * MAX_KINDS;
 
 pub const MAX_SHAPES: usize = 32;
 

@@ -8,7 +8,7 @@ struct Sheet {
     bookings: Vec<(u16, u16)>,
 }
 
-/// Two kinds of links, and two shapes: cards of the second have no links.
+/// Two kinds of links, and two shapes: no link starts at cards of the second.
 fn template() -> Result<Template, Refusal> {
     let mut builder = TemplateBuilder::new();
     let (a, b) = (builder.kind(), builder.kind());

@@ -6,25 +6,28 @@
 //! // What an application keeps: a script owns what it was read from.
 //! struct Rundown {
 //!     script: Script,
-//!     opener: u16,
+//!     host: u16,
 //! }
 //!
 //! let mut template = TemplateBuilder::new();
 //! let (next, guest) = (template.kind(), template.kind());
 //! let (item, person) = (template.shape(), template.shape());
+//! // An item leads to the next one and to its guests; a person is one at whom items point.
 //! template.define(item, Part::all([Part::link(next, item, 0..=1), Part::link(guest, person, 1..)]));
+//! template.define(person, Part::incoming(guest, item, 1..));
 //! let template = template.read()?;
 //!
 //! let mut script = ScriptBuilder::new();
 //! let (opener, host) = (script.card(), script.card());
 //! script.link(opener, guest, host);
-//! let rundown = Rundown { script: script.read(&template)?, opener };
+//! let rundown = Rundown { script: script.read(&template)?, host };
 //!
-//! let smallest = rundown.script.smallest(&[(rundown.opener, item)])?;
-//! assert!(smallest.typing.has(host, person));
+//! // If the host is to be a person, the opener has to be an item.
+//! let smallest = rundown.script.smallest(&[(rundown.host, person)])?;
+//! assert!(smallest.typing.has(opener, item));
 //!
 //! // A grid of another program: the opener an item, the host a person, and nothing else.
-//! rundown.script.judge(&[(rundown.opener, item)], &[1, 0, 0, 1])?;
+//! rundown.script.judge(&[(rundown.host, person)], &[1, 0, 0, 1])?;
 //! # Ok::<(), prep::Refusal>(())
 //! ```
 #![warn(missing_docs)]

@@ -12,6 +12,15 @@ pub struct Bounds {
 /// The high that stands for no limit.
 const NO_LIMIT: u16 = u16::MAX;
 
+/// How many kinds a template may have, and so how many codes there are for links each way.
+const MOST_KINDS: u16 = 64;
+
+/// The code of an outgoing link of kind 0.
+const OUTGOING: u16 = 256;
+
+/// The code of an incoming link of kind 0.
+const INCOMING: u16 = 320;
+
 impl From<u16> for Bounds {
     /// Exactly so many.
     fn from(count: u16) -> Bounds {
@@ -33,7 +42,7 @@ impl From<RangeFrom<u16>> for Bounds {
     }
 }
 
-/// A part of a shape: which links a card has.
+/// A part of a shape: which links a card has. Links that arrive count only if the shape names their kind as incoming.
 #[derive(Clone, Debug, PartialEq, Eq)]
 pub enum Part {
     /// No links.
@@ -48,8 +57,10 @@ pub enum Part {
     Choice(Vec<Part>),
     /// Each of the parts.
     All(Vec<Part>),
-    /// Links of a kind to cards of a shape.
+    /// Links of a kind that start at the card, to cards of a shape.
     Link(u16, u16, Bounds),
+    /// Links of a kind that arrive at the card, from cards of a shape.
+    Incoming(u16, u16, Bounds),
 }
 
 impl Part {
@@ -83,7 +94,13 @@ impl Part {
         Part::Link(kind, shape, bounds.into())
     }
 
-    /// Appends the part's words. A number that no word holds becomes the greatest word, which is refused.
+    /// Links of a kind that arrive from cards of a shape. Those of a kind that a shape does not name so are ignored.
+    pub fn incoming(kind: u16, shape: u16, bounds: impl Into<Bounds>) -> Part {
+        Part::Incoming(kind, shape, bounds.into())
+    }
+
+    /// Appends the part's words. A count that no word holds, or a kind that no code has, becomes the greatest word,
+    /// which is refused.
     pub(crate) fn write(&self, words: &mut Vec<u16>) {
         match self {
             Part::Nothing => words.push(0),
@@ -92,11 +109,24 @@ impl Part {
             Part::Optional(part) => around(3, part, words),
             Part::Choice(parts) => group(16, parts, words),
             Part::All(parts) => group(17, parts, words),
-            Part::Link(kind, shape, bounds) => {
-                words.extend([kind.saturating_add(256), *shape, bounds.low, bounds.high]);
-            }
+            Part::Link(kind, shape, bounds) => link(code(OUTGOING, *kind), *shape, *bounds, words),
+            Part::Incoming(kind, shape, bounds) => link(code(INCOMING, *kind), *shape, *bounds, words),
         }
     }
+}
+
+/// The code of a link of a kind: the way's first code is that of kind 0.
+fn code(first: u16, kind: u16) -> u16 {
+    if kind < MOST_KINDS {
+        first + kind
+    } else {
+        u16::MAX
+    }
+}
+
+/// A link's code, shape, low and high.
+fn link(code: u16, shape: u16, bounds: Bounds, words: &mut Vec<u16>) {
+    words.extend([code, shape, bounds.low, bounds.high]);
 }
 
 /// A code and the one part after it.

@@ -95,7 +95,7 @@ extern "C" {
         template_words: *const u16,
         template_length: usize,
         shape_number: u16,
-        kind_counts: *const u16,
+        label_counts: *const u16,
         counts_length: usize,
     ) -> FitAnswer;
     fn prep_read_script(
@@ -164,7 +164,7 @@ pub fn read_template(template: &[u16]) -> TemplateAnswer {
     unsafe { prep_read_template(template.as_ptr(), template.len()) }
 }
 
-/// Fit counts.
+/// Fit counts: those of the outgoing kinds, then those of the incoming ones.
 pub fn fit_counts(template: &[u16], shape: u16, counts: &[u16]) -> FitAnswer {
     // SAFETY: see the module.
     unsafe { prep_fit_counts(template.as_ptr(), template.len(), shape, counts.as_ptr(), counts.len()) }
@@ -176,7 +176,7 @@ pub fn read_script(template: &[u16], script: &[u16]) -> ScriptAnswer {
     unsafe { prep_read_script(template.as_ptr(), template.len(), script.as_ptr(), script.len()) }
 }
 
-/// Links of a card: how many words they are, and as many as fit in `links`.
+/// Links of a card, those that start there: how many words they are, and as many as fit in `links`.
 pub fn links_of_card(template: &[u16], script: &[u16], card: u16, links: &mut [u16]) -> usize {
     // SAFETY: see the module.
     unsafe {

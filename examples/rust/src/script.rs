@@ -55,8 +55,8 @@ impl Script {
         &self.words
     }
 
-    /// The links that start at a card, ascending; none if there is no such card. They are found in the links that were
-    /// read, so that no file is read again; `raw::links_of_card` answers the same.
+    /// The links that start at a card, ascending, not those that arrive there; none if there is no such card. They are
+    /// found in the links that were read, so that no file is read again; `raw::links_of_card` answers the same.
     pub fn links_of(&self, card: u16) -> &[Link] {
         let start = self.links.partition_point(|link| link.from < card);
         let end = self.links.partition_point(|link| link.from <= card);

@@ -36,7 +36,9 @@ impl Template {
         &self.words
     }
 
-    /// Whether counts of links, one for each kind, fit a shape. Refusals: 42, 41, 43.
+    /// Whether counts of links fit a shape: for each kind those that start at a card, then for each kind those that
+    /// arrive there. A kind that the shape does not name has to count 0 as outgoing and is ignored as incoming.
+    /// Refusals: 42, 41 if there are not two counts for each kind, 43.
     pub fn fits(&self, shape: u16, counts: &[u16]) -> Result<bool, Refusal> {
         let answer = raw::fit_counts(&self.words, shape, counts);
         refused(answer.number, answer.place)?;
@@ -63,7 +65,7 @@ impl TemplateBuilder {
         word(self.kinds - 1)
     }
 
-    /// Adds a shape and returns its number. Its cards have no links until it is defined.
+    /// Adds a shape and returns its number. No link starts at its cards until it is defined.
     pub fn shape(&mut self) -> u16 {
         self.shapes.push(Part::Nothing);
         word(self.shapes.len() - 1)

@@ -8,6 +8,11 @@ fn template() -> Template {
 
 const SCRIPT: [u16; 11] = [3, 3, 0, 0, 2, 0, 1, 1, 1, 0, 0];
 
+/// An item points at guests, and a guest is pointed at by items.
+fn guests() -> Template {
+    Template::read(vec![1, 2, 4, 256, 1, 1, 65535, 4, 320, 0, 1, 65535]).unwrap()
+}
+
 fn word(number: u16, place: usize) -> Refusal {
     Refusal { number, place: Place::Word(place) }
 }
@@ -28,14 +33,56 @@ fn a_template_is_refused_at_its_first_fault() {
 }
 
 #[test]
+fn codes_of_both_ways_are_read() {
+    let read = |words: &[u16]| Template::read(words.to_vec()).map(|template| template.kinds());
+    assert_eq!(read(&[1, 1, 4, 320, 0, 0, 1]), Ok(1));
+    assert_eq!(read(&[1, 1, 4, 321, 0, 0, 1]), Err(word(7, 3)));
+    assert_eq!(read(&[64, 1, 4, 383, 0, 0, 1]), Ok(64));
+    assert_eq!(read(&[64, 1, 4, 384, 0, 0, 1]), Err(word(5, 3)));
+    assert_eq!(read(&[1, 1, 10, 17, 2, 256, 0, 0, 1, 320, 0, 0, 1]), Ok(1));
+    assert_eq!(read(&[1, 1, 10, 17, 2, 320, 0, 0, 1, 320, 0, 0, 1]), Err(word(8, 9)));
+}
+
+#[test]
 fn counts_fit_or_not() {
     let template = template();
-    assert_eq!(template.fits(0, &[1, 1]), Ok(true));
-    assert_eq!(template.fits(0, &[2, 1]), Ok(false));
-    assert_eq!(template.fits(1, &[0, 0]), Ok(true));
-    assert_eq!(template.fits(2, &[0, 0]), Err(word(42, 0)));
-    assert_eq!(template.fits(0, &[0]), Err(word(41, 0)));
-    assert_eq!(template.fits(0, &[0, 8193]), Err(word(43, 1)));
+    assert_eq!(template.fits(0, &[1, 1, 0, 0]), Ok(true));
+    assert_eq!(template.fits(0, &[2, 1, 0, 0]), Ok(false));
+    assert_eq!(template.fits(1, &[0, 0, 0, 0]), Ok(true));
+    assert_eq!(template.fits(1, &[0, 0, 8192, 8192]), Ok(true));
+    assert_eq!(template.fits(2, &[0, 0, 0, 0]), Err(word(42, 0)));
+    for length in [0, 1, 2, 3, 5] {
+        assert_eq!(template.fits(0, &vec![8193; length]), Err(word(41, 0)));
+    }
+    assert_eq!(template.fits(0, &[0, 8193, 0, 8193]), Err(word(43, 1)));
+    assert_eq!(template.fits(0, &[0, 0, 8193, 0]), Err(word(43, 2)));
+}
+
+#[test]
+fn what_arrives_counts_if_it_is_named() {
+    let template = guests();
+    assert_eq!(template.fits(1, &[0, 1]), Ok(true));
+    assert_eq!(template.fits(1, &[0, 0]), Ok(false));
+    assert_eq!(template.fits(1, &[1, 1]), Ok(false));
+    assert_eq!(template.fits(0, &[1, 7]), Ok(true));
+    assert_eq!(template.fits(0, &[1]), Err(word(41, 0)));
+    assert_eq!(template.fits(0, &[1, 8193]), Err(word(43, 1)));
+}
+
+#[test]
+fn a_booking_reaches_against_a_link() {
+    let script = Script::read(&guests(), vec![2, 1, 0, 0, 1]).unwrap();
+    let both = script.both(&[(1, 1)]).unwrap();
+    assert_eq!((both.largest.rounds, both.largest.struck, both.largest.bare), (2, 2, 0));
+    let smallest = both.smallest.unwrap();
+    assert_eq!((smallest.pairs, smallest.typing.grid()), (2, &[1, 0, 0, 1][..]));
+    assert_eq!(smallest.typing, both.largest.typing);
+    assert_eq!(script.judge_typing(&[(1, 1)], &smallest.typing), Ok(()));
+    let unmet = |number, card| Refusal { number, place: Place::Pair { card, shape: 1 } };
+    assert_eq!(script.judge(&[(1, 1)], &[0, 0, 0, 1]), Err(unmet(62, 1)));
+    // Nobody points at card 2.
+    let script = Script::read(&guests(), vec![3, 1, 0, 0, 1]).unwrap();
+    assert_eq!(script.smallest(&[(2, 1)]), Err(unmet(50, 2)));
 }
 
 #[test]
@@ -219,12 +266,25 @@ fn a_template_is_built_from_parts() {
 }
 
 #[test]
+fn what_arrives_is_built_from_parts() {
+    let mut builder = TemplateBuilder::new();
+    let (guest, item, person) = (builder.kind(), builder.shape(), builder.shape());
+    builder.define(item, Part::link(guest, person, 1..));
+    builder.define(person, Part::incoming(guest, item, 1..));
+    assert_eq!(builder.read(), Ok(guests()));
+}
+
+#[test]
 fn what_no_word_holds_is_refused() {
     let mut builder = TemplateBuilder::new();
     assert_eq!(builder.read(), Err(word(refusals::TEMPLATE_KIND_COUNT, 0)));
     let (kind, shape) = (builder.kind(), builder.shape());
-    builder.define(shape, Part::link(u16::MAX, shape, 1));
-    assert_eq!(builder.read(), Err(word(refusals::TEMPLATE_CODE, 3)));
+    for kind in [64, 128, u16::MAX] {
+        builder.define(shape, Part::link(kind, shape, 1));
+        assert_eq!(builder.read(), Err(word(refusals::TEMPLATE_CODE, 3)));
+        builder.define(shape, Part::incoming(kind, shape, 1));
+        assert_eq!(builder.read(), Err(word(refusals::TEMPLATE_CODE, 3)));
+    }
     builder.define(shape, Part::all(vec![Part::link(kind, shape, 1); 70_000]));
     assert_eq!(builder.read(), Err(word(refusals::TEMPLATE_SIZE, 0)));
     let mut script = ScriptBuilder::with_cards(1);

@@ -17,7 +17,7 @@ pub struct Input {
     pub naive: bool,
 }
 
-/// The sheets on which both typings are timed.
+/// The sheets on which both typings are timed. Only (d) and (e) name links that arrive.
 pub fn all() -> Result<Vec<Input>, String> {
     let programme = sheet::split(PROGRAMME).map_err(|refusal| format!("the worked example: {refusal}"))?;
     let input = |name, files, naive| Input { name, files, naive };
@@ -26,6 +26,7 @@ pub fn all() -> Result<Vec<Input>, String> {
         input("(b) densest sheet, all limits", heavy::densest(), true),
         input("(c) ring of 32,769 rounds", heavy::ring(), false),
         input("(d) programme of 41 cards", programme, true),
+        input("(e) densest, half incoming", heavy::densest_both_ways(), true),
     ])
 }
 
@@ -36,7 +37,7 @@ pub fn kept() -> Input {
     let link = |card, kind| [card, kind, (card * each + kind) % MOST_CARDS];
     let links = (0..MOST_CARDS).flat_map(|card| (0..each).flat_map(move |kind| link(card, kind)));
     Input {
-        name: "(e) all limits, no pair struck",
+        name: "(f) all limits, no pair struck",
         files: Files {
             template: heavy::densest().template,
             script: [MOST_CARDS, MOST_LINKS].into_iter().chain(links).collect(),

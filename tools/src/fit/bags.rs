@@ -1,31 +1,37 @@
 //! The definition of section 2.1, taken at its word: the set of a part's bags is written out, and the counts
 //! fit if one of them has these counts. No interval is used here.
 //!
-//! A set may be infinite, so each bag that passes the counts in some kind is left out. Nothing that matters is
+//! A set may be infinite, so each bag that passes the counts of some label is left out. Nothing that matters is
 //! lost: bags are only ever added to, so a bag that is too large stays too large.
 
-use crate::numbers::{Kind, Shape};
+use crate::labels::{Label, Labelled, Way};
+use crate::numbers::Shape;
 use crate::template::{Link, Part};
 use std::collections::{BTreeMap, BTreeSet};
 
-/// How many copies of each (kind, shape); pairs with no copy aren't in the map.
-pub type Bag = BTreeMap<(Kind, Shape), u16>;
+/// How many copies of each (label, shape); those with no copy aren't in the map.
+pub type Bag = BTreeMap<(Label, Shape), u16>;
 
 /// A set of bags.
 pub type Bags = BTreeSet<Bag>;
 
-/// Whether the counts, one per kind, are those of a bag of the part.
-pub fn fits(part: &Part, counts: &[u16]) -> bool {
-    bags(part, counts)
-        .iter()
-        .any(|bag| kind_counts(bag, counts.len()) == counts)
+/// Whether the counts are those of a bag of the part, but for the incoming kinds that the part doesn't name.
+pub fn fits(part: &Part, counts: &Labelled<u16>) -> bool {
+    let named = part.named(counts.kinds());
+    let is_ignored = |label: Label| label.way == Way::Incoming && named[label].is_none();
+    let has_counts = |bag: &Bag| {
+        let of_bag = label_counts(bag, counts.kinds());
+        let mut numbers = of_bag.iter();
+        numbers.all(|(label, number)| *number == counts[label] || is_ignored(label))
+    };
+    bags(part, counts).iter().any(has_counts)
 }
 
-/// The bags of a part that don't pass the counts in any kind.
-pub fn bags(part: &Part, counts: &[u16]) -> Bags {
+/// The bags of a part that don't pass the counts of any label.
+pub fn bags(part: &Part, counts: &Labelled<u16>) -> Bags {
     match part {
         Part::Nothing => only_empty(),
-        Part::Link(link) => copies(link, counts[link.kind.index()]),
+        Part::Link(link) => copies(link, counts[link.label]),
         Part::Choice(parts) => parts.iter().flat_map(|part| bags(part, counts)).collect(),
         Part::All(parts) => {
             let start = only_empty();
@@ -59,33 +65,31 @@ fn copies(link: &Link, count: u16) -> Bags {
             if number == 0 {
                 Bag::new()
             } else {
-                Bag::from([((link.kind, link.shape), number)])
+                Bag::from([((link.label, link.shape), number)])
             }
         })
         .collect()
 }
 
 /// The sums of one bag from each set.
-fn sums(ones: &Bags, twos: &Bags, counts: &[u16]) -> Bags {
+fn sums(ones: &Bags, twos: &Bags, counts: &Labelled<u16>) -> Bags {
     let pairs = ones.iter().flat_map(|one| twos.iter().map(move |two| (one, two)));
     pairs.filter_map(|(one, two)| sum(one, two, counts)).collect()
 }
 
 /// The sum of two bags, unless it passes the counts.
-fn sum(one: &Bag, two: &Bag, counts: &[u16]) -> Option<Bag> {
+fn sum(one: &Bag, two: &Bag, counts: &Labelled<u16>) -> Option<Bag> {
     let mut total = one.clone();
-    for (pair, number) in two {
-        *total.entry(*pair).or_insert(0) += number;
+    for (entry, number) in two {
+        *total.entry(*entry).or_insert(0) += number;
     }
-    let within = kind_counts(&total, counts.len())
-        .iter()
-        .zip(counts)
-        .all(|(number, most)| number <= most);
+    let of_total = label_counts(&total, counts.kinds());
+    let within = of_total.iter().all(|(label, number)| *number <= counts[label]);
     within.then_some(total)
 }
 
 /// The sums of zero or more bags of the set: one bag more each time, until nothing new comes.
-fn any_sums(once: &Bags, counts: &[u16]) -> Bags {
+fn any_sums(once: &Bags, counts: &Labelled<u16>) -> Bags {
     let mut all = only_empty();
     loop {
         let longer = sums(&all, once, counts);
@@ -97,11 +101,11 @@ fn any_sums(once: &Bags, counts: &[u16]) -> Bags {
     }
 }
 
-/// How many copies a bag has of each kind, whatever the shape.
-fn kind_counts(bag: &Bag, kinds: usize) -> Vec<u16> {
-    let mut counts = vec![0; kinds];
-    for ((kind, _), number) in bag {
-        counts[kind.index()] += number;
+/// How many copies a bag has of each label, whatever the shape.
+fn label_counts(bag: &Bag, kinds: u16) -> Labelled<u16> {
+    let mut counts = Labelled::new(kinds, 0);
+    for ((label, _), number) in bag {
+        counts[*label] += number;
     }
     counts
 }

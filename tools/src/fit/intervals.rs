@@ -1,6 +1,7 @@
-//! The way of section 8.2: the interval of repetitions i for which the counts of a part's kinds are a sum of
-//! i of its bags. The counts fit the part if 1 is inside, and if no other kind counts anything.
+//! The way of section 8.2: the interval of repetitions i for which the counts of a part's labels are a sum of
+//! i of its bags. The counts fit the part if 1 is inside, and if no other outgoing kind counts anything.
 
+use crate::labels::{Labelled, Way};
 use crate::template::{Link, Part};
 
 /// An interval of repetitions that isn't empty: `low` up to `high`, or up without end.
@@ -17,74 +18,62 @@ pub struct Interval {
 pub struct Verdict {
     /// The interval of repetitions; none if it is empty.
     pub interval: Option<Interval>,
-    /// Whether the counts of the part's kinds are all 0.
+    /// Whether the counts of the part's labels are all 0.
     pub all_zero: bool,
 }
 
-/// Whether the counts, one per kind, fit the whole part of a shape.
-pub fn fits(part: &Part, counts: &[u16]) -> bool {
+/// Whether the counts fit the whole part of a shape.
+pub fn fits(part: &Part, counts: &Labelled<u16>) -> bool {
     let one_is_inside = verdict(part, counts)
         .interval
         .is_some_and(|interval| interval.has(1));
     one_is_inside && others_are_zero(part, counts)
 }
 
-/// Whether each kind that the part doesn't name counts 0.
-fn others_are_zero(part: &Part, counts: &[u16]) -> bool {
-    let named = part.named(counts.len() as u16);
-    counts
-        .iter()
-        .zip(named)
-        .all(|(count, shape)| *count == 0 || shape.is_some())
+/// Whether each outgoing kind that the part doesn't name counts 0; such incoming kinds are ignored.
+fn others_are_zero(part: &Part, counts: &Labelled<u16>) -> bool {
+    let named = part.named(counts.kinds());
+    let mut others = counts.iter().filter(|(label, _)| named[*label].is_none());
+    others.all(|(label, count)| *count == 0 || label.way == Way::Incoming)
 }
 
 /// The interval of a part.
-pub fn verdict(part: &Part, counts: &[u16]) -> Verdict {
+pub fn verdict(part: &Part, counts: &Labelled<u16>) -> Verdict {
+    let none = Interval {
+        low: 0,
+        high: Some(0),
+    };
     match part {
         Part::Nothing => Verdict {
             interval: Some(Interval::up_from(0)),
             all_zero: true,
         },
-        Part::Link(link) => {
-            let count = counts[link.kind.index()];
-            Verdict {
-                interval: link_interval(link, u64::from(count)),
-                all_zero: count == 0,
-            }
-        }
-        Part::Choice(parts) => group(
-            parts,
-            counts,
-            Interval {
-                low: 0,
-                high: Some(0),
-            },
-            |a, b| Some(a.plus(b)),
-        ),
+        Part::Link(link) => Verdict {
+            interval: link_interval(link, u64::from(counts[link.label])),
+            all_zero: counts[link.label] == 0,
+        },
+        Part::Choice(parts) => group(parts, counts, none, |a, b| Some(a.plus(b))),
         Part::All(parts) => group(parts, counts, Interval::up_from(0), Interval::and),
-        Part::Optional(part) => {
-            let inner = verdict(part, counts);
-            let interval = inner.interval.map(|interval| Interval::up_from(0).plus(interval));
-            Verdict { interval, ..inner }
-        }
-        Part::Star(part) => {
-            let inner = verdict(part, counts);
-            let interval = if inner.all_zero {
-                Some(Interval::up_from(0))
-            } else {
-                inner.interval.map(|_| Interval::up_from(1))
-            };
-            Verdict { interval, ..inner }
-        }
-        Part::Plus(part) => {
-            let inner = verdict(part, counts);
-            let interval = if inner.all_zero {
-                inner.interval
-            } else {
-                inner.interval.map(|interval| Interval { low: 1, ..interval })
-            };
-            Verdict { interval, ..inner }
-        }
+        Part::Optional(part) => wrapped(part, counts, |inner| {
+            inner.interval.map(|interval| Interval::up_from(0).plus(interval))
+        }),
+        Part::Star(part) => wrapped(part, counts, |inner| match inner.all_zero {
+            true => Some(Interval::up_from(0)),
+            false => inner.interval.map(|_| Interval::up_from(1)),
+        }),
+        Part::Plus(part) => wrapped(part, counts, |inner| match inner.all_zero {
+            true => inner.interval,
+            false => inner.interval.map(|interval| Interval { low: 1, ..interval }),
+        }),
+    }
+}
+
+/// What a star, a plus or an optional says, by what the part within it says.
+fn wrapped(part: &Part, counts: &Labelled<u16>, interval: fn(Verdict) -> Option<Interval>) -> Verdict {
+    let inner = verdict(part, counts);
+    Verdict {
+        interval: interval(inner),
+        ..inner
     }
 }
 
@@ -107,7 +96,7 @@ pub fn link_interval(link: &Link, count: u64) -> Option<Interval> {
 /// Joins the intervals of all parts, from `start`; an empty one makes the whole empty.
 fn group(
     parts: &[Part],
-    counts: &[u16],
+    counts: &Labelled<u16>,
     start: Interval,
     join: fn(Interval, Interval) -> Option<Interval>,
 ) -> Verdict {

@@ -2,6 +2,7 @@
 //! no or refused NUMBER PLACE. An answer that already stands there is replaced.
 
 use super::fit;
+use crate::refusal::Refusal;
 
 /// The line with its answer by intervals; empty lines and comments stay as they are.
 pub fn answer(line: &str) -> Result<String, String> {
@@ -21,12 +22,17 @@ pub fn answer(line: &str) -> Result<String, String> {
     let [shape] = numbers(shape)?[..] else {
         return Err(format!("{shape:?} isn't one shape"));
     };
-    let answer = match fit(&words, shape, &counts) {
+    let answer = written(fit(&words, shape, &counts));
+    Ok(format!("{} | {answer}", fields[..3].join(" | ")))
+}
+
+/// An answer as it is written.
+pub fn written(answer: Result<bool, Refusal>) -> String {
+    match answer {
         Ok(true) => "yes".to_string(),
         Ok(false) => "no".to_string(),
         Err(refusal) => format!("refused {} {}", refusal.number, refusal.place),
-    };
-    Ok(format!("{} | {answer}", fields[..3].join(" | ")))
+    }
 }
 
 /// The words of a field.

@@ -1,15 +1,15 @@
-//! Parts made ready for many counts: each knows the kinds within it and its interval if they all count 0. So only
-//! the parts with a kind that counts something are looked into, and a group ends at its first empty interval.
+//! Parts made ready for many counts: each knows the labels within it and its interval if they all count 0. So only
+//! the parts with a label that counts something are looked into, and a group ends at its first empty interval.
 
 use super::intervals::{link_interval, verdict, Interval};
-use crate::numbers::Kind;
-use crate::template::{Link, Part};
+use crate::labels::{Label, Labelled, Way};
+use crate::template::{Link, Part, MOST_KINDS};
 
 /// A part made ready.
 #[derive(Clone, Debug)]
 pub struct Ready {
-    /// The kinds within it, a bit each.
-    kinds: u64,
+    /// The labels within it, a bit each.
+    labels: u128,
     /// Its interval if these all count 0.
     at_zero: Option<Interval>,
     node: Node,
@@ -26,9 +26,15 @@ enum Node {
     All(Vec<Ready>),
 }
 
-/// The bit of a kind.
-pub fn bit(kind: Kind) -> u64 {
-    1 << kind.0
+/// The bits of all outgoing kinds; those of the incoming ones lie above them.
+const OUTGOING: u128 = (1 << MOST_KINDS) - 1;
+
+/// The bit of a label.
+pub fn bit(label: Label) -> u128 {
+    match label.way {
+        Way::Outgoing => 1 << label.kind.0,
+        Way::Incoming => 1 << (MOST_KINDS + label.kind.0),
+    }
 }
 
 impl Ready {
@@ -46,28 +52,28 @@ impl Ready {
             Part::All(parts) => Node::All(all(parts)),
         };
         Ready {
-            kinds: part.links().iter().fold(0, |bits, link| bits | bit(link.kind)),
-            at_zero: verdict(part, &vec![0; usize::from(kinds)]).interval,
+            labels: part.links().iter().fold(0, |bits, link| bits | bit(link.label)),
+            at_zero: verdict(part, &Labelled::new(kinds, 0)).interval,
             node,
         }
     }
 
-    /// Whether the counts fit the whole part of a shape; `present` has the kinds that count something.
-    pub fn fits(&self, counts: &[u16], present: u64) -> bool {
-        present & !self.kinds == 0
+    /// Whether the counts fit the whole part of a shape; `present` has the labels that count something.
+    pub fn fits(&self, counts: &Labelled<u16>, present: u128) -> bool {
+        present & OUTGOING & !self.labels == 0
             && self
                 .interval(counts, present)
                 .is_some_and(|interval| interval.has(1))
     }
 
     /// The interval of repetitions; none if it is empty.
-    fn interval(&self, counts: &[u16], present: u64) -> Option<Interval> {
-        if self.kinds & present == 0 {
+    fn interval(&self, counts: &Labelled<u16>, present: u128) -> Option<Interval> {
+        if self.labels & present == 0 {
             return self.at_zero;
         }
         match &self.node {
             Node::Nothing => self.at_zero,
-            Node::Link(link) => link_interval(link, u64::from(counts[link.kind.index()])),
+            Node::Link(link) => link_interval(link, u64::from(counts[link.label])),
             Node::Star(part) => part.interval(counts, present).map(|_| Interval::up_from(1)),
             Node::Plus(part) => {
                 let interval = part.interval(counts, present)?;

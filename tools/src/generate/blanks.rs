@@ -11,6 +11,8 @@ const WANTS_ONE: [u16; 7] = [1, 1, 4, 256, 0, 1, 1];
 const WANTS_NONE: [u16; 4] = [1, 1, 1, 0];
 /// Two shapes, which want no links and one to a card that wants none.
 const TWO_SHAPES: [u16; 9] = [1, 2, 1, 0, 4, 256, 0, 1, 1];
+/// One shape, which wants one arriving link from a card that has it too. A blank card hasn't it.
+const WANTS_ARRIVING: [u16; 13] = [1, 1, 10, 17, 2, 256, 0, 0, 1, 320, 0, 1, 1];
 
 /// All of these sheets.
 pub fn blanks() -> Vec<Case> {
@@ -19,6 +21,7 @@ pub fn blanks() -> Vec<Case> {
         ("one", &WANTS_ONE[..]),
         ("none", &WANTS_NONE),
         ("two", &TWO_SHAPES),
+        ("arriving", &WANTS_ARRIVING),
     ] {
         for (number, script) in scripts().into_iter().enumerate() {
             cases.push(case(format!("blank-{name}-{number}"), template, script, vec![0]));

@@ -3,9 +3,13 @@
 
 use super::bookings;
 use super::layout::{layout, Layout, Spot};
+use crate::labels::{Label, Way};
+use crate::numbers::Kind;
 use crate::random::Random;
 use crate::sheet::{Files, MOST_BYTES};
-use crate::template::{ALL, CHOICE, LINK, MOST_COUNT, MOST_DEPTH, MOST_KINDS, MOST_WORDS, NO_LIMIT};
+use crate::template::{
+    code_of, label_of, ALL, CHOICE, MOST_COUNT, MOST_DEPTH, MOST_KINDS, MOST_WORDS, NO_LIMIT,
+};
 use crate::typing::Setting;
 
 /// The refusals that a sheet can be aimed at.
@@ -82,7 +86,7 @@ fn noise(random: &mut Random, words: &mut Vec<u16>) {
     }
     let place = random.below(words.len());
     let word = random.pick(&[
-        0, 1, 2, 3, 4, 16, 17, 64, 255, 256, 257, 319, 320, 8192, 8193, 65534, 65535,
+        0, 1, 2, 3, 4, 16, 17, 64, 255, 256, 257, 319, 320, 321, 383, 384, 8192, 8193, 65534, 65535,
     ]);
     match random.below(4) {
         0 => words.insert(place, word),
@@ -123,63 +127,56 @@ fn put_in(words: &mut Vec<u16>, spot: Spot, more: &[u16]) {
 /// A fault in a template with this layout.
 fn of_template(random: &mut Random, words: &mut Vec<u16>, layout: &Layout, number: u16) {
     let part = random.pick(&layout.parts);
-    let link = if layout.links.is_empty() {
-        None
-    } else {
-        Some(random.pick(&layout.links))
-    };
-    match (number, link) {
-        (1, _) => {
+    match number {
+        1 => {
             let length = random.pick(&[0, 1, MOST_WORDS + 1, MOST_WORDS + 2, 5000]);
             words.resize(length, 0);
         }
-        (2, _) => put(words, 0, random.pick(&[0, 65, 66, 256, 65535])),
-        (3, _) => put(words, 1, random.pick(&[0, 33, 34, 65535])),
-        (4, _) => too_short(random, words, layout),
-        (5, _) => put(
-            words,
-            part.place,
-            random.pick(&[4, 5, 15, 18, 19, 100, 255, 320, 321, 5000, 65535]),
-        ),
-        (6, _) => {
+        2 => put(words, 0, random.pick(&[0, 65, 66, 256, 65535])),
+        3 => put(words, 1, random.pick(&[0, 33, 34, 65535])),
+        4 => too_short(random, words, layout),
+        5 => {
+            let code = random.pick(&[4, 5, 15, 18, 19, 100, 255, 384, 385, 5000, 65535]);
+            put(words, part.place, code);
+        }
+        6 => {
             // One star fewer would make the part as deep as can be; that isn't always a fault.
             let deeper = (MOST_DEPTH - part.depth) + random.pick(&[0, 1, 1, 2]);
             let stars: Vec<u16> = (0..deeper).map(|_| random.word(1, 3)).collect();
             put_in(words, part, &stars);
         }
-        (7, Some(link)) => unknown_kind(random, words, link),
-        (8, Some(link)) => kind_twice(random, words, layout, link),
-        (9, Some(link)) => {
-            let shapes = get(words, 1);
-            put(
-                words,
-                link.place + 1,
-                random.pick(&[shapes, shapes.wrapping_add(1), 32, 65535]),
-            );
-        }
-        (10, Some(link)) => wrong_bounds(random, words, link),
-        (11, _) => wrong_group(random, words, layout, part),
-        (12, _) => left_over(random, words, layout),
-        // There is no link to spoil: put a wrong one in place of the first part.
-        _ => {
-            let words_of_link = [
-                LINK + random.word(0, 63),
-                random.word(0, 32),
-                1,
-                random.pick(&[0, 8193]),
-            ];
-            let spot = layout.parts[0];
-            put_in(words, spot, &[random.pick(&[CHOICE, ALL]), 2]);
-            put_in(
-                words,
-                Spot {
-                    place: spot.place + 2,
-                    ..spot
-                },
-                &words_of_link,
-            );
-        }
+        7..=10 if layout.links.is_empty() => wrong_link(random, words, layout),
+        7..=10 => of_link(random, words, layout, number),
+        11 => wrong_group(random, words, layout, part),
+        _ => left_over(random, words, layout),
     }
+}
+
+/// A fault in some link of a template.
+fn of_link(random: &mut Random, words: &mut Vec<u16>, layout: &Layout, number: u16) {
+    let link = random.pick(&layout.links);
+    match number {
+        7 => unknown_kind(random, words, link),
+        8 => kind_twice(random, words, layout, link),
+        9 => {
+            let shapes = get(words, 1);
+            let shape = random.pick(&[shapes, shapes.wrapping_add(1), 32, 65535]);
+            put(words, link.place + 1, shape);
+        }
+        _ => wrong_bounds(random, words, link),
+    }
+}
+
+/// A wrong link in front of the first part, in a group with it.
+fn wrong_link(random: &mut Random, words: &mut Vec<u16>, layout: &Layout) {
+    let link = [
+        any_code(random, 0),
+        random.word(0, 32),
+        1,
+        random.pick(&[0, 8193]),
+    ];
+    let group = [random.pick(&[CHOICE, ALL]), 2];
+    put_in(words, layout.parts[0], &[&group[..], &link].concat());
 }
 
 fn too_short(random: &mut Random, words: &mut Vec<u16>, layout: &Layout) {
@@ -199,21 +196,33 @@ fn too_short(random: &mut Random, words: &mut Vec<u16>, layout: &Layout) {
     }
 }
 
+/// The code of a link of some kind from this one on, either way.
+fn any_code(random: &mut Random, first: u16) -> u16 {
+    let any = random.word(first, MOST_KINDS - 1);
+    code_of(Label {
+        way: random.pick(&Way::BOTH),
+        kind: Kind(random.pick(&[first, any])),
+    })
+}
+
 fn unknown_kind(random: &mut Random, words: &mut [u16], link: Spot) {
     let kinds = get(words, 0);
     if kinds < MOST_KINDS && random.chance(3, 4) {
-        let any = random.word(kinds, MOST_KINDS - 1);
-        put(words, link.place, LINK + random.pick(&[kinds, any]));
-    } else {
+        put(words, link.place, any_code(random, kinds));
+    } else if let Some(label) = label_of(get(words, link.place)) {
         // As many kinds as this link's number: so it is the first one that there isn't.
-        put(words, 0, get(words, link.place).wrapping_sub(LINK).max(1));
+        put(words, 0, label.kind.0.max(1));
     }
 }
 
 fn kind_twice(random: &mut Random, words: &mut Vec<u16>, layout: &Layout, link: Spot) {
     let in_shape = |other: &&Spot| other.count_place == link.count_place && other.place != link.place;
     let others: Vec<&Spot> = layout.links.iter().filter(in_shape).collect();
-    let code = get(words, link.place);
+    let mut code = get(words, link.place);
+    if let Some(label) = label_of(code).filter(|_| random.chance(1, 6)) {
+        // The same kind the other way is no fault by itself.
+        code = code_of(label.turned());
+    }
     if !others.is_empty() && random.chance(2, 3) {
         let other = random.pick(&others);
         put(words, other.place, code);

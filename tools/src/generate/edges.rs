@@ -5,7 +5,7 @@ use super::parts::filler;
 use super::special::{document, DOCUMENT_SCRIPT, DOCUMENT_TEMPLATE};
 use super::Case;
 use crate::sheet::Files;
-use crate::template::MOST_WORDS;
+use crate::template::{INCOMING, MOST_WORDS, OUTGOING};
 
 /// All edges.
 pub fn edges() -> Vec<Case> {
@@ -87,8 +87,12 @@ fn template_counts() -> Vec<Vec<u16>> {
 /// Codes, groups and depths.
 fn template_parts() -> Vec<Vec<u16>> {
     let mut templates = Vec::new();
-    for code in [4, 15, 18, 255, 320, 65535] {
+    for code in [4, 15, 18, 255, 384, 65535] {
         templates.push(template(1, &[&[code]]));
+    }
+    // The first and the last code of each way, and what stands beside them.
+    for code in [255, 256, 319, 320, 383, 384] {
+        templates.push(template(64, &[&[code, 0, 0, 1]]));
     }
     for count in [0, 1, 2, 16, 17, 65535] {
         let parts = vec![0; usize::from(count).min(17)];
@@ -106,8 +110,23 @@ fn template_parts() -> Vec<Vec<u16>> {
     templates
 }
 
-/// Links: their kinds, shapes, lows and highs.
+/// Links, outgoing and incoming: their kinds, shapes, lows and highs; and both in one shape.
 fn template_links() -> Vec<Vec<u16>> {
+    let mut templates = [OUTGOING, INCOMING].map(links_from).concat();
+    for group in [16, 17] {
+        for (first, second) in [(256, 320), (320, 256), (320, 321), (256, 321)] {
+            templates.push(template(1, &[&[group, 2, first, 0, 0, 0, second, 0, 0, 0]]));
+        }
+        for third in [256, 320] {
+            let three = [group, 3, 256, 0, 0, 0, 320, 0, 0, 0, third, 9, 9999, 0];
+            templates.push(template(1, &[&three]));
+        }
+    }
+    templates
+}
+
+/// Links whose code is this one or the next ones.
+fn links_from(code: u16) -> Vec<Vec<u16>> {
     let bounds = [
         (0, 0),
         (0, 8192),
@@ -122,18 +141,19 @@ fn template_links() -> Vec<Vec<u16>> {
     ];
     let mut templates: Vec<Vec<u16>> = bounds
         .iter()
-        .map(|(low, high)| template(1, &[&[256, 0, *low, *high]]))
+        .map(|(low, high)| template(1, &[&[code, 0, *low, *high]]))
         .collect();
-    templates.push(template(64, &[&[319, 0, 0, 0]]));
-    templates.push(template(63, &[&[319, 0, 0, 0]]));
-    templates.push(template(1, &[&[257, 9, 9999]]));
-    templates.push(template(1, &[&[257, 9, 9999, 0]]));
-    templates.push(template(1, &[&[256, 1, 9999, 0]]));
-    templates.push(template(1, &[&[256, 1, 0, 0], &[256, 1, 0, 0]]));
+    let (next, last) = (code + 1, code + 63);
+    templates.push(template(64, &[&[last, 0, 0, 0]]));
+    templates.push(template(63, &[&[last, 0, 0, 0]]));
+    templates.push(template(1, &[&[next, 9, 9999]]));
+    templates.push(template(1, &[&[next, 9, 9999, 0]]));
+    templates.push(template(1, &[&[code, 1, 9999, 0]]));
+    templates.push(template(1, &[&[code, 1, 0, 0], &[code, 1, 0, 0]]));
     for group in [16, 17] {
-        templates.push(template(1, &[&[group, 2, 256, 0, 0, 0, 256, 0, 0, 0]]));
-        templates.push(template(1, &[&[group, 2, 256, 0, 0, 0, 256, 9, 9999, 0]]));
-        templates.push(template(1, &[&[group, 2, 256, 0, 0, 0, 257, 0, 0, 0]]));
+        templates.push(template(1, &[&[group, 2, code, 0, 0, 0, code, 0, 0, 0]]));
+        templates.push(template(1, &[&[group, 2, code, 0, 0, 0, code, 9, 9999, 0]]));
+        templates.push(template(1, &[&[group, 2, code, 0, 0, 0, next, 0, 0, 0]]));
     }
     templates
 }

@@ -1,14 +1,16 @@
 //! Inputs for *Judge a grid*: sheets, each with a grid.
 //!
-//! | here      | what                                                                        |
-//! |-----------|-----------------------------------------------------------------------------|
-//! | `samples` | the examples of docs/FORMAT.md, and every grid of the worked sheet          |
-//! | `edges`   | each refusal of a grid from both sides                                      |
-//! | `orders`  | several faults at once: which one is told                                   |
-//! | `typings` | both typings of some sheets, typings between them, and what is a pair off   |
-//! | `limits`  | everything at its limit                                                     |
-//! | `grids`   | random grids                                                                |
+//! | here       | what                                                                       |
+//! |------------|----------------------------------------------------------------------------|
+//! | `samples`  | the examples of docs/FORMAT.md, and every grid of the worked sheet         |
+//! | `edges`    | each refusal of a grid from both sides                                     |
+//! | `arriving` | links that arrive                                                          |
+//! | `orders`   | several faults at once: which one is told                                  |
+//! | `typings`  | both typings of some sheets, typings between them, and what is a pair off  |
+//! | `limits`   | everything at its limit                                                    |
+//! | `grids`    | random grids                                                               |
 
+pub mod arriving;
 pub mod edges;
 pub mod grids;
 pub mod limits;
@@ -89,6 +91,7 @@ pub fn fixed() -> Vec<JudgeCase> {
         samples::samples(),
         samples::every_grid(),
         edges::edges(),
+        arriving::arriving(),
         orders::orders(),
         typings::typings(),
         limits::limits(),

@@ -3,7 +3,7 @@
 use super::layout::layout;
 use crate::random::Random;
 use crate::sheet::Files;
-use crate::template::{ALL, CHOICE, LINK, MOST_COUNT, MOST_DEPTH, NO_LIMIT};
+use crate::template::{ALL, CHOICE, INCOMING, MOST_COUNT, MOST_DEPTH, MOST_KINDS, NO_LIMIT, OUTGOING};
 
 /// Ties a knot in one of the three files of a whole sheet.
 pub fn tie(random: &mut Random, files: &mut Files) {
@@ -43,7 +43,7 @@ fn in_link(random: &mut Random, words: &mut [u16]) {
     let code = if random.chance(1, 2) {
         random.pick(&in_same_shape)
     } else {
-        LINK + words[0]
+        random.pick(&[OUTGOING, INCOMING]) + words[0]
     };
     let high = random.pick(&[0, MOST_COUNT + 1, NO_LIMIT - 1]);
     let shape = words[1];
@@ -63,9 +63,9 @@ fn in_depth(random: &mut Random, words: &mut Vec<u16>) {
     words[part.count_place] += deeper as u16;
     let place = part.place + deeper;
     match random.below(4) {
-        0 => words[place] = random.pick(&[4, 15, 18, 255, 320, 65535]),
+        0 => words[place] = random.pick(&[4, 15, 18, 255, 384, 65535]),
         1 => words[part.count_place] = (place - part.count_place - 1) as u16,
-        2 => words[place] = random.pick(&[LINK, LINK + 63]),
+        2 => words[place] = random.pick(&[OUTGOING, INCOMING, INCOMING + MOST_KINDS - 1]),
         _ => words[place] = random.pick(&[CHOICE, ALL]),
     }
 }

@@ -1,6 +1,6 @@
 //! Where things stand in the words of a template that is well-formed.
 
-use crate::template::{ALL, CHOICE, LINK, OPTIONAL, STAR};
+use crate::template::{ALL, CHOICE, OPTIONAL, OUTGOING, STAR};
 
 /// One part of the template.
 #[derive(Clone, Copy, PartialEq, Eq, Debug)]
@@ -59,7 +59,7 @@ impl Layout {
                 self.groups.push(spot);
                 (0..words[spot.place + 1]).fold(spot.place + 2, |place, _| self.part(words, inner(place)))
             }
-            LINK.. => {
+            OUTGOING.. => {
                 self.links.push(spot);
                 spot.place + 4
             }

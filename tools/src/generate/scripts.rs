@@ -1,8 +1,10 @@
 //! Random scripts. A derived script gives each card a wish, a shape, and then links that make the wish come true
-//! if the targets' wishes do. A loose script has links between any cards.
+//! if the wishes at their far ends do. A loose script has links between any cards.
 
-use super::{parts::draw, Scale};
-use crate::numbers::{Kind, Shape};
+use super::parts::{draw, Drawn};
+use super::Scale;
+use crate::labels::Way;
+use crate::numbers::Shape;
 use crate::random::Random;
 use crate::template::Template;
 use std::collections::{BTreeMap, BTreeSet};
@@ -34,60 +36,93 @@ pub fn derived(random: &mut Random, template: &Template, scale: Scale) -> Vec<u1
     for (wish, card) in wishes.iter().zip(0..) {
         holders[wish.index()].push(card);
     }
-    let mut links = Links::new();
-    for (wish, card) in wishes.iter().zip(0..) {
-        let bag = some_bag(random, template, *wish, generosity, &holders);
-        let wanted: usize = bag.values().sum();
-        if links.len() + wanted <= scale.links {
-            grant(random, card, &bag, &holders, &mut links);
+    let bags: Vec<Drawn> = wishes
+        .iter()
+        .map(|wish| some_bag(random, template, *wish, generosity, &holders))
+        .collect();
+    let mut granted = Granted::default();
+    for way in Way::BOTH {
+        for (bag, card) in bags.iter().zip(0..) {
+            granted.grant(random, (card, way), bag, &holders, scale.links);
         }
     }
+    let mut links = granted.links;
     if cards > 0 && random.chance(1, 2) {
         disturb(random, &mut links, cards, template.kinds, scale.links);
     }
     words(cards, &links)
 }
 
-/// A bag of the shape for which there are targets enough, rather not an empty one.
+/// A bag of the shape for which there are far cards enough, rather not an empty one.
 fn some_bag(
     random: &mut Random,
     template: &Template,
     shape: Shape,
     generosity: usize,
     holders: &[Vec<u16>],
-) -> BTreeMap<(Kind, Shape), usize> {
+) -> Drawn {
     for _ in 0..8 {
-        let mut bag = BTreeMap::new();
+        let mut bag = Drawn::new();
         draw(random, template.part(shape), generosity, &mut bag);
-        let targets_suffice = bag
+        let far_cards_suffice = bag
             .iter()
-            .all(|((_, target), number)| *number <= holders[target.index()].len());
-        if targets_suffice && (!bag.is_empty() || random.chance(1, 3)) {
+            .all(|((_, far), number)| *number <= holders[far.index()].len());
+        if far_cards_suffice && (!bag.is_empty() || random.chance(1, 3)) {
             return bag;
         }
     }
-    BTreeMap::new()
+    Drawn::new()
 }
 
-/// Links of the card to as many holders of each shape as the bag says.
-fn grant(
-    random: &mut Random,
-    card: u16,
-    bag: &BTreeMap<(Kind, Shape), usize>,
-    holders: &[Vec<u16>],
-    links: &mut Links,
-) {
-    for ((kind, target), number) in bag {
-        let targets = &holders[target.index()];
-        let start = random.below(targets.len());
-        for step in 0..*number {
-            links.insert((card, kind.0, targets[(start + step) % targets.len()]));
+/// The links that were granted, and how many of each kind arrive at each card.
+#[derive(Default)]
+struct Granted {
+    links: Links,
+    arrived: BTreeMap<(u16, u16), usize>,
+}
+
+impl Granted {
+    /// Links between the card and as many holders of each shape as the bag says of this way, as long as there are at
+    /// most so many links. Of incoming ones, those that have arrived already are granted.
+    fn grant(
+        &mut self,
+        random: &mut Random,
+        (card, way): (u16, Way),
+        bag: &Drawn,
+        holders: &[Vec<u16>],
+        most: usize,
+    ) {
+        for ((label, far), number) in bag.iter().filter(|((label, _), _)| label.way == way) {
+            let kind = label.kind.0;
+            let there = match way {
+                Way::Outgoing => 0,
+                Way::Incoming => self.arrived.get(&(kind, card)).copied().unwrap_or(0),
+            };
+            let missing = number.saturating_sub(there);
+            if self.links.len() + missing > most {
+                return;
+            }
+            let far_cards = &holders[far.index()];
+            let start = random.below(far_cards.len());
+            for step in 0..missing {
+                let far = far_cards[(start + step) % far_cards.len()];
+                match way {
+                    Way::Outgoing => self.insert(card, kind, far),
+                    Way::Incoming => self.insert(far, kind, card),
+                }
+            }
+        }
+    }
+
+    fn insert(&mut self, from: u16, kind: u16, to: u16) {
+        if self.links.insert((from, kind, to)) {
+            *self.arrived.entry((kind, to)).or_insert(0) += 1;
         }
     }
 }
 
 /// Takes a few links away and puts a few others in.
-fn disturb(random: &mut Random, links: &mut Links, cards: u16, kinds: u16, most: usize) {
+pub fn disturb(random: &mut Random, links: &mut Links, cards: u16, kinds: u16, most: usize) {
     for _ in 0..random.between(1, 3) {
         if random.chance(1, 2) && !links.is_empty() {
             let gone = links.iter().nth(random.below(links.len())).copied();
@@ -115,12 +150,11 @@ pub fn loose(random: &mut Random, template: &Template, scale: Scale) -> Vec<u16>
     words(cards, &links)
 }
 
+/// Any link; those from a card to itself come more often than others.
 fn any_link(random: &mut Random, cards: u16, kinds: u16) -> (u16, u16, u16) {
-    (
-        random.word(0, cards - 1),
-        random.word(0, kinds - 1),
-        random.word(0, cards - 1),
-    )
+    let (from, other) = (random.word(0, cards - 1), random.word(0, cards - 1));
+    let to = random.pick(&[from, other, other, other, other, other, other, other]);
+    (from, random.word(0, kinds - 1), to)
 }
 
 /// A count of cards; 0 and the limit come more often than others.

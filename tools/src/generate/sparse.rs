@@ -3,9 +3,10 @@
 
 use super::scripts;
 use crate::fit::intervals::fits;
+use crate::labels::{Label, Labelled, Way};
 use crate::numbers::{Kind, Shape};
 use crate::random::Random;
-use crate::template::{self, Link, Part, Template, MOST_WORDS};
+use crate::template::{self, Part, Template, MOST_WORDS};
 use std::ops::Range;
 
 /// Which links of a card stay.
@@ -69,18 +70,22 @@ fn stays(stay: &[Stay], (from, _, to): (u16, u16, u16)) -> bool {
     leaves && arrives
 }
 
-/// Puts a link that must be there in the place of each part that takes the empty bag, as long as the words suffice.
+/// Puts a link that must be there in the place of each part that takes the empty bag, as long as the words suffice. It
+/// runs one of the ways that the template names.
 pub fn demand(random: &mut Random, template: &mut Template) {
     let mut room = MOST_WORDS - template::write(template).len();
     let (kinds, shapes) = (template.kinds, template.shapes());
-    let no_links = vec![0; usize::from(kinds)];
+    let no_links = Labelled::new(kinds, 0);
+    let links = template.parts.iter().flat_map(Part::links);
+    let mut ways: Vec<Way> = links.map(|link| link.label.way).collect();
+    ways.push(Way::Outgoing);
     for part in &mut template.parts {
-        let wanted = Part::Link(Link {
+        let label = Label {
+            way: random.pick(&ways),
             kind: Kind(random.word(0, kinds - 1)),
-            shape: Shape(random.word(0, shapes - 1)),
-            low: 1,
-            high: random.pick(&[None, Some(1), Some(2)]),
-        });
+        };
+        let shape = Shape(random.word(0, shapes - 1));
+        let wanted = Part::link(label, shape, 1, random.pick(&[None, Some(1), Some(2)]));
         let more = wanted.words().len().saturating_sub(part.words().len());
         if more <= room && fits(part, &no_links) {
             room -= more;

@@ -1,12 +1,13 @@
 //! Sheets made on purpose: the worked one, long chains of strikes, and everything at its limit.
 
-use super::parts::{filler, template as any_template};
-use super::{bookings, scripts, Case, FULL};
-use crate::numbers::{Card, Kind, Shape};
+use super::parts::{filler, outgoing, template as any_template};
+use super::{bookings, scripts, turns, Case, FULL};
+use crate::labels::Label;
+use crate::numbers::{Card, Shape};
 use crate::random::Random;
 use crate::script::{MOST_CARDS, MOST_LINKS};
 use crate::sheet::{Files, MOST_BYTES};
-use crate::template::{self, Link, Part, Template, MOST_KINDS, MOST_SHAPES, MOST_WORDS};
+use crate::template::{self, Part, Template, MOST_KINDS, MOST_SHAPES, MOST_WORDS};
 use crate::typing::bookings::MOST_BOOKINGS;
 use crate::typing::Setting;
 
@@ -62,26 +63,19 @@ pub fn fixed() -> Vec<Case> {
 
 /// A random one of this kind of sheet.
 pub fn random(random: &mut Random) -> Case {
-    match random.below(8) {
-        0..=2 => {
-            let cards = random.word(1, 60);
-            let closed = random.chance(1, 4);
-            Case {
-                name: format!("chain-{cards}"),
-                bytes: chain(cards, closed).bytes(),
-            }
-        }
-        3..=6 => {
-            let (cards, shapes) = random.pick(&[(7, 3), (11, 4), (13, 5), (25, 2), (31, 3), (9, 8), (5, 32)]);
-            Case {
-                name: format!("longest-{cards}-{shapes}"),
-                bytes: longest(cards, shapes).bytes(),
-            }
-        }
-        _ => Case {
-            name: "limits".to_string(),
-            bytes: limits(random).bytes(),
-        },
+    let cards = random.word(1, 60);
+    let (ring, shapes) = random.pick(&[(7, 3), (11, 4), (13, 5), (25, 2), (31, 3), (9, 8), (5, 31)]);
+    let (name, files) = match random.below(8) {
+        0 => ("chain", chain(cards, random.chance(1, 4))),
+        1 => ("chain-back", turns::chain_back(cards, random.chance(1, 4))),
+        2 => ("zigzag", turns::zigzag(cards, random.chance(3, 4))),
+        3 | 4 => ("longest", longest(ring, shapes)),
+        5 | 6 => ("longest-back", turns::longest_back(ring, shapes)),
+        _ => ("limits", limits(random)),
+    };
+    Case {
+        name: name.to_string(),
+        bytes: files.bytes(),
     }
 }
 
@@ -90,7 +84,7 @@ pub fn random(random: &mut Random) -> Case {
 pub fn chain(cards: u16, closed: bool) -> Files {
     let template = Template {
         kinds: 1,
-        parts: vec![link(0, 0, 1, Some(1))],
+        parts: vec![outgoing(0, 0, 1, Some(1))],
     };
     let mut links: scripts::Links = (1..cards).map(|to| (to - 1, 0, to)).collect();
     if closed {
@@ -109,12 +103,12 @@ pub fn chain(cards: u16, closed: bool) -> Files {
 /// The cards form a ring, and shape t asks for shape t + 1 at the next card. Card 0 has one link more, of a kind
 /// that all shapes but shape 0 take.
 pub fn longest(cards: u16, shapes: u16) -> Files {
-    let mut parts = vec![link(0, 1 % shapes, 1, Some(1))];
+    let mut parts = vec![outgoing(0, 1 % shapes, 1, Some(1))];
     for shape in 1..shapes {
         let next = (shape + 1) % shapes;
         parts.push(Part::All(vec![
-            link(0, next, 1, Some(1)),
-            link(1, next, 0, Some(1)),
+            outgoing(0, next, 1, Some(1)),
+            outgoing(1, next, 0, Some(1)),
         ]));
     }
     let mut links: scripts::Links = (0..cards).map(|card| (card, 0, (card + 1) % cards)).collect();
@@ -155,13 +149,9 @@ fn full_template(random: &mut Random) -> Template {
     while template.parts.len() < usize::from(MOST_SHAPES) - 2 {
         template.parts.push(Part::Nothing);
     }
-    // A shape that takes any links, so that not all pairs are struck.
-    let kinds = 0..MOST_KINDS;
-    let fours = kinds
-        .map(|kind| link(kind, MOST_SHAPES - 2, 0, None))
-        .collect::<Vec<_>>();
-    let takes_all = Part::All(fours.chunks(4).map(|four| Part::All(four.to_vec())).collect());
-    for part in [takes_all, Part::Nothing] {
+    // A shape that names each label and takes any links, so that not all pairs are struck.
+    let links = Label::all(MOST_KINDS).map(|label| Part::link(label, Shape(MOST_SHAPES - 2), 0, None));
+    for part in [Part::all_of(links.collect()), Part::Nothing] {
         template.parts.push(part);
     }
     // If the words don't suffice, the longest of the random shapes go.
@@ -199,13 +189,4 @@ fn fill_bookings(list: &mut Vec<u16>) {
             .take(2 * usize::from(MOST_BOOKINGS) - pairs.len()),
     );
     list[0] = MOST_BOOKINGS;
-}
-
-fn link(kind: u16, shape: u16, low: u16, high: Option<u16>) -> Part {
-    Part::Link(Link {
-        kind: Kind(kind),
-        shape: Shape(shape),
-        low,
-        high,
-    })
 }

@@ -68,10 +68,7 @@ fn read_template(question: &Question) -> String {
 }
 
 fn fit_counts(question: &Question) -> String {
-    match fit::fit(&question.template, question.shape, &question.counts) {
-        Ok(fits) => if fits { "yes" } else { "no" }.to_string(),
-        Err(refusal) => refused(refusal),
-    }
+    fit::lines::written(fit::fit(&question.template, question.shape, &question.counts))
 }
 
 fn read_script(question: &Question) -> String {

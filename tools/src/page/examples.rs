@@ -81,7 +81,7 @@ pub struct Question {
     pub script: Vec<u16>,
     /// The bookings' words.
     pub bookings: Vec<u16>,
-    /// A count per kind.
+    /// A count for each kind each way.
     pub counts: Vec<u16>,
     /// A shape.
     pub shape: u16,

@@ -2,10 +2,11 @@
 
 use super::answers::{files, lines};
 use super::examples::{Operation, Question};
+use crate::generate::counted;
+use crate::labels::Labelled;
 use crate::numbers::Shape;
-use crate::script::{MOST_CARDS, MOST_LINKS};
 use crate::sheet::Files;
-use crate::template::{self, Link, Part, Template};
+use crate::template;
 use crate::typing::{bookings, Setting};
 
 /// The input whose sheet tells the answer, if there is one.
@@ -72,35 +73,11 @@ fn size_is_right(question: &Question) -> bool {
     bookings_are_refused || question.bytes == setting.size()
 }
 
-/// A sheet whose bookings are met exactly if the counts fit: card 0 has that many links of each kind, all to cards
-/// without links, and is booked for the shape; every link of the shape asks for a second shape, which is nothing.
+/// A sheet whose bookings are met exactly if the counts fit; none if something is refused or there are too many.
 fn counted(question: &Question) -> Option<Files> {
     let template = template::read(&question.template).ok()?;
-    let total: usize = question.counts.iter().map(|count| usize::from(*count)).sum();
-    let most = question.counts.iter().max()?;
-    let fits_in = *most < MOST_CARDS && total <= usize::from(MOST_LINKS);
-    let is_asked = question.shape < template.shapes() && question.counts.len() == usize::from(template.kinds);
-    if !fits_in || !is_asked {
-        return None;
-    }
-    let mut script = vec![1 + most, total as u16];
-    for (kind, count) in (0..).zip(&question.counts) {
-        for card in 1..=*count {
-            script.extend([0, kind, card]);
-        }
-    }
-    let to_second = |link: Link| Link {
-        shape: Shape(1),
-        ..link
-    };
-    let part = template.part(Shape(question.shape)).with_links(&to_second);
-    let template = Template {
-        kinds: template.kinds,
-        parts: vec![part, Part::Nothing],
-    };
-    Some(Files {
-        template: template::write(&template),
-        script,
-        bookings: vec![1, 0, 0],
-    })
+    let is_asked =
+        question.shape < template.shapes() && question.counts.len() == 2 * usize::from(template.kinds);
+    let part = is_asked.then(|| template.part(Shape(question.shape)))?;
+    counted::sheet(part, &Labelled::from(question.counts.clone()))
 }

@@ -3,9 +3,10 @@
 //! twice, files too long to be counted. All else is left to the readers of the words.
 
 use super::nearest::nearest;
-use super::{Expression, Fault, Name, Spot, Text};
+use super::{Expression, Fault, LinkExpression, Name, Spot, Text};
+use crate::labels::Way;
 use crate::sheet::Files;
-use crate::template::{CHOICE, LINK, NOTHING, NO_LIMIT, PLUS, STAR};
+use crate::template::{CHOICE, INCOMING, NOTHING, NO_LIMIT, OUTGOING, PLUS, STAR};
 use std::collections::HashMap;
 
 /// Where a word comes from.
@@ -162,20 +163,29 @@ impl Compiler<'_> {
                     self.part(inner, shape, section)?;
                 }
             }
-            Expression::Link(link) => {
-                let kind = find(&self.kinds, "kind", &link.kind)?;
-                let code = LINK.checked_add(kind).ok_or_else(|| {
-                    Fault::at(link.kind.spot, "no word can say a kind with so high a number")
-                })?;
-                let of = format!("the link {} in shape {shape}", link.kind.text);
-                section.push(code, link.kind.spot, format!("the code of {of}"));
-                let target = find(&self.shapes, "shape", &link.shape)?;
-                section.push(target, link.shape.spot, format!("the shape of {of}"));
-                section.push(link.low.0, link.low.1, format!("the low of {of}"));
-                let high = link.high.0.unwrap_or(NO_LIMIT);
-                section.push(high, link.high.1, format!("the high of {of}"));
-            }
+            Expression::Link(link) => self.link(link, shape, section)?,
         }
+        Ok(())
+    }
+
+    /// The words of a link part of the named shape.
+    fn link(&self, link: &LinkExpression, shape: &str, section: &mut Section) -> Result<(), Fault> {
+        let (way, spot) = link.way;
+        let (first, what) = match way {
+            Way::Outgoing => (OUTGOING, "link"),
+            Way::Incoming => (INCOMING, "arriving link"),
+        };
+        let kind = find(&self.kinds, "kind", &link.kind)?;
+        let code = first
+            .checked_add(kind)
+            .ok_or_else(|| Fault::at(link.kind.spot, "no word can say a kind with so high a number"))?;
+        let of = format!("the {what} {} in shape {shape}", link.kind.text);
+        section.push(code, spot, format!("the code of {of}"));
+        let far = find(&self.shapes, "shape", &link.shape)?;
+        section.push(far, link.shape.spot, format!("the shape of {of}"));
+        section.push(link.low.0, link.low.1, format!("the low of {of}"));
+        let high = link.high.0.unwrap_or(NO_LIMIT);
+        section.push(high, link.high.1, format!("the high of {of}"));
         Ok(())
     }
 

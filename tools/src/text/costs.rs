@@ -1,9 +1,10 @@
 //! How far counts are from those that a part takes. For each number of repetitions there is a cost: what has to be
-//! added to the counts of the part's kinds, or taken away, to make them a sum of that many bags of the part.
+//! added to the counts of the part's labels, or taken away, to make them a sum of that many bags of the part.
 //!
 //! As a function of the repetitions the cost of a link is convex, and so is that of any part made of convex ones. So
 //! a choice shares repetitions out step by step, each to the branch where one more costs least.
 
+use crate::labels::Labelled;
 use crate::template::{Link, Part};
 
 /// The cost of a link that is missing.
@@ -24,13 +25,14 @@ pub struct Costed<'a> {
 }
 
 impl<'a> Costed<'a> {
-    /// A part with its costs for 0 to one repetition more than there are links. More never cost less.
-    pub fn new(part: &'a Part, counts: &[u16]) -> Costed<'a> {
-        let total: usize = counts.iter().map(|count| usize::from(*count)).sum();
+    /// A part with its costs for 0 to one repetition more than there are links with its labels. More never cost less.
+    pub fn new(part: &'a Part, counts: &Labelled<u16>) -> Costed<'a> {
+        let links = part.links();
+        let total: usize = links.iter().map(|link| usize::from(counts[link.label])).sum();
         Costed::up_to(part, counts, total + 1)
     }
 
-    fn up_to(part: &'a Part, counts: &[u16], most: usize) -> Costed<'a> {
+    fn up_to(part: &'a Part, counts: &Labelled<u16>, most: usize) -> Costed<'a> {
         let of = |part| Costed::up_to(part, counts, most);
         let inner: Vec<Costed> = match part {
             Part::Nothing | Part::Link(_) => Vec::new(),
@@ -46,7 +48,7 @@ impl<'a> Costed<'a> {
         };
         costed.costs = match part {
             Part::Link(link) => {
-                let count = counts[link.kind.index()];
+                let count = counts[link.label];
                 (0..=most).map(|times| link_cost(link, times, count)).collect()
             }
             _ if !has_costs => Vec::new(),

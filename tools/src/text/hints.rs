@@ -25,7 +25,8 @@ pub fn hint(compiled: &Compiled, refusal: Refusal) -> Option<String> {
             shapes => over(shapes, "shapes", MOST_SHAPES),
         },
         6 => format!("parts lie more than {MOST_DEPTH} deep within each other here"),
-        8 => "the kind stands earlier in this shape; each may stand there once".to_string(),
+        8 => "the kind stands earlier in this shape the same way; each may stand there once each way"
+            .to_string(),
         10 => bounds(of_template(place)?, of_template(place + 1)?),
         11 => format!(
             "choice and all take 2 to {MOST_GROUP} parts, not {}",

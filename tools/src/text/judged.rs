@@ -4,7 +4,7 @@ use super::check::Sheet;
 use super::form::Form;
 use super::reasons::{asked_for, own_misfit, reason};
 use super::report::counted;
-use super::roots::{Roots, Step};
+use super::roots::Roots;
 use super::sentences::{a_shape, because, called, far_cards, wrong};
 use super::told::Told;
 use super::trouble::place;
@@ -12,6 +12,7 @@ use super::{explain, roles};
 use crate::numbers::{Card, Shape};
 use crate::refusal::Refusal;
 use crate::typing::judge::{judged, Judged};
+use crate::typing::met::Need;
 use crate::typing::Pair;
 
 /// What is said about a grid of a sheet, and whether it is accepted.
@@ -47,8 +48,8 @@ fn not_met(sheet: &Sheet, file: &str, grid: &[u8], pair: Pair) -> String {
     let why = match own_misfit(&sheet.setting, pair) {
         Some(misfit) => format!("{who} can't be {what}: {}", wrong(text, &misfit)),
         None => {
-            let missing = |step: &Step| !sheet.has(grid, step.1);
-            let missing: Vec<Step> = asked_for(&sheet.setting, pair)
+            let missing = |need: &Need| !sheet.has(grid, need.1);
+            let missing: Vec<Need> = asked_for(&sheet.setting, pair)
                 .into_iter()
                 .filter(missing)
                 .collect();
@@ -153,7 +154,7 @@ pub fn explain_pair(sheet: &Sheet, file: &str, pair: Pair) -> String {
     let asked = asked_for(&sheet.setting, pair);
     if asked.is_empty() {
         return format!(
-            "{start}: {who} has no links and can be {what} under every grid, so 62 isn't about it\n"
+            "{start}: {who} needs no other card and can be {what} under every grid, so 62 isn't about it\n"
         );
     }
     let never = never(sheet, pair);

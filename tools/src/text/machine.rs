@@ -4,13 +4,14 @@ use super::check::Sheet;
 use super::form::Form;
 use super::json::Json;
 use super::misfit::Lack;
-use super::reasons::{all_not_met, way, Reason};
+use super::reasons::{all_not_met, path, Reason};
 use super::report::bare;
 use super::roots::Roots;
 use super::sentences::{because, wrong};
 use super::told::Told;
 use super::trouble::{Trouble, Why};
 use super::Spot;
+use crate::labels::{Label, Way};
 use crate::numbers::{Card, Shape};
 use crate::typing::{Pair, Smallest};
 
@@ -137,16 +138,28 @@ fn pair_fields(sheet: &Sheet, (card, shape): Pair) -> Vec<(&'static str, Json)> 
     ]
 }
 
-/// The pair of 50, and the way to it from a booking, which is the first pair of the way.
+/// A label: the name of its kind, and the direction of its links seen from the card.
+fn label_fields(sheet: &Sheet, label: Label) -> Vec<(&'static str, Json)> {
+    let direction = match label.way {
+        Way::Outgoing => "outgoing",
+        Way::Incoming => "incoming",
+    };
+    vec![
+        ("kind", Json::text(&sheet.text.kinds[label.kind.index()].text)),
+        ("direction", Json::text(direction)),
+    ]
+}
+
+/// The pair of 50, and the path to it from a booking, which is the first pair of the path.
 fn unmet(sheet: &Sheet, reason: &Reason) -> Json {
     let mut fields = unmet_fields(sheet, reason);
-    let steps = way(&sheet.setting, &sheet.booked, reason.pair).unwrap_or_default();
-    let way = Json::list(steps, |(asking, kind)| {
+    let steps = path(&sheet.setting, &sheet.booked, reason.pair).unwrap_or_default();
+    let steps = Json::list(steps, |(asking, label)| {
         let mut step = pair_fields(sheet, asking);
-        step.push(("kind", Json::text(&sheet.text.kinds[kind.index()].text)));
+        step.extend(label_fields(sheet, label));
         Json::Fields(step)
     });
-    fields.push(("way", way));
+    fields.push(("way", steps));
     Json::Fields(fields)
 }
 
@@ -188,12 +201,13 @@ fn bare_reason(sheet: &Sheet, reason: &Reason) -> Json {
 }
 
 fn lack(sheet: &Sheet, lack: &Lack) -> Json {
-    Json::Fields(vec![
-        ("kind", Json::text(&sheet.text.kinds[lack.kind.index()].text)),
+    let mut fields = label_fields(sheet, lack.label);
+    fields.extend([
         ("low", Json::Number(lack.low)),
         ("high", Json::maybe(lack.high, Json::Number)),
         ("there", Json::count(lack.there.into())),
-    ])
+    ]);
+    Json::Fields(fields)
 }
 
 /// A card and its shapes in both typings.

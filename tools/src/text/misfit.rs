@@ -1,14 +1,14 @@
 //! What a card's links lack for a shape, or have too many of: told by the nearest counts that fit.
 
 use super::costs::{range, Costed};
-use crate::numbers::Kind;
+use crate::labels::{Label, Labelled, Way};
 use crate::template::Part;
 
-/// A kind of which there are too few links or too many.
+/// A label with which there are too few links or too many.
 #[derive(Clone, Copy, PartialEq, Eq, Debug)]
 pub struct Lack {
-    /// The kind.
-    pub kind: Kind,
+    /// The label.
+    pub label: Label,
     /// The fewest links that are wanted.
     pub low: u64,
     /// The most that are wanted; none for no limit.
@@ -26,9 +26,9 @@ impl Lack {
     }
 }
 
-/// How the nearest counts come about, where the shape leaves room.
+/// What the nearest counts take of the shape, where it leaves room.
 #[derive(Clone, PartialEq, Eq, Debug)]
-pub enum Way {
+pub enum Taken {
     /// This branch of a choice came nearest; these came as near.
     Branch(Part, Vec<Part>),
     /// This part is taken that often.
@@ -38,10 +38,10 @@ pub enum Way {
 /// Why counts don't fit a part.
 #[derive(Clone, PartialEq, Eq, Debug)]
 pub struct Misfit {
-    /// The kinds at fault.
+    /// The labels at fault.
     pub lacks: Vec<Lack>,
-    /// How the nearest counts come about.
-    pub ways: Vec<Way>,
+    /// What the nearest counts take.
+    pub taken: Vec<Taken>,
 }
 
 impl Misfit {
@@ -51,26 +51,26 @@ impl Misfit {
     }
 }
 
-/// Why the counts, one per kind, don't fit the whole part of a shape; none if they do.
-pub fn misfit(part: &Part, counts: &[u16]) -> Option<Misfit> {
+/// Why the counts don't fit the whole part of a shape; none if they do.
+pub fn misfit(part: &Part, counts: &Labelled<u16>) -> Option<Misfit> {
     let mut misfit = Misfit {
         lacks: Vec::new(),
-        ways: Vec::new(),
+        taken: Vec::new(),
     };
     misfit.look(&Costed::new(part, counts), 1, counts);
-    let named = part.named(counts.len() as u16);
-    for (kind, there) in (0..).map(Kind).zip(counts) {
-        if *there > 0 && named[kind.index()].is_none() {
-            misfit.lack(kind, (0, Some(0)), *there);
+    let named = part.named(counts.kinds());
+    for (label, there) in counts.iter() {
+        if label.way == Way::Outgoing && named[label].is_none() && *there > 0 {
+            misfit.lack(label, (0, Some(0)), *there);
         }
     }
     (!misfit.lacks.is_empty()).then_some(misfit)
 }
 
 impl Misfit {
-    fn lack(&mut self, kind: Kind, (low, high): (u64, Option<u64>), there: u16) {
+    fn lack(&mut self, label: Label, (low, high): (u64, Option<u64>), there: u16) {
         self.lacks.push(Lack {
-            kind,
+            label,
             low,
             high,
             there,
@@ -78,20 +78,20 @@ impl Misfit {
     }
 
     /// Looks for what is wrong if a part is repeated this often.
-    fn look(&mut self, costed: &Costed, times: usize, counts: &[u16]) {
+    fn look(&mut self, costed: &Costed, times: usize, counts: &Labelled<u16>) {
         if costed.cost(times) == 0 {
             return;
         }
         let part = costed.part;
         match part {
             Part::Nothing => {}
-            Part::Link(link) => self.lack(link.kind, range(link, times), counts[link.kind.index()]),
+            Part::Link(link) => self.lack(link.label, range(link, times), counts[link.label]),
             Part::Choice(_) => self.choice(costed, times, counts),
             _ => {
                 let each = costed.inner_times(times);
                 let is_free = matches!(part, Part::Star(_) | Part::Plus(_)) && times > 0;
                 if is_free || (each, times) == (0, 1) {
-                    self.ways.push(Way::Times(costed.inner[0].part.clone(), each));
+                    self.taken.push(Taken::Times(costed.inner[0].part.clone(), each));
                 }
                 for inner in &costed.inner {
                     self.look(inner, each, counts);
@@ -100,7 +100,7 @@ impl Misfit {
         }
     }
 
-    fn choice(&mut self, costed: &Costed, times: usize, counts: &[u16]) {
+    fn choice(&mut self, costed: &Costed, times: usize, counts: &Labelled<u16>) {
         let shares = costed.shares(times);
         if times == 1 {
             let step = |branch: &Costed| branch.cost(1) as i64 - branch.cost(0) as i64;
@@ -109,7 +109,7 @@ impl Misfit {
             let others = costed.inner.iter().enumerate();
             let as_near = others.filter(|(place, other)| *place != taken && step(other) == step(nearest));
             let as_near = as_near.map(|(_, other)| other.part.clone()).collect();
-            self.ways.push(Way::Branch(nearest.part.clone(), as_near));
+            self.taken.push(Taken::Branch(nearest.part.clone(), as_near));
         }
         for (branch, share) in costed.inner.iter().zip(shares) {
             self.look(branch, share, counts);

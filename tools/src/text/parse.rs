@@ -3,6 +3,7 @@
 
 use super::tokens::{tokens, Placed, Token};
 use super::{Expression, Fault, LinkExpression, Name, Spot, Text};
+use crate::labels::Way;
 use crate::template::{ALL, CHOICE, NO_LIMIT, OPTIONAL, PLUS, STAR};
 
 /// The most parts within each other that are read. Words take 12; deeper parts up to here are refused as words.
@@ -194,12 +195,16 @@ impl Parser<'_> {
             self.close("`)`", start)?;
             return Ok(inner);
         }
+        if self.takes('^') {
+            let kind = self.name("a kind")?;
+            return Ok((self.link((Way::Incoming, start), kind)?, 1));
+        }
         let name = self.name("a kind, or nothing, choice or all")?;
         match name.text.as_str() {
             "nothing" => Ok((Expression::Nothing(name.spot), 1)),
             "choice" => self.group(CHOICE, name.spot),
             "all" => self.group(ALL, name.spot),
-            _ => Ok((self.link(name)?, 1)),
+            _ => Ok((self.link((Way::Outgoing, start), name)?, 1)),
         }
     }
 
@@ -238,7 +243,7 @@ impl Parser<'_> {
     }
 
     /// What follows a link's kind.
-    fn link(&mut self, kind: Name) -> Result<Expression, Fault> {
+    fn link(&mut self, way: (Way, Spot), kind: Name) -> Result<Expression, Fault> {
         self.expect('[')?;
         let low = self.number("the low")?;
         self.expect(';')?;
@@ -252,6 +257,7 @@ impl Parser<'_> {
         self.expect('@')?;
         let shape = self.name("a shape")?;
         Ok(Expression::Link(LinkExpression {
+            way,
             kind,
             shape,
             low,

@@ -2,8 +2,10 @@
 
 use super::check::Sheet;
 use super::misfit::{misfit, Misfit};
-use super::roots::{Roots, Step as Towards};
-use crate::numbers::{Card, Kind, Shape};
+use super::roots::Roots;
+use crate::labels::{Label, Way};
+use crate::numbers::{Card, Shape};
+use crate::typing::met::{needs, Need};
 use crate::typing::{closure, Pair, Setting};
 use std::collections::{HashMap, VecDeque};
 
@@ -13,12 +15,12 @@ pub struct Reason {
     /// The pair.
     pub pair: Pair,
     /// The steps to the pair that is to blame; none if that is the pair itself.
-    pub steps: Vec<Towards>,
+    pub steps: Vec<Need>,
     /// What is wrong with the links of the card that is to blame.
     pub misfit: Misfit,
-    /// How many links of the card itself are missing, too many, or lead to a card that can't be what it must be.
+    /// How many links of the card itself are missing, too many, or join it to a card that can't be what it must be.
     pub distance: u64,
-    /// Whether the card has a link of a kind that the shape doesn't name.
+    /// Whether a link starts at the card whose kind the shape doesn't name as outgoing.
     pub strange: bool,
 }
 
@@ -35,7 +37,9 @@ pub fn reason(sheet: &Sheet, roots: &Roots, pair: Pair) -> Option<Reason> {
     let root = steps.last().map_or(pair, |(_, pair)| *pair);
     let own = own_misfit(&sheet.setting, pair);
     let distance = own.as_ref().map_or(0, Misfit::distance);
-    let (far, strange) = targets(sheet, pair);
+    let needed = asked_for(&sheet.setting, pair);
+    let is_missing = |need: &&Need| !sheet.has(&sheet.both.largest.1, need.1);
+    let far = needed.iter().filter(is_missing).count() as u64;
     Some(Reason {
         pair,
         misfit: match own {
@@ -44,7 +48,7 @@ pub fn reason(sheet: &Sheet, roots: &Roots, pair: Pair) -> Option<Reason> {
         },
         steps,
         distance: distance + far,
-        strange,
+        strange: is_strange(&sheet.setting, pair),
     })
 }
 
@@ -76,37 +80,24 @@ pub fn own_misfit(setting: &Setting, (card, shape): Pair) -> Option<Misfit> {
     misfit(setting.template.part(shape), &counts)
 }
 
-/// What a pair asks for: for each link of its card whose kind the shape names, the kind and the pair at the far end.
-pub fn asked_for(setting: &Setting, (card, shape): Pair) -> Vec<Towards> {
+/// What a pair asks for.
+pub fn asked_for(setting: &Setting, (card, shape): Pair) -> Vec<Need> {
     let named = setting.template.part(shape).named(setting.template.kinds);
-    let links = setting.script.links_of(card).iter();
-    links
-        .filter_map(|link| Some((link.kind, (link.to, named[link.kind.index()]?))))
-        .collect()
+    needs(setting, &named, card).collect()
 }
 
-/// How many links lead to a card that can't be what it must be, and whether the shape doesn't name one's kind.
-fn targets(sheet: &Sheet, (card, shape): Pair) -> (u64, bool) {
-    let named = sheet
-        .setting
-        .template
-        .part(shape)
-        .named(sheet.setting.template.kinds);
-    let (mut far, mut strange) = (0, false);
-    for link in sheet.setting.script.links_of(card) {
-        match named[link.kind.index()] {
-            Some(needed) => far += u64::from(!sheet.has(&sheet.both.largest.1, (link.to, needed))),
-            None => strange = true,
-        }
-    }
-    (far, strange)
+/// Whether a link starts at the card whose kind the shape doesn't name as outgoing.
+fn is_strange(setting: &Setting, (card, shape): Pair) -> bool {
+    let named = setting.template.part(shape).named(setting.template.kinds);
+    let mut ends = setting.script.ends_of(card).iter();
+    ends.any(|end| end.label.way == Way::Outgoing && named[end.label].is_none())
 }
 
-/// One step of the way from a booking to a pair: the pair that asks, and the kind by which it does.
-pub type Step = (Pair, Kind);
+/// One step of the path from a booking to a pair: the pair that asks, and the label by which it does.
+pub type Step = (Pair, Label);
 
-/// The shortest way from a booking to a pair of the closure; empty if the pair is booked itself.
-pub fn way(setting: &Setting, booked: &[Pair], goal: Pair) -> Option<Vec<Step>> {
+/// The shortest path from a booking to a pair of the closure; empty if the pair is booked itself.
+pub fn path(setting: &Setting, booked: &[Pair], goal: Pair) -> Option<Vec<Step>> {
     let named = setting.template.named();
     let key = |(card, shape): Pair| (card.0, shape.0);
     let mut before: HashMap<(u16, u16), Option<Step>> = HashMap::new();
@@ -117,14 +108,10 @@ pub fn way(setting: &Setting, booked: &[Pair], goal: Pair) -> Option<Vec<Step>> 
         }
     }
     while let Some((card, shape)) = queue.pop_front() {
-        for link in setting.script.links_of(card) {
-            let Some(needed) = named[shape.index()][link.kind.index()] else {
-                continue;
-            };
-            let next = (link.to, needed);
+        for (label, next) in needs(setting, &named[shape.index()], card) {
             before.entry(key(next)).or_insert_with(|| {
                 queue.push_back(next);
-                Some(((card, shape), link.kind))
+                Some(((card, shape), label))
             });
         }
     }

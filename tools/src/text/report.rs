@@ -2,7 +2,7 @@
 //! shape, those that are to blame themselves before those that only lead there.
 
 use super::check::Sheet;
-use super::reasons::{all_not_met, reason, reasons, way, Reason};
+use super::reasons::{all_not_met, path, reason, reasons, Reason};
 use super::roots::Roots;
 use super::sentences::{a_shape, because, booked_by, cannot};
 use super::trouble::place;
@@ -76,7 +76,7 @@ pub fn not_met(sheet: &Sheet, roots: &Roots, file: &str, pair: Pair) -> String {
             card.0, shape.0
         );
     }
-    let steps = way(&sheet.setting, &sheet.booked, pair);
+    let steps = path(&sheet.setting, &sheet.booked, pair);
     told + &format!("  {}\n", booked_by(text, steps.as_deref(), pair))
 }
 

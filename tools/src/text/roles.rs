@@ -1,9 +1,10 @@
 //! What the word at a place of a file is for, as far as the file can be followed, and refusals told with it.
 
 use super::told::{Told, Word};
+use crate::labels::Way;
 use crate::refusal::Refusal;
 use crate::sheet::{Files, MOST_BYTES};
-use crate::template::{CHOICE, LINK, MOST_DEPTH, NOTHING, OPTIONAL, PLUS, STAR};
+use crate::template::{label_of, CHOICE, MOST_DEPTH, NOTHING, OPTIONAL, PLUS, STAR};
 
 /// The file that a refusal's place is counted in: its name and its words. None for 40 to 43, 60 and 61.
 pub fn file_of(files: &Files, refusal: Refusal) -> Option<(&'static str, &[u16])> {
@@ -142,17 +143,24 @@ impl Walk<'_> {
                     self.part(shape, depth + 1)?;
                 }
             }
-            LINK..=319 => {
-                let of = format!("the link of kind {} {within}", code - LINK);
-                self.note(format!("the code of {of}"));
-                for word in ["shape", "low", "high"] {
-                    self.note(format!("the {word} of {of}"));
-                }
-            }
-            _ => {
-                self.note(format!("the code of a part {within}"));
-                return None;
-            }
+            _ => return self.link(code, &within),
+        }
+        Some(())
+    }
+
+    /// The words of a link with this code; none if it isn't the code of a link.
+    fn link(&mut self, code: u16, within: &str) -> Option<()> {
+        let Some(label) = label_of(code) else {
+            self.note(format!("the code of a part {within}"));
+            return None;
+        };
+        let what = match label.way {
+            Way::Outgoing => "link",
+            Way::Incoming => "arriving link",
+        };
+        let of = format!("the {what} of kind {} {within}", label.kind.0);
+        for word in ["code", "shape", "low", "high"] {
+            self.note(format!("the {word} of {of}"));
         }
         Some(())
     }

@@ -1,21 +1,19 @@
 //! Why pairs aren't in the largest typing. A pair whose own links don't fit is a root; any other that is struck has
-//! a link to a card that can't have the shape needed there. Each is told by the shortest way to a root.
+//! a link whose far card can't have the shape needed there. Each is told by the shortest path to a root.
 
-use crate::numbers::{Card, Kind, Shape};
+use crate::numbers::Shape;
 use crate::typing::counting::Counting;
+use crate::typing::met::Need;
 use crate::typing::{Pair, Setting};
 use std::collections::VecDeque;
-
-/// One step towards a root: a link's kind, and the pair at its far end that isn't there.
-pub type Step = (Kind, Pair);
 
 /// Why a pair is struck.
 #[derive(Clone, Copy, PartialEq, Eq, Debug)]
 enum Cause {
     /// Its own links don't fit.
     Links,
-    /// A link leads to a pair that is struck.
-    Target(Step),
+    /// It needs a pair that is struck.
+    Need(Need),
 }
 
 /// The cause of each pair that is struck.
@@ -26,7 +24,7 @@ pub struct Roots {
 }
 
 impl Roots {
-    /// Finds the causes breadth-first, from the roots backwards over the links.
+    /// Finds the causes breadth-first, from the roots to those who need them.
     pub fn new(setting: &Setting) -> Roots {
         let mut roots = Roots {
             shapes: usize::from(setting.template.shapes()),
@@ -36,15 +34,15 @@ impl Roots {
         for pair in &queue {
             roots.causes[setting.place(*pair)] = Some(Cause::Links);
         }
-        let incoming = incoming(setting);
         let named = setting.template.named();
-        while let Some((target, needed)) = queue.pop_front() {
-            for (from, kind) in &incoming[target.index()] {
+        while let Some((card, needed)) = queue.pop_front() {
+            for end in setting.script.ends_of(card) {
+                let label = end.label.turned();
                 for (shape, names) in (0..).map(Shape).zip(&named) {
-                    let cause = &mut roots.causes[setting.place((*from, shape))];
-                    if names[kind.index()] == Some(needed) && cause.is_none() {
-                        *cause = Some(Cause::Target((*kind, (target, needed))));
-                        queue.push_back((*from, shape));
+                    let cause = &mut roots.causes[setting.place((end.far, shape))];
+                    if names[label] == Some(needed) && cause.is_none() {
+                        *cause = Some(Cause::Need((label, (card, needed))));
+                        queue.push_back((end.far, shape));
                     }
                 }
             }
@@ -52,11 +50,12 @@ impl Roots {
         roots
     }
 
-    /// The steps from a pair to its root, none if it is one itself; nothing if the pair isn't struck.
-    pub fn steps(&self, pair: Pair) -> Option<Vec<Step>> {
+    /// The steps from a pair to its root, each to a pair that isn't there; none if it is a root itself, and nothing if
+    /// the pair isn't struck.
+    pub fn steps(&self, pair: Pair) -> Option<Vec<Need>> {
         let mut steps = Vec::new();
         let mut at = pair;
-        while let Cause::Target(step) = self.causes[at.0.index() * self.shapes + at.1.index()]? {
+        while let Cause::Need(step) = self.causes[at.0.index() * self.shapes + at.1.index()]? {
             steps.push(step);
             at = step.1;
         }
@@ -78,13 +77,4 @@ fn misfits(setting: &Setting) -> Vec<Pair> {
         );
     }
     misfits
-}
-
-/// For each card, the links to it: where they start, and their kinds.
-fn incoming(setting: &Setting) -> Vec<Vec<(Card, Kind)>> {
-    let mut incoming = vec![Vec::new(); usize::from(setting.script.cards)];
-    for link in &setting.script.links {
-        incoming[link.to.index()].push((link.from, link.kind));
-    }
-    incoming
 }

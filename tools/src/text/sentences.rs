@@ -1,14 +1,15 @@
 //! Reasons as sentences, in the names and titles of the text and without the words of the format.
 
-use super::misfit::{Lack, Misfit, Way};
+use super::misfit::{Lack, Misfit, Taken};
 use super::reasons::{Reason, Step};
-use super::roots::Step as Towards;
 use super::write::part_in;
 use super::{quotations, Text};
+use crate::labels::{Label, Way};
 use crate::numbers::{Card, Shape};
+use crate::typing::met::Need;
 use crate::typing::Pair;
 
-/// The most steps of a way, or links of a card, that are told one by one.
+/// The most steps of a path, or links of a card, that are told one by one.
 const MOST_STEPS: usize = 4;
 
 /// A card can't have a shape, and why: the card to blame comes first.
@@ -26,25 +27,40 @@ pub fn cannot(text: &Text, reason: &Reason) -> String {
 pub fn because(text: &Text, reason: &Reason) -> String {
     let wrong = wrong(text, &reason.misfit);
     let (card, shape) = reason.root();
-    let (who, what) = (called(text, card), a_shape(text, shape));
+    let what = a_shape(text, shape);
     match &reason.steps[..] {
         [] => wrong,
-        [(kind, _)] => format!(
-            "its {} {who} can't be {what}: {wrong}",
-            text.kinds[kind.index()].text
-        ),
+        [need] => format!("{} can't be {what}: {wrong}", far_card(text, need)),
         steps => format!(
-            "{who} can't be {what}: {wrong}; it leads there by {}",
+            "{} can't be {what}: {wrong}; it leads there by {}",
+            called(text, card),
             path(text, steps)
         ),
     }
 }
 
-/// The steps to the card that is to blame; those in the middle of a long way are only counted.
-fn path(text: &Text, steps: &[Towards]) -> String {
-    let step = |(kind, (card, _)): &Towards| {
-        let kind = &text.kinds[kind.index()].text;
-        format!("{kind} {}", called(text, *card))
+/// The name of a label's kind.
+fn kind(text: &Text, label: Label) -> &str {
+    &text.kinds[label.kind.index()].text
+}
+
+/// The card at the far end of a card's link, whichever way that runs.
+fn far_card(text: &Text, (label, (card, _)): &Need) -> String {
+    let (kind, who) = (kind(text, *label), called(text, *card));
+    match label.way {
+        Way::Outgoing => format!("its {kind} {who}"),
+        Way::Incoming => format!("{who}, which points at it by {kind},"),
+    }
+}
+
+/// The steps to the card that is to blame; those in the middle of a long path are only counted.
+fn path(text: &Text, steps: &[Need]) -> String {
+    let step = |(label, (card, _)): &Need| {
+        let (kind, who) = (kind(text, *label), called(text, *card));
+        match label.way {
+            Way::Outgoing => format!("{kind} {who}"),
+            Way::Incoming => format!("{kind} from {who}"),
+        }
     };
     match steps {
         [first, between @ .., last] if steps.len() > MOST_STEPS => {
@@ -55,14 +71,11 @@ fn path(text: &Text, steps: &[Towards]) -> String {
 }
 
 /// What the cards at the far ends of a card's links are or must be; those beyond the first few are only counted.
-pub fn far_cards(text: &Text, steps: &[Towards], verb: &str) -> String {
-    let one = |(kind, (card, shape)): &Towards| {
-        let (kind, who) = (&text.kinds[kind.index()].text, called(text, *card));
-        format!("its {kind} {who} {verb} {}", a_shape(text, *shape))
-    };
-    let mut told: Vec<String> = steps.iter().take(MOST_STEPS).map(one).collect();
-    if steps.len() > MOST_STEPS {
-        told.push(format!("so with {} more of its links", steps.len() - MOST_STEPS));
+pub fn far_cards(text: &Text, needs: &[Need], verb: &str) -> String {
+    let one = |need: &Need| format!("{} {verb} {}", far_card(text, need), a_shape(text, need.1 .1));
+    let mut told: Vec<String> = needs.iter().take(MOST_STEPS).map(one).collect();
+    if needs.len() > MOST_STEPS {
+        told.push(format!("so with {} more of its links", needs.len() - MOST_STEPS));
     }
     told.join("; ")
 }
@@ -70,14 +83,14 @@ pub fn far_cards(text: &Text, steps: &[Towards], verb: &str) -> String {
 /// What is wrong with a card's links: how many are wanted, how many are there.
 pub fn wrong(text: &Text, misfit: &Misfit) -> String {
     let lacks: Vec<String> = misfit.lacks.iter().map(|one| lack(text, one)).collect();
-    let ways: Vec<String> = misfit.ways.iter().map(|one| way(text, one)).collect();
-    if ways.is_empty() {
+    let taken: Vec<String> = misfit.taken.iter().map(|one| taken(text, one)).collect();
+    if taken.is_empty() {
         return lacks.join("; ");
     }
-    format!("{} ({})", lacks.join("; "), ways.join("; "))
+    format!("{} ({})", lacks.join("; "), taken.join("; "))
 }
 
-/// How many links of a kind are wanted, and how many are there.
+/// How many links with a label are wanted, and how many are there.
 pub fn lack(text: &Text, lack: &Lack) -> String {
     let wanted = match (lack.low, lack.high) {
         (0, Some(0)) => "no".to_string(),
@@ -86,14 +99,19 @@ pub fn lack(text: &Text, lack: &Lack) -> String {
         (0, Some(high)) => format!("at most {high}"),
         (low, Some(high)) => format!("{low} to {high}"),
     };
-    let kind = &text.kinds[lack.kind.index()].text;
-    format!("{wanted} {kind} wanted, {} there", lack.there)
+    let kind = kind(text, lack.label);
+    let what = match (lack.label.way, lack.high.unwrap_or(lack.low)) {
+        (Way::Outgoing, _) => kind.to_string(),
+        (Way::Incoming, 1) => format!("arriving {kind} link"),
+        (Way::Incoming, _) => format!("arriving {kind} links"),
+    };
+    format!("{wanted} {what} wanted, {} there", lack.there)
 }
 
-/// How the counts that came nearest come about.
-pub fn way(text: &Text, way: &Way) -> String {
-    match way {
-        Way::Branch(part, as_near) => {
+/// What the counts that came nearest take of the shape.
+fn taken(text: &Text, taken: &Taken) -> String {
+    match taken {
+        Taken::Branch(part, as_near) => {
             let mut told = format!("nearest choice: {}", part_in(text, part));
             if !as_near.is_empty() {
                 let others: Vec<String> = as_near.iter().map(|part| part_in(text, part)).collect();
@@ -101,13 +119,13 @@ pub fn way(text: &Text, way: &Way) -> String {
             }
             told
         }
-        Way::Times(part, 0) => format!("without {}", part_in(text, part)),
-        Way::Times(part, 1) => format!("{} once", part_in(text, part)),
-        Way::Times(part, times) => format!("{} {times} times", part_in(text, part)),
+        Taken::Times(part, 0) => format!("without {}", part_in(text, part)),
+        Taken::Times(part, 1) => format!("{} once", part_in(text, part)),
+        Taken::Times(part, times) => format!("{} {times} times", part_in(text, part)),
     }
 }
 
-/// The way from a booking to a pair.
+/// The path from a booking to a pair; arrows point where the links do.
 pub fn booked_by(text: &Text, steps: Option<&[Step]>, goal: Pair) -> String {
     let steps = match steps {
         None => return "no booking asks for this".to_string(),
@@ -119,8 +137,12 @@ pub fn booked_by(text: &Text, steps: Option<&[Step]>, goal: Pair) -> String {
         format!("{} {}", card.text, shape.text)
     };
     let mut line = "booked: ".to_string();
-    for (asking, kind) in steps {
-        line += &format!("{} -{}-> ", pair(*asking), text.kinds[kind.index()].text);
+    for (asking, label) in steps {
+        let (asking, kind) = (pair(*asking), kind(text, *label));
+        line += &match label.way {
+            Way::Outgoing => format!("{asking} -{kind}-> "),
+            Way::Incoming => format!("{asking} <-{kind}- "),
+        };
     }
     line + &pair(goal)
 }

@@ -13,7 +13,7 @@ pub enum Token {
     Number(u32),
     /// A text between quotation marks.
     Quoted(String),
-    /// One of `: = ( ) [ ] ; , @ * + ?`.
+    /// One of `: = ( ) [ ] ; , @ ^ * + ?`.
     Sign(char),
     /// The end of a line.
     End,
@@ -70,7 +70,7 @@ fn cut_line(
 /// The token that the characters start with, and how many of them it takes.
 fn token(characters: &[char], spot: Spot) -> Result<(Token, usize), Fault> {
     let first = characters[0];
-    if ":=()[];,@*+?".contains(first) {
+    if ":=()[];,@^*+?".contains(first) {
         return Ok((Token::Sign(first), 1));
     }
     if first == '"' {

@@ -4,6 +4,7 @@
 use super::check::Sheet;
 use super::load::load_sheet;
 use super::{quotations, Text};
+use crate::labels::Way;
 use crate::template::{Link, Part, Template};
 use crate::typing::{Pair, Setting};
 use std::fmt::Write;
@@ -84,14 +85,17 @@ pub fn part_in_names(template: &Template, shape: usize, kinds: &[&str], shapes: 
 /// A part in the names of a text.
 pub fn part_in(text: &Text, part: &Part) -> String {
     part_with(part, &|link| {
-        let (kind, shape) = (&text.kinds[link.kind.index()], &text.shapes[link.shape.index()].0);
+        let (kind, shape) = (
+            &text.kinds[link.label.kind.index()],
+            &text.shapes[link.shape.index()].0,
+        );
         (kind.text.clone(), shape.text.clone())
     })
 }
 
 fn part_named<Name: AsRef<str>>(part: &Part, kinds: &[Name], shapes: &[Name]) -> String {
     part_with(part, &|link| {
-        let (kind, shape) = (&kinds[link.kind.index()], &shapes[link.shape.index()]);
+        let (kind, shape) = (&kinds[link.label.kind.index()], &shapes[link.shape.index()]);
         (kind.as_ref().to_string(), shape.as_ref().to_string())
     })
 }
@@ -110,8 +114,12 @@ fn part_with(part: &Part, names: &dyn Fn(&Link) -> (String, String)) -> String {
         Part::All(parts) => group("all", parts),
         Part::Link(link) => {
             let (kind, shape) = names(link);
+            let sign = match link.label.way {
+                Way::Outgoing => "",
+                Way::Incoming => "^",
+            };
             let high = link.high.map(|high| high.to_string()).unwrap_or_default();
-            format!("{kind}[{};{high}]@{shape}", link.low)
+            format!("{sign}{kind}[{};{high}]@{shape}", link.low)
         }
     }
 }

@@ -1,6 +1,7 @@
 //! The smallest typing: the closure of the bookings, if each pair of it is met.
 
 use super::counting::Counting;
+use super::met::needs;
 use super::{Grid, Pair, Setting, Smallest};
 use crate::numbers::Shape;
 
@@ -8,7 +9,7 @@ use crate::numbers::Shape;
 /// too, so it is met if and only if its card's counts fit.
 pub fn smallest(setting: &Setting, booked: &[Pair]) -> (Smallest, Grid) {
     let mut counting = Counting::new(setting);
-    let grid = flood(setting, &counting, booked);
+    let grid = closure(setting, booked);
     let mut pairs = 0;
     let rows = grid.chunks(usize::from(setting.template.shapes()));
     for (card, row) in setting.cards().zip(rows) {
@@ -27,13 +28,9 @@ pub fn smallest(setting: &Setting, booked: &[Pair]) -> (Smallest, Grid) {
     (Smallest::Pairs(pairs), grid)
 }
 
-/// The least set of pairs with the bookings and, for (n, t) in it and a link of n whose kind t names with
-/// shape u, the pair (target, u).
+/// The least set of pairs with the bookings and, for (n, t) in it and a link at n whose kind t names the way it runs
+/// there, with shape u, the pair of the card at the other end and u.
 pub fn closure(setting: &Setting, booked: &[Pair]) -> Grid {
-    flood(setting, &Counting::new(setting), booked)
-}
-
-fn flood(setting: &Setting, counting: &Counting, booked: &[Pair]) -> Grid {
     let named = setting.template.named();
     let mut grid = vec![0; setting.size()];
     let mut waiting = Vec::new();
@@ -48,10 +45,8 @@ fn flood(setting: &Setting, counting: &Counting, booked: &[Pair]) -> Grid {
         reach(&mut waiting, *pair);
     }
     while let Some((card, shape)) = waiting.pop() {
-        for link in counting.links_of(card) {
-            if let Some(needed) = named[shape.index()][link.kind.index()] {
-                reach(&mut waiting, (link.to, needed));
-            }
+        for (_, far) in needs(setting, &named[shape.index()], card) {
+            reach(&mut waiting, far);
         }
     }
     grid

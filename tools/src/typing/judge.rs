@@ -1,18 +1,17 @@
 //! *Judge a grid*: is a grid that some program made a sound typing that holds the bookings? Refusals 40 and 61 to 63,
 //! after those of the three files.
 //!
-//! There are two ways. `judge` tests a pair by its card's counts and by the shape that is named for each link.
-//! `judge_by_choices` takes the definition at its word: every way to give shapes to the links is tried, and the bag
-//! is looked up among the bags of the shape's part. That is for pairs whose card has at most `TRIED_LINKS` links and
-//! leaves at most `TRIED_CHOICES` ways; pairs beyond this line are tested as `judge` tests them.
+//! There are two methods. `judge` tests a pair by its card's counts and by the shape that is named for each link.
+//! `judge_by_choices` takes the definition at its word: every choice of shapes for the far cards is tried, and the bag
+//! is looked up among the bags of the shape's part. That is for pairs that have at most `TRIED_LINKS` links to choose
+//! for and leave at most `TRIED_CHOICES` choices; pairs beyond this line are tested as `judge` tests them.
 
 use super::counting::Counting;
 use super::{bookings, met, Pair, Setting};
 use crate::numbers::{Card, Shape};
 use crate::refusal::Refusal;
-use crate::script::ScriptLink;
 
-/// The most links of a card for which every choice of shapes is tried.
+/// The most links of a pair for which every choice of shapes is tried; a link to itself may count twice.
 pub const TRIED_LINKS: usize = 6;
 /// The most choices of shapes that are tried for a pair.
 pub const TRIED_CHOICES: usize = 729;
@@ -70,7 +69,7 @@ fn judge_by(
     judged_by(method, &setting, &booked, grid)
 }
 
-/// Judges a grid of a sheet that is read, in the first of the two ways.
+/// Judges a grid of a sheet that is read, by the first of the two methods.
 pub fn judged(setting: &Setting, booked: &[Pair], grid: &[u8]) -> Result<Judged, Refusal> {
     judged_by(not_met, setting, booked, grid)
 }
@@ -93,7 +92,7 @@ fn judged_by(method: Method, setting: &Setting, booked: &[Pair], grid: &[u8]) ->
 }
 
 /// The lowest pair that isn't met: its card's counts don't fit, or the far card of a link hasn't the shape that is
-/// named for the link's kind.
+/// named for the link's label.
 fn not_met(setting: &Setting, grid: &[u8]) -> Option<Pair> {
     let named = setting.template.named();
     let mut counting = Counting::new(setting);
@@ -101,11 +100,8 @@ fn not_met(setting: &Setting, grid: &[u8]) -> Option<Pair> {
     for (card, row) in setting.cards().zip(rows).filter(|(_, row)| row.contains(&1)) {
         counting.turn_to(card);
         for (shape, _) in (0..).map(Shape).zip(row).filter(|(_, byte)| **byte == 1) {
-            let named = &named[shape.index()];
-            let far_card_has_it = |link: &ScriptLink| {
-                named[link.kind.index()].is_some_and(|needed| grid[setting.place((link.to, needed))] == 1)
-            };
-            if !counting.fits(shape) || !counting.links_of(card).iter().all(far_card_has_it) {
+            let mut needs = met::needs(setting, &named[shape.index()], card);
+            if !counting.fits(shape) || needs.any(|(_, far)| grid[setting.place(far)] == 0) {
                 return Some((card, shape));
             }
         }
@@ -115,7 +111,7 @@ fn not_met(setting: &Setting, grid: &[u8]) -> Option<Pair> {
 
 /// The lowest pair that isn't met, by choices where they can be tried.
 fn not_met_by_choices(setting: &Setting, grid: &[u8]) -> Option<Pair> {
-    let is_met = |pair: Pair| match can_be_tried(setting, grid, pair.0) {
+    let is_met = |pair: Pair| match can_be_tried(setting, grid, pair) {
         true => met::met_by_choices(setting, grid, pair),
         false => met::met(setting, grid, pair),
     };
@@ -124,13 +120,12 @@ fn not_met_by_choices(setting: &Setting, grid: &[u8]) -> Option<Pair> {
         .find(|pair| grid[setting.place(*pair)] == 1 && !is_met(*pair))
 }
 
-/// Whether a card's links and the shapes of the cards at their far ends are few enough to try every choice. A far card
+/// Whether a pair's links and the shapes of the cards at their far ends are few enough to try every choice. A far card
 /// without a shape counts as one with a single shape, because all choices up to it are tried.
-pub fn can_be_tried(setting: &Setting, grid: &[u8], card: Card) -> bool {
+pub fn can_be_tried(setting: &Setting, grid: &[u8], pair: Pair) -> bool {
     let shapes = usize::from(setting.template.shapes());
-    let links = setting.script.links_of(card);
     let row = |card: Card| &grid[card.index() * shapes..(card.index() + 1) * shapes];
     let shapes_of = |card: Card| row(card).iter().filter(|byte| **byte == 1).count().max(1);
-    links.len() <= TRIED_LINKS
-        && links.iter().map(|link| shapes_of(link.to)).product::<usize>() <= TRIED_CHOICES
+    let ends = met::chosen_for(setting, pair);
+    ends.len() <= TRIED_LINKS && ends.iter().map(|end| shapes_of(end.far)).product::<usize>() <= TRIED_CHOICES
 }

@@ -1,13 +1,14 @@
 //! The largest typing in time that grows with the links and shapes and not with the rounds.
 //!
 //! A pair whose card's counts don't fit its shape is struck in round 1, whatever the grid. Any other pair is
-//! struck in the round after the first of the pairs that its links need. So one walk, breadth-first and backwards
-//! over the links by their target, finds the round in which each pair is struck. Each pair is walked from once, and
-//! only over the links to its card and the shapes that ask for its shape by their kinds.
+//! struck in the round after the first of the pairs that its links need. So one walk, breadth-first from what is struck
+//! to what needs it, finds the round in which each pair is struck. Each pair is walked from once, and only over the
+//! links at its card and the shapes that ask for its shape by their labels at the other end.
 
 use super::counting::Counting;
 use super::{Grid, Largest, Pair, Setting};
-use crate::numbers::{Card, Kind, Shape};
+use crate::labels::Labelled;
+use crate::numbers::Shape;
 
 /// The round of a pair that isn't struck.
 const NEVER: u16 = 0;
@@ -39,19 +40,18 @@ fn strike_rounds(setting: &Setting) -> (Vec<u16>, Vec<Pair>) {
             }
         }
     }
-    let incoming = Incoming::new(setting);
-    let users = Users::new(setting);
+    let users = users(setting);
     let mut next = 0;
     while next < strikes.len() {
-        let (target, needed) = strikes[next];
-        let later = round[setting.place((target, needed))] + 1;
+        let (card, needed) = strikes[next];
+        let later = round[setting.place((card, needed))] + 1;
         next += 1;
-        for (from, kind) in incoming.to(target) {
-            for user in users.of(*kind, needed) {
-                let entry = &mut round[setting.place((*from, *user))];
+        for end in setting.script.ends_of(card) {
+            for user in &users[end.label.turned()][needed.index()] {
+                let entry = &mut round[setting.place((end.far, *user))];
                 if *entry == NEVER {
                     *entry = later;
-                    strikes.push((*from, *user));
+                    strikes.push((end.far, *user));
                 }
             }
         }
@@ -59,85 +59,14 @@ fn strike_rounds(setting: &Setting) -> (Vec<u16>, Vec<Pair>) {
     (round, strikes)
 }
 
-/// The links by their target.
-struct Incoming {
-    /// For each card, where the links to it start; then where the last ones end.
-    starts: Vec<usize>,
-    /// The start and the kind of each link.
-    links: Vec<(Card, Kind)>,
-}
-
-impl Incoming {
-    fn new(setting: &Setting) -> Incoming {
-        let links = &setting.script.links;
-        let mut starts = vec![0; usize::from(setting.script.cards) + 1];
-        for link in links {
-            starts[link.to.index()] += 1;
-        }
-        add_up(&mut starts);
-        let mut sorted = vec![(Card(0), Kind(0)); links.len()];
-        // Filled from behind, each start moves down to its place.
-        for link in links.iter().rev() {
-            starts[link.to.index()] -= 1;
-            sorted[starts[link.to.index()]] = (link.from, link.kind);
-        }
-        Incoming {
-            starts,
-            links: sorted,
+/// For each label and each shape, the shapes that name this label with this shape.
+fn users(setting: &Setting) -> Labelled<Vec<Vec<Shape>>> {
+    let template = &setting.template;
+    let mut users = Labelled::new(template.kinds, vec![Vec::new(); template.parts.len()]);
+    for (shape, part) in (0..).map(Shape).zip(&template.parts) {
+        for link in part.links() {
+            users[link.label][link.shape.index()].push(shape);
         }
     }
-
-    fn to(&self, card: Card) -> &[(Card, Kind)] {
-        &self.links[self.starts[card.index()]..self.starts[card.index() + 1]]
-    }
-}
-
-/// For each kind and each shape, the shapes that name this kind with this shape.
-struct Users {
-    count: usize,
-    starts: Vec<usize>,
-    shapes: Vec<Shape>,
-}
-
-impl Users {
-    fn new(setting: &Setting) -> Users {
-        let template = &setting.template;
-        let count = template.parts.len();
-        let mut named = Vec::new();
-        for (part, shape) in template.parts.iter().zip(0..) {
-            let links = part.links();
-            named.extend(
-                links
-                    .iter()
-                    .map(|link| (link.kind.index() * count + link.shape.index(), Shape(shape))),
-            );
-        }
-        let mut starts = vec![0; usize::from(template.kinds) * count + 1];
-        for (place, _) in &named {
-            starts[*place] += 1;
-        }
-        add_up(&mut starts);
-        let mut shapes = vec![Shape(0); named.len()];
-        for (place, shape) in named.iter().rev() {
-            starts[*place] -= 1;
-            shapes[starts[*place]] = *shape;
-        }
-        Users {
-            count,
-            starts,
-            shapes,
-        }
-    }
-
-    fn of(&self, kind: Kind, shape: Shape) -> &[Shape] {
-        let place = kind.index() * self.count + shape.index();
-        &self.shapes[self.starts[place]..self.starts[place + 1]]
-    }
-}
-
-/// Turns counts into ends: each becomes the sum of all up to it.
-fn add_up(counts: &mut [usize]) {
-    for place in 1..counts.len() {
-        counts[place] += counts[place - 1];
-    }
+    users
 }

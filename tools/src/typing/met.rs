@@ -3,53 +3,65 @@
 use super::{Pair, Setting};
 use crate::fit::bags::{self, Bag, Bags};
 use crate::fit::intervals;
-use crate::numbers::Shape;
-use crate::script::ScriptLink;
+use crate::labels::{Label, Way};
+use crate::numbers::{Card, Shape};
+use crate::script::End;
+use crate::template::Named;
 
-/// Whether the pair is met under the grid. A kind stands at most once in a shape, so there is only one shape
-/// to choose for each link: the one that its kind is named with.
+/// What a card needs of another to have a shape: the label of the link between them, and the pair at its far end.
+pub type Need = (Label, Pair);
+
+/// What a card needs under a shape that names these: for each end of a link there whose label is named, the shape
+/// that it is named with, at the far card.
+pub fn needs<'a>(setting: &'a Setting, named: &'a Named, card: Card) -> impl Iterator<Item = Need> + 'a {
+    let ends = setting.script.ends_of(card).iter();
+    ends.filter_map(|end| Some((end.label, (end.far, named[end.label]?))))
+}
+
+/// Whether the pair is met under the grid. A label stands at most once in a shape, so there is only one shape to
+/// choose for each link: the one that its label is named with. Counts that fit have no other outgoing links, and the
+/// other incoming ones are ignored.
 pub fn met(setting: &Setting, grid: &[u8], pair: Pair) -> bool {
     let (card, shape) = pair;
     let part = setting.template.part(shape);
     let named = part.named(setting.template.kinds);
-    let targets_have_shapes =
-        setting.script.links_of(card).iter().all(|link| {
-            named[link.kind.index()].is_some_and(|shape| grid[setting.place((link.to, shape))] == 1)
-        });
-    targets_have_shapes && intervals::fits(part, &setting.script.counts_of(card, setting.template.kinds))
+    let all_are_there = needs(setting, &named, card).all(|(_, far)| grid[setting.place(far)] == 1);
+    all_are_there && intervals::fits(part, &setting.script.counts_of(card, setting.template.kinds))
 }
 
-/// The same, taken at its word: every way to choose a shape of each link's target is tried, and the bag that
-/// comes out is looked up among the bags of the shape's part. Only for a few links with small counts.
+/// The same, taken at its word: every way to choose shapes of the far cards is tried, and the bag that comes out is
+/// looked up among the bags of the shape's part. Only for a few links with small counts.
 pub fn met_by_choices(setting: &Setting, grid: &[u8], pair: Pair) -> bool {
     let (card, shape) = pair;
     let counts = setting.script.counts_of(card, setting.template.kinds);
     let allowed = bags::bags(setting.template.part(shape), &counts);
-    some_choice_is_allowed(
-        setting,
-        grid,
-        setting.script.links_of(card),
-        &Bag::new(),
-        &allowed,
-    )
+    some_choice_is_allowed(setting, grid, &chosen_for(setting, pair), &Bag::new(), &allowed)
 }
 
-/// Whether shapes for the remaining links can be chosen so that the bag becomes an allowed one.
-fn some_choice_is_allowed(
-    setting: &Setting,
-    grid: &[u8],
-    links: &[ScriptLink],
-    bag: &Bag,
-    allowed: &Bags,
-) -> bool {
-    let Some((link, rest)) = links.split_first() else {
+/// The ends of links for which a shape of the far card is chosen: all that start at the card, and those that arrive
+/// and whose kind the shape names as incoming. A link from the card to itself can be there twice.
+pub fn chosen_for(setting: &Setting, (card, shape): Pair) -> Vec<End> {
+    let named = setting.template.part(shape).named(setting.template.kinds);
+    let counts = |end: &&End| end.label.way == Way::Outgoing || named[end.label].is_some();
+    setting
+        .script
+        .ends_of(card)
+        .iter()
+        .filter(counts)
+        .copied()
+        .collect()
+}
+
+/// Whether shapes for the remaining ends can be chosen so that the bag becomes an allowed one.
+fn some_choice_is_allowed(setting: &Setting, grid: &[u8], ends: &[End], bag: &Bag, allowed: &Bags) -> bool {
+    let Some((end, rest)) = ends.split_first() else {
         return allowed.contains(bag);
     };
     (0..setting.template.shapes()).map(Shape).any(|shape| {
         let mut longer = bag.clone();
-        *longer.entry((link.kind, shape)).or_insert(0) += 1;
-        let target_has_shape = grid[setting.place((link.to, shape))] == 1;
-        target_has_shape && some_choice_is_allowed(setting, grid, rest, &longer, allowed)
+        *longer.entry((end.label, shape)).or_insert(0) += 1;
+        let far_card_has_shape = grid[setting.place((end.far, shape))] == 1;
+        far_card_has_shape && some_choice_is_allowed(setting, grid, rest, &longer, allowed)
     })
 }
 

@@ -95,13 +95,17 @@ pub fn random(random: &mut Random, size: Size) -> String {
     text
 }
 
-/// A part that names some kinds.
+/// A part that names some kinds, some of them as arriving.
 fn part(random: &mut Random, size: Size) -> String {
     let first = random.below(size.kinds);
     let mut parts = Vec::new();
     for step in 0..size.kinds.min(1 + random.below(6)) {
-        let target = name('S', random.below(size.shapes));
-        parts.push(format!("{}[0;]@{target}", name('k', (first + step) % size.kinds)));
+        let far = name('S', random.below(size.shapes));
+        let sign = if step % 3 == 2 { "^" } else { "" };
+        parts.push(format!(
+            "{sign}{}[0;]@{far}",
+            name('k', (first + step) % size.kinds)
+        ));
     }
     match &parts[..] {
         [part] => part.clone(),

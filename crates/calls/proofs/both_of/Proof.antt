@@ -1,42 +1,40 @@
 -- `calls::both_of` tests the pairs, settles the bookings and strikes rounds. Assumes nothing.
 use denote.Ref.{now}
 use borrow.Author.Needs.{needs}
-use Rattle.calls.proofs.Known.{sheet, asked}
+use Rattle.calls.proofs.Tested.{test-asked, some-tested}
 use Rattle.calls.proofs.Settling.{both-of-found}
 use Rattle.calls.proofs.both_of.Statement.{statement}
 use Rattle.calls.proofs.both_of.Tie as tie
 
 -- The start, the pairs as they were tested, and the bookings as they were settled.
-abbrev start : tie.After-test-pairs → tie.Start
-start c = c .before .before .before .before .before .before .before .before .before
+abbrev start : tie.After-test-pairs-arg → tie.Start
+start c = c .before .before .before .before .before .before .before .before .before .before
 
 abbrev tested : tie.After-queue → tie.After-test-pairs
-tested c = c .before .before .before .before .before .before
+tested c = c .before .before .before .before .before .before .before .before
 
 abbrev settled : tie.After-queue2 → tie.After-settle
-settled c = c .before .before .before .before
+settled c = c .before .before .before .before .before .before .before
 
 test-pairs-requires : tie.Need-test-pairs-requires
-test-pairs-requires c κs = search needs
+test-pairs-requires c κs =
+    let lent = start c .pre in
+    test-asked (record { known = lent .listed .known; size = lent .other-size })
 
 settle-requires : tie.Need-settle-requires
 settle-requires c κs =
     let pairs = tested c in
-    let lent = start pairs .pre in
-    let k = lent .listed .known in
+    let lent = start (pairs .before) .pre in
     record {
-      sheet = sheet k;
-      tested = pairs .test-pairs .ensures .tested (sheet k) (asked k);
+      some = some-tested (lent .listed .known) (pairs .test-pairs .ensures);
       list = lent .listed .list;
-      links = pairs .test-pairs .ensures .links;
       size = lent .size;
     }
 
 strike-requires : tie.Need-strike-requires
 strike-requires c κs =
     let pairs = tested (settled c .before) in
-    let k = start pairs .pre .listed .known in
-    record { sheet = sheet k; tested = pairs .test-pairs .ensures .tested (sheet k) (asked k) }
+    some-tested (start (pairs .before) .pre .listed .known) (pairs .test-pairs .ensures)
 
 same-length : tie.Need-same-length
 same-length c = search needs
@@ -50,7 +48,7 @@ returns c s q =
     let told = settled (rounds .before) in
     let pairs = tested (told .before) in
     let t = pairs .test-pairs .ensures .tested s q in
-    both-of-found t (now (start pairs .args .bookings)) (start pairs .pre .listed .list) (rounds .strike .ensures s t)
+    both-of-found t (now (start (pairs .before) .args .bookings)) (start (pairs .before) .pre .listed .list) (rounds .strike .ensures s t)
     (told .settle .ensures s t)
 
 pub both-of-spec : {M : Type 1} → statement M

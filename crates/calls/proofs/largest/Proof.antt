@@ -20,7 +20,7 @@ known : (c : tie.After-known-told2) → let s = start (read c) .args in
     Known (now (s .template)) (now (s .script)) (read c .read-sheet .last .1 .1 .0) (c .before .read2 .given .0 .0)
 known c =
     let sheet = read c .read-sheet in
-    known-by _ _ (sheet .ensures .0) (sheet .ensures .1) (sheet .kept .1 .1 .0) (c .before .read2 .given .1)
+    known-by _ _ _ (sheet .ensures) (c .before .read2 .given .1)
 
 slice-aggregate-read-sheet : tie.Need-slice-aggregate-read-sheet
 slice-aggregate-read-sheet c = search needs
@@ -61,7 +61,7 @@ returns-2 c =
     let sheet = c .before .before .before .before in
     let s = start sheet .args in
     largest-refused (now (s .template)) (now (s .script)) (now (s .grid)) _ _
-    (refused-by _ _ (sheet .read-sheet .ensures .0) (c .before .read .given .1))
+    (refused-by _ _ _ (sheet .read-sheet .ensures) (c .before .read .given .1))
 
 same-length : tie.Need-same-length
 same-length c = search needs

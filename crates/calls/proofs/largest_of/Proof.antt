@@ -1,23 +1,22 @@
 -- `calls::largest_of` tests the pairs and strikes rounds. Assumes nothing.
 use borrow.Author.Needs.{needs}
-use Rattle.calls.proofs.Known.{sheet, asked}
+use Rattle.calls.proofs.Tested.{test-asked, some-tested}
 use Rattle.calls.proofs.largest_of.Statement.{statement}
 use Rattle.calls.proofs.largest_of.Tie as tie
 
 -- The start, and the pairs as they were tested.
-abbrev start : tie.After-test-pairs → tie.Start
-start c = c .before .before .before .before .before .before .before
+abbrev start : tie.After-test-pairs-arg → tie.Start
+start c = c .before .before .before .before .before .before .before .before
 
 abbrev tested : tie.After-queue → tie.After-test-pairs
-tested c = c .before .before .before .before
+tested c = c .before .before .before .before .before .before .before
 
 test-pairs-requires : tie.Need-test-pairs-requires
-test-pairs-requires c κs = search needs
+test-pairs-requires c κs = test-asked (start c .pre)
 
 strike-requires : tie.Need-strike-requires
 strike-requires c κs =
-    let k = start (tested c) .pre .known in
-    record { sheet = sheet k; tested = tested c .test-pairs .ensures .tested (sheet k) (asked k) }
+    some-tested (start (tested c .before) .pre .known) (tested c .test-pairs .ensures)
 
 same-length : tie.Need-same-length
 same-length c = search needs

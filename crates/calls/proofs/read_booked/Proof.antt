@@ -1,11 +1,7 @@
 -- `calls::read_booked` reads the sheet and then the bookings: a law of proofs/Readings for each answer.
 -- Assumes nothing.
-use Prim.Native.Nat.{ℕ}
-use mathlib.Core.Path.{ap, _∙_}
-use lib.ListN.{length, length-replicate}
 use denote.Ref.{now}
 use borrow.Author.Needs.{needs}
-use Rattle.words.specs.Sizes.{tableSize}
 use Rattle.sheet.specs.Opened.{Known}
 use Rattle.calls.proofs.Readings.{known-by, sheet-refused, list-refused, listed-by}
 use Rattle.calls.proofs.read_booked.Statement.{statement}
@@ -20,11 +16,7 @@ read c = c .before .before .before .before .before
 
 known : (c : tie.After-known-told2) → let s = start (read c) .args in
     Known (now (s .template)) (now (s .script)) (read c .read-sheet .last .1 .1 .0) (c .before .read2 .given .0 .0)
-known c =
-    let sheet = read c .read-sheet in
-    known-by _ _ (sheet .ensures .0) (sheet .ensures .1)
-    (sheet .kept .1 .1 .0 ∙ ap length (start (read c) .pre) ∙ length-replicate {A = ℕ} tableSize 0)
-    (c .before .read2 .given .1)
+known c = known-by _ _ _ (read c .read-sheet .ensures) (c .before .read2 .given .1)
 
 read-sheet-requires : tie.Need-read-sheet-requires
 read-sheet-requires c κs = search needs
@@ -50,7 +42,7 @@ same-length c = search needs
 returns : tie.Need-returns
 returns c =
     let sheet = c .before .before .before .before .before in
-    sheet-refused _ _ (sheet .read-sheet .ensures .0) (now (start sheet .args .bookings)) (c .before .read .given .1)
+    sheet-refused _ _ _ (sheet .read-sheet .ensures) (now (start sheet .args .bookings)) (c .before .read .given .1)
 
 same-length-2 : tie.Need-same-length-2
 same-length-2 c = search needs

@@ -4,14 +4,14 @@ use mathlib.Core.Path.{sym, _∙_}
 use native.Mathlib.Omega.{arith}
 use denote.Ref.{now}
 use borrow.Author.Needs.{needs}
-use Rattle.calls.proofs.Known.{read, ready, few-pairs, card-starts}
+use Rattle.calls.proofs.Known.{read, links-ready, few-pairs}
 use Rattle.calls.proofs.Settling.{listed-room, listed-in, closure-full, met-found, unmet-found}
 use Rattle.calls.proofs.settle.Statement.{statement}
 use Rattle.calls.proofs.settle.Tie as tie
 
 -- The start, the closure that is written, and the verdict on its pairs.
-abbrev start : tie.After-close-arg3 → tie.Start
-start c = c .before .before .before .before .before .before .before .before .before .before
+abbrev start : tie.After-close-arg5 → tie.Start
+start c = c .before .before .before .before .before .before .before .before .before .before .before .before
 
 abbrev closed : tie.After-first-unfit-arg → tie.After-close
 closed c = c .before .before .before
@@ -31,12 +31,11 @@ cast-close c = search needs
 close-requires : tie.Need-close-requires
 close-requires c κs =
     let s = start c in
-    let k = s .pre .tested .known in
+    let k = s .pre .some .tested .known in
     let bookings = now (s .args .bookings) in
     let e = s .args .e in
     record {
-      ready = ready k;
-      starting = card-starts k _ (s .pre .links);
+      links = links-ready k (s .pre .some .links);
       all-cards = read k .links .cards;
       words = listed-room (e .cards) (e .shapes) bookings (s .pre .list);
       booked-in = listed-in (e .cards) (e .shapes) bookings (s .pre .list);
@@ -47,7 +46,7 @@ close-requires c κs =
 first-unfit-requires : tie.Need-first-unfit-requires
 first-unfit-requires c κs =
     let s = start (closed c .before) in
-    let t = s .pre .tested in
+    let t = s .pre .some .tested in
     let accepted = read (t .known) in
     let size = closure-full t (now (s .args .bookings)) (s .pre .list) (closed c .close .ensures) in
     record {

@@ -1,29 +1,28 @@
 -- `calls::smallest_of` tests the pairs and settles the bookings. Assumes nothing.
 use borrow.Author.Needs.{needs}
-use Rattle.calls.proofs.Known.{sheet, asked}
+use Rattle.calls.proofs.Tested.{test-asked, some-tested}
 use Rattle.calls.proofs.smallest_of.Statement.{statement}
 use Rattle.calls.proofs.smallest_of.Tie as tie
 
 -- The start, and the pairs as they were tested.
-abbrev start : tie.After-test-pairs → tie.Start
-start c = c .before .before .before .before .before .before .before .before .before
+abbrev start : tie.After-test-pairs-arg → tie.Start
+start c = c .before .before .before .before .before .before .before .before .before .before
 
 abbrev tested : tie.After-queue → tie.After-test-pairs
-tested c = c .before .before .before .before .before .before
+tested c = c .before .before .before .before .before .before .before .before
 
 test-pairs-requires : tie.Need-test-pairs-requires
-test-pairs-requires c κs = search needs
+test-pairs-requires c κs =
+    let lent = start c .pre in
+    test-asked (record { known = lent .listed .known; size = lent .other-size })
 
 settle-requires : tie.Need-settle-requires
 settle-requires c κs =
     let pairs = tested c in
-    let lent = start pairs .pre in
-    let k = lent .listed .known in
+    let lent = start (pairs .before) .pre in
     record {
-      sheet = sheet k;
-      tested = pairs .test-pairs .ensures .tested (sheet k) (asked k);
+      some = some-tested (lent .listed .known) (pairs .test-pairs .ensures);
       list = lent .listed .list;
-      links = pairs .test-pairs .ensures .links;
       size = lent .size;
     }
 

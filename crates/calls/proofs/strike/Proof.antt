@@ -2,15 +2,15 @@
 use mathlib.Core.Path.{_∙_}
 use native.Mathlib.Omega.{arith}
 use borrow.Author.Needs.{needs}
-use Rattle.calls.proofs.Known.{read, ready, among}
+use Rattle.calls.proofs.Known.{read, links-ready, among}
 use Rattle.calls.proofs.Tested.{counted-as, full-words, few}
 use Rattle.calls.proofs.Striking.{struck-found}
 use Rattle.calls.proofs.strike.Statement.{statement}
 use Rattle.calls.proofs.strike.Tie as tie
 
 -- The start, and the rounds struck.
-abbrev start : tie.After-strike-all-arg2 → tie.Start
-start c = c .before .before .before .before .before .before .before
+abbrev start : tie.After-strike-all-arg5 → tie.Start
+start c = c .before .before .before .before .before .before .before .before .before
 
 abbrev rounds : tie.After-count-bare-arg → tie.After-strike-all
 rounds c = c .before .before .before
@@ -18,15 +18,11 @@ rounds c = c .before .before .before
 cast-shapes : tie.Need-cast-shapes
 cast-shapes c = search needs
 
-cast-strike-all : tie.Need-cast-strike-all
-cast-strike-all c = search needs
-
 strike-all-requires : tie.Need-strike-all-requires
 strike-all-requires c κs =
     let t = start c .pre .tested in
     record {
-      ready = ready (t .known);
-      all-links = read (t .known) .links .links;
+      links = links-ready (t .known) (start c .pre .links);
       full = full-words t;
       room = omega (arith, few t);
     }
@@ -54,7 +50,6 @@ strike-spec =
     tie.close
     (tie.spec
     cast-shapes
-    cast-strike-all
     strike-all-requires
     count-bare-requires
     same-length

@@ -150,6 +150,12 @@ module _ (t : ℕ) where
   part-link-requires : part-lts.Need-link-requires (part-claims t) (part-at t) part.Post
   part-link-requires c κs = search needs
 
+  part-wide-requires-2 : part-lts.Need-wide-requires-2 (part-claims t) (part-at t) part.Post
+  part-wide-requires-2 c κs = search needs
+
+  part-link-requires-2 : part-lts.Need-link-requires-2 (part-claims t) (part-at t) part.Post
+  part-link-requires-2 c κs = search needs
+
   part-add-nothing-4 : part-lts.Need-add-nothing-4 (part-claims t) (part-at t) part.Post
   part-add-nothing-4 c = search needs
 
@@ -183,7 +189,12 @@ module _ (t : ℕ) where
       (c .link .ensures)
 
   part-returns-9 : part-lts.Need-returns-9 (part-claims t) (part-at t) part.Post
-  part-returns-9 c = part-high _ _ _ _ _ (omega arith) (omega arith) (omega arith) (c .nothing6 .ensures _ _)
+  part-returns-9 c =
+      part-link _ _ _ _ _ (omega arith) (omega arith) _ (c .before .wide2 .ensures .same) (omega arith) (omega arith)
+      (c .link2 .ensures)
+
+  part-returns-10 : part-lts.Need-returns-10 (part-claims t) (part-at t) part.Post
+  part-returns-10 c = part-high _ _ _ _ _ (omega arith) (omega arith) (omega arith) (c .nothing6 .ensures _ _)
 
   run-none-requires : run-lts.Need-none-requires (run-claims t) (run-at t) run.Post
   run-none-requires c κs = search needs
@@ -225,8 +236,10 @@ pub +part+run-spec : {M : Type 1} → statement M
     (part-add-nothing t) (part-nothing-requires-3 t) (part-add-part t) (part-sub-part t) (part-part-requires t)
     (part-wrap-requires t) (part-add-nothing-2 t) (part-nothing-requires-4 t) (part-add-run t) (part-sub-run t)
     (part-add-word t) (part-word-requires t) (part-run-requires t) (part-add-nothing-3 t)
-    (part-nothing-requires-5 t) (part-wide-requires t) (part-link-requires t) (part-add-nothing-4 t)
+    (part-nothing-requires-5 t) (part-wide-requires t) (part-link-requires t)
+    (part-wide-requires-2 t) (part-link-requires-2 t) (part-add-nothing-4 t)
     (part-nothing-requires-6 t) (part-returns-3 t) (part-returns-4 t) (part-returns-5 t) (part-returns-6 t)
-    (part-returns-7 t) (part-returns-8 t) (part-returns-9 t))
+    (part-returns-7 t) (part-returns-8 t) (part-returns-9 t)
+    (part-returns-10 t))
     (λ t. run-lts.spec (run-claims t) (run-at t) run.Post (run-none-requires t) (run-returns t)
     (run-part-requires t) (run-sub-run t) (run-run-requires t) (run-join-requires t) (run-returns-2 t))

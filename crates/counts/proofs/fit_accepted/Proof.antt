@@ -1,7 +1,7 @@
 -- `fit_accepted` meets its contract. Assumes nothing.
 use native.Mathlib.Omega.{arith}
 use Prim.Native.Nat.{_+_, _-_, _*_}
-use mathlib.Core.Path.{_≡_}
+use mathlib.Core.Path.{_≡_, refl}
 use Rattle.words.specs.Limits.{maxLabels}
 use Rattle.template.proofs.Accepted.{template-accepted}
 use Rattle.template.proofs.Answers.{template-read}
@@ -9,6 +9,10 @@ use Rattle.counts.proofs.Fitting.{fits-asks, fit-shape, fit-length, fit
 use borrow.Author.Needs.{needs}
 use Rattle.counts.proofs.fit_accepted.Statement.{statement}
 use Rattle.counts.proofs.fit_accepted.Tie as tie
+
+-- The function's entry, from where the shape's place was found.
+abbrev entry : tie.After-shape-place → tie.Start
+entry c = c .before .before .before .before .before .before .before .before .before .before
 
 returns : tie.Need-returns
 returns c =
@@ -18,6 +22,9 @@ returns c =
 
 wide-requires : tie.Need-wide-requires
 wide-requires c κs = search needs
+
+mul-if2 : tie.Need-mul-if2
+mul-if2 c = search needs
 
 returns-2 : tie.Need-returns-2
 returns-2 c =
@@ -46,6 +53,15 @@ add-end c = search needs
 shape-place-requires : tie.Need-shape-place-requires
 shape-place-requires c κs = search needs
 
+slice-aggregate-spread : tie.Need-slice-aggregate-spread
+slice-aggregate-spread c = search needs
+
+spread-requires : tie.Need-spread-requires
+spread-requires c κs =
+    let (t, e, kinds, shapes) = template-read _ _ _ (entry (c .before) .pre .said) in
+    let high = template-accepted _ t e .kinds-high in
+    record { few = omega arith; each-way = omega arith; zeros = refl }
+
 sub-fits : tie.Need-sub-fits
 sub-fits c = search needs
 
@@ -54,38 +70,43 @@ part-fits-start c = search needs
 
 part-fits-end : tie.Need-part-fits-end
 part-fits-end c =
-    let start = c .before .before .before .before .before .before .before .before .before .before in
-    let (t, e, kinds, shapes) = template-read _ _ _ (start .pre .said) in
+    let (t, e, kinds, shapes) = template-read _ _ _ (entry (c .before .before .before) .pre .said) in
     let high = template-accepted _ t e .shapes-high in
     omega arith
 
+slice-aggregate-fits : tie.Need-slice-aggregate-fits
+slice-aggregate-fits c = search needs
+
 fits-requires : tie.Need-fits-requires
 fits-requires c κs =
-    let start = c .before .before .before .before .before .before .before .before .before .before .before in
+    let spread = c .before .before .before in
+    let found = spread .before .before in
+    let start = entry found in
     let (t, e, kinds, shapes) = template-read _ _ _ (start .pre .said) in
-    let row = c .before .before .wide2 .result * maxLabels in
+    let row = found .before .wide2 .result * maxLabels in
     let base : row ≡ start .args .shape .0 * maxLabels = omega arith in
     let size : row + maxLabels - row ≡ maxLabels = omega arith in
-    fits-asks _ t e _ (omega arith) (start .args .counts .now) (start .args .names .now) _ _ _ (start .pre .table t e)
-    (start .pre .size) (omega arith) (c .before .shape-place .ensures) base size
+    let few = template-accepted _ t e .kinds-high in
+    fits-asks _ t e _ (omega arith) (start .args .names .now) _ _ _ _ _ (start .pre .table t e) (start .pre .size)
+    (spread .spread .ensures .full) (omega arith) (found .shape-place .ensures) base size
 
 returns-4 : tie.Need-returns-4
 returns-4 c =
-    let place = c .before .before .before in
-    let over = place .before .before .before in
-    let start = over .before .before .before .before .before .before .before in
-    let (t, e, kinds, shapes) = template-read _ _ _ (start .pre .said) in
-    fit-yes _ _ _ t e (omega arith) (omega arith) _ (over .first-over .ensures)
-    (place .before .before .if3 .left) _ _ (place .shape-place .ensures) (c .before .fits2 .ensures) (c .if4 .taken)
+    let spread = c .before .before .before .before .before in
+    let found = spread .before .before in
+    let over = found .before .before .before in
+    let (t, e, kinds, shapes) = template-read _ _ _ (entry found .pre .said) in
+    fit-yes _ _ _ t e (omega arith) (omega arith) _ (over .first-over .ensures) (found .before .before .if3 .left) _ _ _
+    (omega arith) (spread .spread .ensures) (found .shape-place .ensures) _ (c .before .fits2 .ensures) (c .if4 .taken)
 
 returns-5 : tie.Need-returns-5
 returns-5 c =
-    let place = c .before .before .before in
-    let over = place .before .before .before in
-    let start = over .before .before .before .before .before .before .before in
-    let (t, e, kinds, shapes) = template-read _ _ _ (start .pre .said) in
-    fit-no _ _ _ t e (omega arith) (omega arith) _ (over .first-over .ensures)
-    (place .before .before .if3 .left) _ _ (place .shape-place .ensures) (c .before .fits2 .ensures) (c .if4 .left)
+    let spread = c .before .before .before .before .before in
+    let found = spread .before .before in
+    let over = found .before .before .before in
+    let (t, e, kinds, shapes) = template-read _ _ _ (entry found .pre .said) in
+    fit-no _ _ _ t e (omega arith) (omega arith) _ (over .first-over .ensures) (found .before .before .if3 .left) _ _ _
+    (omega arith) (spread .spread .ensures) (found .shape-place .ensures) _ (c .before .fits2 .ensures) (c .if4 .left)
 
 pub fit-accepted-spec : {M : Type 1} → statement M
 fit-accepted-spec =
@@ -93,6 +114,7 @@ fit-accepted-spec =
     (tie.spec
     returns
     wide-requires
+    mul-if2
     returns-2
     first-over-requires
     returns-3
@@ -100,9 +122,12 @@ fit-accepted-spec =
     mul-base
     add-end
     shape-place-requires
+    slice-aggregate-spread
+    spread-requires
     sub-fits
     part-fits-start
     part-fits-end
+    slice-aggregate-fits
     fits-requires
     returns-4
     returns-5)

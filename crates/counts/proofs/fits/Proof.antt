@@ -1,6 +1,5 @@
 -- `fits` meets its contract. Assumes nothing.
 use Prim.Native.Nat.{_+_}
-use lib.ListN.{length}
 use Rattle.words.specs.Limits.{maxDepth}
 use Rattle.bags.specs.Bag.{count}
 use Rattle.counts.specs.Trees.{treeAt}
@@ -25,18 +24,17 @@ returns : tie.Need-returns
 returns c =
     let others = c .before .before .before .before in
     let start = others .before .before .before .before in
-    let counts = start .args .counts .now in
     let t = treeAt maxDepth (start .args .words .now) (start .args .at + 1) in
-    fits-one (count counts) (length counts) _ t _ (others .others-zero .ensures (t .value) (start .pre .row-of)) _ _
-    (c .before .before .part .ensures) (c .has-one .ensures) (c .before .before .before .if1 .taken)
+    fits-one (count (start .args .counts .now)) (start .args .kinds) _ t _
+    (others .others-zero .ensures (t .value) (start .pre .row-of)) _ _ (c .before .before .part .ensures)
+    (c .has-one .ensures) (c .before .before .before .if1 .taken)
 
 returns-2 : tie.Need-returns-2
 returns-2 c =
     let start = c .before .before .before .before .before in
-    let counts = start .args .counts .now in
     let t = treeAt maxDepth (start .args .words .now) (start .args .at + 1) in
-    fits-not (count counts) (length counts) 0 t _ (c .before .others-zero .ensures (t .value) (start .pre .row-of))
-    (c .if1 .left)
+    fits-not (count (start .args .counts .now)) (start .args .kinds) 0 t _
+    (c .before .others-zero .ensures (t .value) (start .pre .row-of)) (c .if1 .left)
 
 pub fits-spec : {M : Type 1} → statement M
 fits-spec =

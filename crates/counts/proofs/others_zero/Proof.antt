@@ -1,11 +1,10 @@
--- `others_zero` meets its contract. The invariant: the labels passed that are not named count 0. The measure is the
--- counts left. Assumes nothing.
+-- `others_zero` meets its contract. The invariant: the kinds passed that are not named count 0. The measure is the
+-- kinds left. Assumes nothing.
 use borrow.Author.Needs.{needs}
 use native.Mathlib.Omega.{arith}
 use Prim.Native.Nat.{_-_, _≤_, _<_}
 use mathlib.Core.Path.{_≡_, refl, sym}
 use mathlib.Core.Bool.{true}
-use lib.ListN.{length}
 use Rattle.bags.specs.Part.{Part}
 use Rattle.bags.specs.Bag.{count}
 use Rattle.bags.specs.Interval.{othersZero}
@@ -15,12 +14,11 @@ use Rattle.counts.proofs.others_zero.Statement.{statement}
 use Rattle.counts.proofs.others_zero.Tie as tie
 
 abbrev Inv-loop : tie.InvT-loop
-Inv-loop row counts i₀ i =
-    (i ≤ length counts)
-    × ((p : Part) → RowOf row (length counts) p → othersZero i p (count counts) ≡ true)
+Inv-loop row counts kinds i₀ i =
+    (i ≤ kinds) × ((p : Part) → RowOf row kinds p → othersZero i p (count counts) ≡ true)
 
 abbrev μ-loop : tie.MeasureT-loop
-μ-loop row counts i₀ i = length counts - i
+μ-loop row counts kinds i₀ i = kinds - i
 
 loop-holds : tie.Need-loop-holds Inv-loop μ-loop
 loop-holds c = (omega arith, λ p h. refl)
@@ -47,25 +45,25 @@ loop-again : tie.Need-loop-again Inv-loop μ-loop
 loop-again c =
     let at = c .before .before .before .before .before in
     let i = at .loop .i in
-    let counts = at .before .before .before .args .counts .now in
-    let below : i < length counts = omega arith in (
+    let start = at .before .before .before .args in
+    let below : i < start .kinds = omega arith in (
       omega arith,
-      λ p h. others-step p (count counts) i _ _ (h i below) (c .before .allowed .ensures) (c .if1 .taken)
-          (at .loop .inv .1 p h),
+      λ p h. others-step p (count (start .counts .now)) i _ _ (h i below) (c .before .allowed .ensures)
+          (c .if1 .taken) (at .loop .inv .1 p h),
     )
 
 returns : tie.Need-returns Inv-loop μ-loop
 returns c p h =
     let at = c .before .before .before .before .before in
     let i = at .loop .i in
-    let counts = at .before .before .before .args .counts .now in
-    let below : i < length counts = omega arith in
-    others-not p (count counts) i _ _ (h i below) (c .before .allowed .ensures) (length counts) below (c .if1 .left)
+    let start = at .before .before .before .args in
+    let below : i < start .kinds = omega arith in
+    others-not p (count (start .counts .now)) i _ _ (h i below) (c .before .allowed .ensures) (start .kinds) below
+    (c .if1 .left)
 
 returns-2 : tie.Need-returns-2 Inv-loop μ-loop
 returns-2 c p h =
-    let counts = c .before .before .before .before .args .counts .now in
-    let end : c .before .loop .i ≡ length counts = omega arith in
+    let end : c .before .loop .i ≡ c .before .before .before .before .args .kinds = omega arith in
     sym (rw end at (c .before .loop .inv .1 p h))
 
 pub others-zero-spec : {M : Type 1} → statement M

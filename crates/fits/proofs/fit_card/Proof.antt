@@ -6,15 +6,15 @@ use native.Mathlib.Omega.{arith}
 use borrow.Author.Needs.{needs}
 use denote.Ref.{now}
 use Rattle.fits.proofs.Rows.{FittedBelow, fitted-start, fitted-next, fitted-end, byte-is, ShapeWithin}
-use Rattle.fits.proofs.Rows.{shape-within, shape-row, shape-names}
+use Rattle.fits.proofs.Rows.{kinds-few, shape-within, shape-row, shape-names}
 use Rattle.fits.proofs.fit_card.Statement.{statement}
 use Rattle.fits.proofs.fit_card.Tie as tie
 
 abbrev Inv-loop : tie.InvT-loop
-Inv-loop template names shapes counts row₀ at₀ t₀ row at t = FittedBelow template shapes counts row at t
+Inv-loop template names kinds shapes counts row₀ at₀ t₀ row at t = FittedBelow template kinds shapes counts row at t
 
 abbrev μ-loop : tie.MeasureT-loop
-μ-loop template names shapes counts row₀ at₀ t₀ row at t = shapes - t
+μ-loop template names kinds shapes counts row₀ at₀ t₀ row at t = shapes - t
 
 -- The function's start, from the loop.
 abbrev start : tie.At-loop Inv-loop μ-loop → tie.Start Inv-loop μ-loop
@@ -26,10 +26,10 @@ shape-in : (c : tie.In-loop Inv-loop μ-loop) →
     ShapeWithin (now (s .args .template)) (s .args .shapes) (c .before .loop .at)
 shape-in c =
     let s = start (c .before) in
-    shape-within _ _ _ _ _ _ (c .before .loop .inv) (omega arith) (s .pre .shaped)
+    shape-within _ _ _ _ _ _ _ (c .before .loop .inv) (omega arith) (s .pre .shaped)
 
 loop-holds : tie.Need-loop-holds Inv-loop μ-loop
-loop-holds c = fitted-start _ _ _ _ (c .before .before .before .before .pre .size)
+loop-holds c = fitted-start _ _ _ _ _ (c .before .before .before .before .pre .size)
 
 mul-base : tie.Need-mul-base Inv-loop μ-loop
 mul-base c = let w = shape-in c in search needs
@@ -53,14 +53,16 @@ fits-requires c κs =
     let s = start l in
     let inv = l .loop .inv in
     let names = now (s .args .names) in
-    let row = shape-row _ _ _ _ _ _ inv (omega arith) names (s .pre .shaped) (s .pre .room) in
+    let few = kinds-few _ _ _ (s .pre .shaped) in
+    let row = shape-row _ _ _ _ _ _ _ inv (omega arith) names (s .pre .shaped) (s .pre .room) in
     record {
       words-high = w .short;
       at-in = w .start;
-      labels-in = omega (arith, row, s .pre .few);
+      kinds-in = omega (arith, row, few);
+      counted = omega (arith, s .pre .counted, few);
       row-of = λ k h.
-          shape-names _ _ _ _ _ _ inv (omega arith) names (s .pre .shaped) (s .pre .table) (s .pre .room) k
-          (omega (arith, s .pre .few));
+          shape-names _ _ _ _ _ _ _ inv (omega arith) names (s .pre .shaped) (s .pre .table) (s .pre .room) k
+          (omega (arith, few));
     }
 
 slice-write-row : tie.Need-slice-write-row Inv-loop μ-loop
@@ -96,15 +98,15 @@ loop-again c =
     let inv = c .before .before .before .before .before .before .loop .inv in
     let size = c .wide .ensures .same in
     ⊎-elim
-    (λ w. fitted-next _ _ _ _ _ _ inv (omega arith) 1 _ (byte-is _ _ _ test (w .0 .taken)) size _ (w .1))
-    (λ w. fitted-next _ _ _ _ _ _ inv (omega arith) 0 _ (byte-is _ _ _ test (w .0 .left)) size _ (w .1))
+    (λ w. fitted-next _ _ _ _ _ _ _ inv (omega arith) 1 _ (byte-is _ _ _ test (w .0 .taken)) size _ (w .1))
+    (λ w. fitted-next _ _ _ _ _ _ _ inv (omega arith) 0 _ (byte-is _ _ _ test (w .0 .left)) size _ (w .1))
     (c .before .before .if1 .came)
 
 same-length : tie.Need-same-length Inv-loop μ-loop
 same-length c = search needs
 
 returns : tie.Need-returns Inv-loop μ-loop
-returns c = fitted-end _ _ _ _ _ _ (c .before .loop .inv) (omega arith)
+returns c = fitted-end _ _ _ _ _ _ _ (c .before .loop .inv) (omega arith)
 
 pub fit-card-spec : {M : Type 1} → statement M
 fit-card-spec =

@@ -11,15 +11,15 @@ use Rattle.fits.proofs.fit_grid.Statement.{statement}
 use Rattle.fits.proofs.fit_grid.Tie as tie
 
 abbrev Inv-loop : tie.InvT-loop
-Inv-loop template script names starts e grid₀ cards shapes n₀ grid n =
-    RowsFitted template script (e .links) cards shapes grid n
+Inv-loop template script names starts first next e grid₀ counts₀ cards shapes n₀ grid counts n =
+    RowsFitted template script e cards shapes grid n
 
 abbrev μ-loop : tie.MeasureT-loop
-μ-loop template script names starts e grid₀ cards shapes n₀ grid n = cards - n
+μ-loop template script names starts first next e grid₀ counts₀ cards shapes n₀ grid counts n = cards - n
 
 -- The function's start, from the point where both counts are read.
 abbrev start : tie.After-wide2 Inv-loop μ-loop → tie.Start Inv-loop μ-loop
-start a = a .before .before .before .before .before .before .before
+start a = a .before .before .before .before .before .before .before .before .before
 
 -- How many pairs lie before the card that the loop is at.
 bounds : (c : tie.In-loop Inv-loop μ-loop) →
@@ -53,12 +53,14 @@ part-fit-row-start : tie.Need-part-fit-row-start Inv-loop μ-loop
 part-fit-row-start c = search needs
 
 part-fit-row-end : tie.Need-part-fit-row-end Inv-loop μ-loop
-part-fit-row-end c = let b = row-inside _ _ _ _ _ _ _ (c .before .loop .inv) (omega arith) in search needs
+part-fit-row-end c =
+    let b = row-inside _ _ _ _ _ _ _ (c .before .before .loop .inv) (omega arith) in
+    search needs
 
 fit-row-requires : tie.Need-fit-row-requires Inv-loop μ-loop
 fit-row-requires c κs =
-    let a = c .before .before .before in
-    let size = row-length _ _ _ _ _ _ _ (c .before .before .loop .inv) (omega arith) in
+    let a = c .before .before .before .before in
+    let size = row-length _ _ _ _ _ _ _ (c .before .before .before .loop .inv) (omega arith) in
     let shapes = a .wide2 .ensures .same in
     record { sheet = start a .pre .sheet; below = omega arith; size = size ∙ shapes }
 
@@ -70,10 +72,10 @@ loop-less c = search needs
 
 loop-again : tie.Need-loop-again Inv-loop μ-loop
 loop-again c =
-    let a = c .before .before .before .before .before in
-    let row = c .before .before .fit-row in
-    rows-next _ _ _ _ _ _ _ (a .loop .inv) (omega arith) (row .last .1 .1 .1 .1 .1 .1 .0) (c .before .grid .given .0) _
-    (a .before .wide2 .ensures .same) (row .ensures)
+    let r = c .before .before in
+    let a = r .before .before .before .before in
+    rows-next _ _ _ _ _ _ _ (a .loop .inv) (omega arith) (r .fit-row .last .1 .1 .1 .1 .1 .1 .1 .1 .1 .0)
+    (c .before .grid .given .0) (a .before .wide2 .ensures .same) (r .fit-row .ensures)
 
 same-length : tie.Need-same-length Inv-loop μ-loop
 same-length c =
@@ -84,7 +86,7 @@ same-length c =
 returns : tie.Need-returns Inv-loop μ-loop
 returns c =
     let a = c .before .before in
-    rows-end _ _ _ _ _ _ _ _ _ (c .before .loop .inv) (omega arith) (a .before .wide .ensures .same)
+    rows-end _ _ _ _ _ _ _ (c .before .loop .inv) (omega arith) (a .before .wide .ensures .same)
     (a .wide2 .ensures .same)
 
 pub fit-grid-spec : {M : Type 1} → statement M

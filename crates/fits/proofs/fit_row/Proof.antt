@@ -1,50 +1,73 @@
--- `fits::fit_row` meets its contract: the counts have room for each kind of the template, and no more.
--- Assumes nothing.
+-- `fits::fit_row` meets its contract: the card's links are counted, and the row fits the counts. Assumes nothing.
 use borrow.Author.Needs.{needs}
-use Rattle.fits.proofs.CardCounts.{kinds-few, counts-length}
+use mathlib.Core.Path.{refl, sym, _∙_}
+use native.Mathlib.Omega.{arith}
+use Rattle.sheet.proofs.Openings.{opened-shaped}
+use Rattle.fits.proofs.Rows.{kinds-few}
+use Rattle.fits.proofs.CardCounts.{card-fitted}
 use Rattle.fits.proofs.fit_row.Statement.{statement}
 use Rattle.fits.proofs.fit_row.Tie as tie
 
--- The function's start, from the point where the count of kinds is read.
-abbrev start : tie.After-wide → tie.Start
-start a = a .before .before .before .before .before .before
+-- The function's start, and the point where the card is counted.
+abbrev start : tie.After-count-card-arg → tie.Start
+start c = c .before .before .before .before .before .before .before .before
+
+abbrev counted : tie.After-fit-card-arg → tie.After-count-card
+counted c = c .before .before .before
+
+count-card-requires : tie.Need-count-card-requires
+count-card-requires c κs =
+    let s = start c in
+    let ready = s .pre .sheet in
+    let known = ready .known in
+    record {
+      read = known .opened .script-read;
+      few = kinds-few _ _ _ (opened-shaped _ _ (s .args .e) _ _ (known .opened) refl refl);
+      leaving = ready .leaving;
+      arriving = ready .arriving;
+      below = s .pre .below;
+      room = omega arith;
+    }
 
 wide-requires : tie.Need-wide-requires
 wide-requires c κs = search needs
 
-sub-fit-counted : tie.Need-sub-fit-counted
-sub-fit-counted c = search needs
+wide-requires-2 : tie.Need-wide-requires-2
+wide-requires-2 c κs = search needs
 
-part-counts-start : tie.Need-part-counts-start
-part-counts-start c = search needs
-
-part-counts-end : tie.Need-part-counts-end
-part-counts-end c =
-    let few = kinds-few _ _ _ (start c .pre .sheet .known .opened) in
-    search needs
-
-fit-counted-requires : tie.Need-fit-counted-requires
-fit-counted-requires c κs =
-    let a = c .before .before in
-    let s = start a in
-    let kinds = a .wide .ensures .same in
-    let size = counts-length _ _ _ (s .pre .sheet .known .opened) _ kinds in
-    record { card = s .pre; kinds = size }
+fit-card-requires : tie.Need-fit-card-requires
+fit-card-requires c κs =
+    let a = counted (c .before .before) in
+    let s = start (a .before) in
+    let known = s .pre .sheet .known in
+    let kinds = c .before .before .before .before .wide .ensures .same in
+    let shapes = c .before .before .before .wide2 .ensures .same in
+    record {
+      shaped = opened-shaped _ _ (s .args .e) _ _ (known .opened) kinds shapes;
+      table = known .table;
+      room = known .room;
+      counted = omega arith;
+      size = s .pre .size ∙ sym shapes;
+    }
 
 same-length : tie.Need-same-length
 same-length c = search needs
 
 returns : tie.Need-returns
-returns c = search needs
+returns c =
+    let f = c .before .before in
+    let w = f .before .before .before in
+    let a = counted w in
+    let s = start (a .before) in
+    card-fitted _ _ _ (s .args .e) (s .pre .sheet .known) _ _ (a .count-card .ensures) _ _ _ (w .before .before .wide .ensures .same) (w .before .wide2 .ensures .same) (f .fit-card .ensures)
 
 pub fit-row-spec : {M : Type 1} → statement M
 fit-row-spec =
     tie.close
     (tie.spec
+    count-card-requires
     wide-requires
-    sub-fit-counted
-    part-counts-start
-    part-counts-end
-    fit-counted-requires
+    wide-requires-2
+    fit-card-requires
     same-length
     returns)

@@ -1,5 +1,6 @@
 -- `template::link` meets its contract: a law of proofs/Laws for each answer.
 -- Assumes nothing.
+use mathlib.Core.Path.{sym, _∙_}
 use native.Mathlib.Omega.{arith}
 use Rattle.template.proofs.Laws.{link-short, link-kind, link-again, link-shape, link-good, link-limits}
 use borrow.Author.Needs.{needs}
@@ -10,19 +11,22 @@ sub-if1 : tie.Need-sub-if1
 sub-if1 c = search needs
 
 returns : tie.Need-returns
-returns c = link-short _ _ _ _ _ _ (omega arith)
+returns c = link-short _ _ _ _ _ _ _ (omega arith)
 
 returns-2 : tie.Need-returns-2
-returns-2 c = link-kind _ _ _ _ _ _ (omega arith) (omega arith)
+returns-2 c = link-kind _ _ _ _ _ _ _ (omega arith) (omega arith)
 
 cast-label : tie.Need-cast-label
 cast-label c = search needs
+
+add-label : tie.Need-add-label
+add-label c = search needs
 
 slice-read-if3 : tie.Need-slice-read-if3
 slice-read-if3 c = search needs
 
 returns-3 : tie.Need-returns-3
-returns-3 c = link-again _ _ _ _ _ _ (omega arith) (omega arith) (omega arith)
+returns-3 c = link-again _ _ _ _ _ _ _ (omega arith) (omega arith) (omega arith)
 
 add-limits-ok : tie.Need-add-limits-ok
 add-limits-ok c = search needs
@@ -33,11 +37,11 @@ mul-limits-ok c = search needs
 shared-slice-read-limits-ok : tie.Need-shared-slice-read-limits-ok
 shared-slice-read-limits-ok c = search needs
 
-add-t16 : tie.Need-add-t16
-add-t16 c = search needs
+add-t17 : tie.Need-add-t17
+add-t17 c = search needs
 
 returns-4 : tie.Need-returns-4
-returns-4 c = link-shape _ _ _ _ _ _ (omega arith) (omega arith) (omega arith) (omega arith)
+returns-4 c = link-shape _ _ _ _ _ _ _ (omega arith) (omega arith) (omega arith) (omega arith)
 
 add-limits-ok-2 : tie.Need-add-limits-ok-2
 add-limits-ok-2 c = search needs
@@ -66,20 +70,24 @@ entry-requires c κs = search needs
 slice-write-row : tie.Need-slice-write-row
 slice-write-row c = search needs
 
-add-t26 : tie.Need-add-t26
-add-t26 c = search needs
-
 add-t27 : tie.Need-add-t27
 add-t27 c = search needs
+
+add-t28 : tie.Need-add-t28
+add-t28 c = search needs
 
 same-length : tie.Need-same-length
 same-length c = search needs
 
 returns-5 : tie.Need-returns-5
-returns-5 c = link-good _ _ _ _ _ _ _ (omega arith) (omega arith) (omega arith) (omega arith) (omega arith) (cc)
+returns-5 c =
+    link-good _ _ _ _ _ _ _ _ (omega arith) (omega arith) (omega arith) (omega arith) (omega arith)
+    (sym (c .before .before .limits-ok .ensures) ∙ c .before .if5 .taken)
 
 returns-6 : tie.Need-returns-6
-returns-6 c = link-limits _ _ _ _ _ _ (omega arith) (omega arith) (omega arith) (omega arith) (cc)
+returns-6 c =
+    link-limits _ _ _ _ _ _ _ (omega arith) (omega arith) (omega arith) (omega arith)
+    (sym (c .before .limits-ok .ensures) ∙ c .if5 .left)
 
 pub link-spec : {M : Type 1} → statement M
 link-spec =
@@ -89,12 +97,13 @@ link-spec =
     returns
     returns-2
     cast-label
+    add-label
     slice-read-if3
     returns-3
     add-limits-ok
     mul-limits-ok
     shared-slice-read-limits-ok
-    add-t16
+    add-t17
     returns-4
     add-limits-ok-2
     mul-limits-ok-2
@@ -105,8 +114,8 @@ link-spec =
     limits-ok-requires
     entry-requires
     slice-write-row
-    add-t26
     add-t27
+    add-t28
     same-length
     returns-5
     returns-6)

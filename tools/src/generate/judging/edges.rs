@@ -2,10 +2,9 @@
 
 use super::samples::SMALL;
 use super::JudgeCase;
+use crate::generate::counted;
 use crate::generate::special::{DOCUMENT_SCRIPT, DOCUMENT_TEMPLATE};
-use crate::numbers::Shape;
-use crate::samples::{table, Sample};
-use crate::template::{self, Link, Part, Template};
+use crate::samples::turned;
 
 /// One kind and three shapes: no links, one link to a card of shape 0, two of them.
 const NONE_ONE_TWO: [u16; 14] = [1, 3, 1, 0, 4, 256, 0, 1, 1, 4, 256, 0, 2, 2];
@@ -176,29 +175,22 @@ fn hubs() -> Vec<JudgeCase> {
     [0, 1, 40].map(case).into()
 }
 
-/// The count samples of docs/FORMAT.md: card 0 has that many links of each kind, all to cards that have the shape
-/// asked for, and the grid gives it the shape of the sample.
+/// The count samples of docs/FORMAT.md, as they are, with kind b arriving and with both kinds arriving: card 0 has that
+/// many links, all joining it to cards that have the shape asked for, and the grid gives it the shape of the sample.
 fn counts() -> Vec<JudgeCase> {
-    let case = |sample: &Sample| {
-        let to_second = |link: Link| Link {
-            shape: Shape(1),
-            ..link
-        };
-        let template = Template {
-            kinds: 2,
-            parts: vec![sample.part.with_links(&to_second), Part::Nothing],
-        };
-        let [a, b] = sample.counts;
-        let cards = 1 + a.max(b);
-        let mut script = vec![cards, a + b];
-        script.extend((1..=a).flat_map(|card| [0, 0, card]));
-        script.extend((1..=b).flat_map(|card| [0, 1, card]));
-        let mut grid = [0, 1].repeat(usize::from(cards));
-        grid[..2].copy_from_slice(&[1, 0]);
-        let name = format!("counts-{}-{a}-{b}", sample.label);
-        JudgeCase::new(name, &template::write(&template), &script, &[1, 0, 0], &grid)
-    };
-    table().iter().map(case).collect()
+    let mut cases = Vec::new();
+    for (name, part, counts) in turned() {
+        if let Some(files) = counted::sheet(&part, &counts) {
+            let mut grid = [0, 1].repeat(files.script[0].into());
+            grid[..2].copy_from_slice(&[1, 0]);
+            cases.push(JudgeCase {
+                name: format!("counts-{name}"),
+                files,
+                grid,
+            });
+        }
+    }
+    cases
 }
 
 /// Bookings that are held, and the first, one in the middle, the last, several or a repeated one that isn't, 63.

@@ -2,10 +2,12 @@
 
 use super::samples::SMALL;
 use super::{JudgeCase, MOST_FILE_WORDS, MOST_GRID_BYTES};
-use crate::generate::heavy::{dense_template, COMMON};
+use crate::generate::heavy::{common_kinds, dense_template};
 use crate::generate::parts::filler;
 use crate::generate::special::chain;
+use crate::generate::turns::chain_back;
 use crate::generate::{bookings, scripts};
+use crate::labels::{Label, Way};
 use crate::numbers::{Card, Kind, Shape};
 use crate::random::Random;
 use crate::script::{MOST_CARDS, MOST_LINKS};
@@ -14,19 +16,21 @@ use crate::template::{self, Link, MOST_SHAPES, MOST_WORDS};
 use crate::typing::bookings::MOST_BOOKINGS;
 use crate::typing::Pair;
 
-/// The last of the kinds that all shapes of the dense template name. Only the last card has a link of it.
-const RARE: Kind = Kind(COMMON - 1);
-
 /// All cases at the limits.
 pub fn limits() -> Vec<JudgeCase> {
     let pairs = usize::from(MOST_CARDS) * usize::from(MOST_SHAPES);
-    let full = |name, most| JudgeCase {
+    let full = |name, way, most| JudgeCase {
         name: format!("full-{name}"),
-        files: full_sheet(most),
+        files: full_sheet(way, most),
         grid: vec![1; pairs],
     };
     [
-        vec![full("accepted", 1), full("last-pair", 0)],
+        vec![
+            full("accepted", Way::Outgoing, 1),
+            full("last-pair", Way::Outgoing, 0),
+            full("both-ways-accepted", Way::Incoming, 1),
+            full("both-ways-last-pair", Way::Incoming, 0),
+        ],
         grids(pairs),
         booked(),
         chains(),
@@ -36,30 +40,34 @@ pub fn limits() -> Vec<JudgeCase> {
 }
 
 /// 64 kinds, 32 shapes, 4,096 template words, 1,024 cards with 8 links each, and 1,024 bookings. All pairs are met
-/// under the grid that has them all. Only the last one isn't, if the last shape takes none of the rare links.
-fn full_sheet(most: u16) -> Files {
-    let mut random = Random::new(12);
-    let mut template = dense_template();
-    let last_shape = usize::from(MOST_SHAPES) - 1;
+/// under the grid that has them all. Only the last one isn't, if the last shape takes none of the rare links, of which
+/// there is one; it starts at the last card, or arrives there. In the second case half of the labels are incoming.
+fn full_sheet(way: Way, most: u16) -> Files {
+    let last_card = MOST_CARDS - 1;
+    let (ways, rare_start, rare_target): (&[Way], u16, u16) = match way {
+        Way::Outgoing => (&[Way::Outgoing], last_card, 0),
+        Way::Incoming => (&Way::BOTH, 0, last_card),
+    };
+    let kind = Kind(common_kinds(ways) - 1);
+    let rare = Label { way, kind };
     let bounded = |link: Link| Link {
-        high: if link.kind == RARE { Some(most) } else { link.high },
+        high: if link.label == rare { Some(most) } else { link.high },
         ..link
     };
+    let mut template = dense_template(ways);
+    let last_shape = usize::from(MOST_SHAPES) - 1;
     template.parts[last_shape] = template.parts[last_shape].with_links(&bounded);
+    let mut random = Random::new(12);
     let mut links = scripts::Links::new();
     for card in 0..MOST_CARDS {
-        let mut kinds: Vec<u16> = (0..RARE.0).collect();
+        let mut kinds: Vec<u16> = (0..kind.0).collect();
         random.shuffle(&mut kinds);
         kinds.truncate(usize::from(MOST_LINKS / MOST_CARDS));
-        if card == MOST_CARDS - 1 {
-            kinds[0] = RARE.0;
+        if card == rare_start {
+            kinds.pop();
+            links.insert((card, kind.0, rare_target));
         }
-        // No link leads to the last card, so that no other pair asks for one of its.
-        links.extend(
-            kinds
-                .iter()
-                .map(|kind| (card, *kind, random.word(0, MOST_CARDS - 2))),
-        );
+        links.extend(kinds.iter().map(|kind| (card, *kind, random.word(0, last_card))));
     }
     let booked: Vec<Pair> = (0..MOST_BOOKINGS)
         .map(|card| (Card(card), Shape(card % MOST_SHAPES)))
@@ -119,20 +127,28 @@ fn booked() -> Vec<JudgeCase> {
 }
 
 /// A ring of all cards, all of which have the shape or all but the last; and a chain, whose last card can't have it.
+/// Then the same against the links, with a second shape that each card has; there the chain's first card can't have
+/// the first one.
 fn chains() -> Vec<JudgeCase> {
-    let whole = vec![1; usize::from(MOST_CARDS)];
-    let mut lacking = whole.clone();
-    lacking[usize::from(MOST_CARDS) - 1] = 0;
-    let case = |name: &str, closed, grid: &[u8]| JudgeCase {
-        name: name.to_string(),
-        files: chain(MOST_CARDS, closed),
-        grid: grid.to_vec(),
-    };
-    vec![
-        case("ring-1024", true, &whole),
-        case("ring-1024-last-card", true, &lacking),
-        case("chain-1024", false, &whole),
-    ]
+    let mut cases = Vec::new();
+    let sheets = [("", 1, chain as fn(u16, bool) -> Files), ("back-", 2, chain_back)];
+    for (name, shapes, make) in sheets {
+        let whole = vec![1; shapes * usize::from(MOST_CARDS)];
+        let mut lacking = whole.clone();
+        lacking[whole.len() - shapes] = 0;
+        for (end, closed, grid) in [
+            ("ring-1024", true, &whole),
+            ("ring-1024-last-card", true, &lacking),
+            ("chain-1024", false, &whole),
+        ] {
+            cases.push(JudgeCase {
+                name: format!("{name}{end}"),
+                files: make(MOST_CARDS, closed),
+                grid: grid.clone(),
+            });
+        }
+    }
+    cases
 }
 
 /// The longest template and one that is a word longer, and the longest booking list that a case may have.

@@ -1,6 +1,7 @@
 //! The examples of docs/FORMAT.md for *Judge a grid*, and every grid of the worked sheet.
 
 use super::JudgeCase;
+use crate::generate::arriving::GUESTS;
 use crate::generate::special::{DOCUMENT_SCRIPT, DOCUMENT_TEMPLATE};
 
 /// One kind and one shape, which is nothing.
@@ -14,8 +15,8 @@ type Row<'a> = (&'a [u16], &'a [u16], &'a [u16], &'a [u8]);
 /// The examples of the page, in its order.
 pub fn samples() -> Vec<JudgeCase> {
     let (two, three): (&[u16], &[u16]) = (&DOCUMENT_TEMPLATE, &DOCUMENT_SCRIPT);
-    let (small, link): (&[u16], &[u16]) = (&SMALL, &AT_MOST_ONE);
-    let rows: [Row; 24] = [
+    let (small, link, guests): (&[u16], &[u16], &[u16]) = (&SMALL, &AT_MOST_ONE, &GUESTS);
+    let rows: [Row; 28] = [
         (link, &[2, 1, 0, 0, 1], &[0], &[0, 0]),
         (link, &[2, 1, 0, 0, 1], &[0], &[0, 1]),
         (link, &[2, 1, 0, 0, 1], &[0], &[1, 1]),
@@ -40,6 +41,10 @@ pub fn samples() -> Vec<JudgeCase> {
         (two, three, &[1, 2, 1], &[0, 0, 1, 1, 0, 1]),
         (small, &[2, 0], &[1, 0, 0], &[1, 1]),
         (small, &[0, 0], &[0], &[]),
+        (guests, &[2, 1, 0, 0, 1], &[1, 1, 1], &[1, 0, 0, 1]),
+        (guests, &[2, 1, 0, 0, 1], &[1, 1, 1], &[0, 0, 0, 1]),
+        (guests, &[2, 1, 0, 0, 1], &[0], &[1, 0, 0, 0]),
+        (guests, &[2, 1, 0, 0, 1], &[0], &[0, 0, 0, 0]),
     ];
     rows.into_iter()
         .enumerate()

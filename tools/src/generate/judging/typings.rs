@@ -2,7 +2,9 @@
 
 use super::grids::between;
 use super::{read, JudgeCase};
+use crate::generate::arriving::GUESTS;
 use crate::generate::special::{chain, document};
+use crate::generate::turns::{chain_back, zigzag};
 use crate::generate::{derived, scripts, SMALL, TINY};
 use crate::random::Random;
 use crate::sheet::Files;
@@ -20,6 +22,9 @@ pub fn typings() -> Vec<JudgeCase> {
         ("document", document(&[1, 2, 1])),
         ("ring", chain(9, true)),
         ("rings", rings()),
+        ("ring-back", chain_back(5, true)),
+        ("zigzag", zigzag(6, false)),
+        ("guests", guests()),
     ];
     let [some, more] = RANDOM_SHEETS;
     sheets.extend((0..some).map(|_| ("random", random_sheet(&mut random))));
@@ -56,6 +61,16 @@ fn rings() -> Files {
         template: vec![1, 1, 4, 256, 0, 1, 1],
         script: scripts::words(6, &links),
         bookings: vec![1, 4, 0],
+    }
+}
+
+/// Three items, each with a guest of its own, of whom one is booked. Each item has its shape together with its guest.
+fn guests() -> Files {
+    let links: scripts::Links = (0..3).map(|item| (item, 0, item + 3)).collect();
+    Files {
+        template: GUESTS.to_vec(),
+        script: scripts::words(6, &links),
+        bookings: vec![1, 4, 1],
     }
 }
 

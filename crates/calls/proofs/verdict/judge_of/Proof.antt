@@ -5,7 +5,8 @@ use native.Mathlib.Omega.{arith}
 use denote.Ref.{now}
 use borrow.Author.Needs.{needs}
 use Rattle.sheet.specs.Sheet.{size}
-use Rattle.calls.proofs.Known.{sheet, asked, same-sheet, few-pairs}
+use Rattle.calls.proofs.Known.{same-sheet, few-pairs}
+use Rattle.calls.proofs.Tested.{test-asked, some-tested}
 use Rattle.calls.proofs.Judging.{over-found, marks-by}
 use Rattle.calls.proofs.verdict.judge_of.Statement.{statement}
 use Rattle.calls.proofs.verdict.judge_of.Tie as tie
@@ -15,10 +16,10 @@ abbrev start : tie.After-first-over → tie.Start
 start c = c .before .before .before .before .before .before
 
 abbrev low : tie.After-test-pairs-arg → tie.Else1
-low c = c .before .before .before
+low c = c .before .before .before .before .before
 
 abbrev tested : tie.After-pairs2 → tie.After-test-pairs
-tested c = c .before .before .before .before
+tested c = c .before .before .before .before .before .before
 
 first-over-requires : tie.Need-first-over-requires
 first-over-requires c κs = search needs
@@ -44,7 +45,10 @@ part-fitting-end c =
 test-pairs-requires : tie.Need-test-pairs-requires
 test-pairs-requires c κs =
     let lent = start (low c .before) .pre in
-    record { known = lent .listed .known; size = omega (arith, lent .size, few-pairs (lent .listed .known)) }
+    test-asked (record {
+      known = lent .listed .known;
+      size = omega (arith, lent .size, few-pairs (lent .listed .known));
+    })
 
 judge-tested-requires : tie.Need-judge-tested-requires
 judge-tested-requires c κs =
@@ -54,10 +58,8 @@ judge-tested-requires c κs =
     let k = s .pre .listed .known in
     record {
       settling = record {
-        sheet = sheet k;
-        tested = pairs .test-pairs .ensures .tested (sheet k) (asked k);
+        some = some-tested k (pairs .test-pairs .ensures);
         list = s .pre .listed .list;
-        links = pairs .test-pairs .ensures .links;
         size = s .pre .size;
       };
       marks = marks-by (now (s .args .grid)) (none .before .first-over .ensures) (none .if1 .left);

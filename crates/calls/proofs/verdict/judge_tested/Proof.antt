@@ -8,15 +8,15 @@ use denote.Ref.{now}
 use borrow.Author.Needs.{needs}
 use Rattle.words.proofs.Places.{shape-in}
 use Rattle.bookings.proofs.Accepted.{bookings-count}
-use Rattle.calls.proofs.Known.{read, ready, few-pairs, card-starts}
+use Rattle.calls.proofs.Known.{read, links-ready, few-pairs}
 use Rattle.calls.proofs.Settling.{listed-room, listed-in}
 use Rattle.calls.proofs.Judging.{unmet-tested, unheld-tested, passes-tested}
 use Rattle.calls.proofs.verdict.judge_tested.Statement.{statement}
 use Rattle.calls.proofs.verdict.judge_tested.Tie as tie
 
 -- The start, from where the pairs are looked at.
-abbrev start : tie.After-first-unmet-arg → tie.Start
-start c = c .before .before .before .before .before .before .before
+abbrev start : tie.After-first-unmet-arg3 → tie.Start
+start c = c .before .before .before .before .before .before .before .before .before
 
 cast-shapes : tie.Need-cast-shapes
 cast-shapes c = search needs
@@ -24,35 +24,34 @@ cast-shapes c = search needs
 first-unmet-requires : tie.Need-first-unmet-requires
 first-unmet-requires c κs =
     let asked = start c .pre .settling in
-    let k = asked .tested .known in
+    let k = asked .some .tested .known in
     record {
-      ready = ready k;
-      starting = card-starts k _ (asked .links);
+      links = links-ready k (asked .some .links);
       full = asked .size ∙ ap (λ (n : ℕ). n * start c .args .e .shapes) (read k .links .cards);
-      tested = omega (arith, asked .tested .fits .full, asked .size);
+      tested = omega (arith, asked .some .tested .fits .full, asked .size);
     }
 
-div-t16 : tie.Need-div-t16
-div-t16 c = read (start (c .before .before) .pre .settling .tested .known) .shapes .shapes-low
+div-t22 : tie.Need-div-t22
+div-t22 c = read (start (c .before .before) .pre .settling .some .tested .known) .shapes .shapes-low
 
-cast-t17 : tie.Need-cast-t17
-cast-t17 c =
+cast-t23 : tie.Need-cast-t23
+cast-t23 c =
     let s = start (c .before .before) in
     let asked = s .pre .settling in
     omega (
       arith,
       div-le-self (c .before .first-unmet .result) (s .args .e .shapes),
       asked .size,
-      few-pairs (asked .tested .known),
+      few-pairs (asked .some .tested .known),
     )
 
-rem-t19 : tie.Need-rem-t19
-rem-t19 c = read (start (c .before .before) .pre .settling .tested .known) .shapes .shapes-low
+rem-t25 : tie.Need-rem-t25
+rem-t25 c = read (start (c .before .before) .pre .settling .some .tested .known) .shapes .shapes-low
 
-cast-t20 : tie.Need-cast-t20
-cast-t20 c =
+cast-t26 : tie.Need-cast-t26
+cast-t26 c =
     let s = start (c .before .before) in
-    let accepted = read (s .pre .settling .tested .known) in
+    let accepted = read (s .pre .settling .some .tested .known) in
     omega (
       arith,
       shape-in (s .args .e .shapes) (accepted .shapes .shapes-low) (c .before .first-unmet .result),
@@ -77,11 +76,11 @@ first-unheld-requires c κs =
       booked-in = listed-in (e .cards) (e .shapes) (now (s .args .bookings)) (asked .list);
     }
 
-mul-t22 : tie.Need-mul-t22
-mul-t22 c = search needs
+mul-t28 : tie.Need-mul-t28
+mul-t28 c = search needs
 
-add-t23 : tie.Need-add-t23
-add-t23 c = search needs
+add-t29 : tie.Need-add-t29
+add-t29 c = search needs
 
 returns-2 : tie.Need-returns-2
 returns-2 c sheet t =
@@ -109,13 +108,13 @@ judge-tested-spec =
     (tie.spec
     cast-shapes
     first-unmet-requires
-    div-t16
-    cast-t17
-    rem-t19
-    cast-t20
+    div-t22
+    cast-t23
+    rem-t25
+    cast-t26
     returns
     first-unheld-requires
-    mul-t22
-    add-t23
+    mul-t28
+    add-t29
     returns-2
     returns-3)

@@ -14,7 +14,7 @@ use Rattle.search.proofs.closure.close.Tie as tie
 
 -- the function's entry, and the steps: the grid is filled, the bookings are marked, listed and flooded from
 abbrev Start : tie.After-fill → tie.Start
-Start a = a .before .before .before .before .before .before .before .before
+Start a = a .before .before .before .before .before .before .before .before .before .before
 
 abbrev Filled : tie.After-mark-bookings → tie.After-fill
 Filled m = m .before .before .before .before
@@ -47,8 +47,8 @@ mark-bookings-requires c κs =
     record {
       words = s .pre .words;
       full = fill .kept .0 ∙ s .pre .full;
-      few-cards = omega (arith, s .pre .all-cards, s .pre .ready .few-cards);
-      few-shapes = s .pre .ready .few-shapes;
+      few-cards = omega (arith, s .pre .all-cards, s .pre .links .ready .few-cards);
+      few-shapes = s .pre .links .ready .few-shapes;
       booked-in = s .pre .booked-in;
       ones = filled (fill .last .0) (length (now (s .args .grid))) 1 (fill .ensures);
     }
@@ -58,7 +58,7 @@ list-off-requires c κs =
     let m = c .before .before .before .before in
     let s = Start (Filled m) in
     record {
-      few-places = omega (arith, marked-full m, pairs-bound (s .pre .ready));
+      few-places = omega (arith, marked-full m, pairs-bound (s .pre .links .ready));
       room = omega (arith, marked-full m, grid-full s, s .pre .room);
     }
 
@@ -68,8 +68,7 @@ flood-requires c κs =
     let m = Marking listed in
     let s = Start (Filled m) in
     record {
-      ready = s .pre .ready;
-      starting = s .pre .starting;
+      links = s .pre .links;
       full = marked-full m;
       room = omega (arith, marked-full m, grid-full s, listed .list-off .kept .1 .0, s .pre .room);
       listed = listed .list-off .ensures;
@@ -90,7 +89,7 @@ returns c =
     let flood = Flooding flipped in
     let m = Marking (Listing flood) in
     let s = Start (Filled m) in
-    closes (s .pre .ready)
+    closes (s .pre .links .ready)
     (λ i l. let (card, shape) = s .pre .booked-in i l in (omega (arith, card, s .pre .all-cards), shape))
     (marked-full m) (m .mark-bookings .ensures .0) (flood .flood .ensures) (flipped .flip .ensures)
 

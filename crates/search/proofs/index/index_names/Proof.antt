@@ -6,9 +6,9 @@ use lib.ListN.{length-set, length, getD}
 use denote.Ref.{now}
 use borrow.Author.Needs.{needs}
 use Rattle.words.specs.Limits.{maxLabels}
-use Rattle.search.specs.Chain.{Chained}
+use Rattle.script.specs.Chain.{Chained}
 use Rattle.search.specs.Indexes.{entryKey}
-use Rattle.search.proofs.Chains.{chained-none, chained-more}
+use Rattle.script.proofs.Chains.{chained-none, chained-more}
 use Rattle.search.proofs.index.index_names.Statement.{statement}
 use Rattle.search.proofs.index.index_names.Tie as tie
 

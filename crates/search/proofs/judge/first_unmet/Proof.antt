@@ -15,18 +15,18 @@ use Rattle.search.proofs.judge.first_unmet.Statement.{statement}
 use Rattle.search.proofs.judge.first_unmet.Tie as tie
 
 abbrev Inv-loop : tie.InvT-loop
-Inv-loop script starts names shapes fitting grid place₀ place =
+Inv-loop script starts first next names shapes incoming fitting grid place₀ place =
     ((q : ℕ) → q < place → Failing script names shapes fitting grid q → ⊥) × (place ≤ length grid)
 
 abbrev μ-loop : tie.MeasureT-loop
-μ-loop script starts names shapes fitting grid place₀ place = length grid - place
+μ-loop script starts first next names shapes incoming fitting grid place₀ place = length grid - place
 
 -- the function's entry, from the loop
 abbrev Start : tie.At-loop Inv-loop μ-loop → tie.Start Inv-loop μ-loop
-Start l = l .before .before .before .before .before .before
+Start l = l .before .before .before .before .before .before .before .before
 
 -- a turn: the byte is read
-abbrev Loop : tie.After-shared-slice-known6 Inv-loop μ-loop → tie.At-loop Inv-loop μ-loop
+abbrev Loop : tie.After-shared-slice-known8 Inv-loop μ-loop → tie.At-loop Inv-loop μ-loop
 Loop c = c .before .before
 
 loop-holds : tie.Need-loop-holds Inv-loop μ-loop

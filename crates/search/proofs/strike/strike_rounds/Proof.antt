@@ -2,7 +2,7 @@
 use mathlib.Core.Path.{subst, refl, sym, _∙_}
 use mathlib.Core.Logic.{⊎-elim}
 use mathlib.Core.List.{List}
-use Prim.Native.Nat.{ℕ, _<_, _≤_, _*_, _-_, _/_, _%_}
+use Prim.Native.Nat.{ℕ, _<_, _≤_, _*_, _-_}
 use native.Mathlib.Omega.{arith}
 use native.Mathlib.Numerals.{add-one}
 use lib.ListN.{length, getD}
@@ -16,28 +16,29 @@ use Rattle.board.proofs.Worklist.{swept-marks}
 use Rattle.board.proofs.Search.{Searching, search-start, search-tail, search-round, search-head, search-room}
 use Rattle.board.proofs.Search.{search-level, search-turn, search-next, search-done}
 use Rattle.search.specs.declared.Tally.{Tally}
-use Rattle.typing.specs.Needs.{boardOf}
-use Rattle.search.specs.Strikes.{TargetGood, Searched}
-use Rattle.words.proofs.Places.{card-in, shape-in}
+use Rattle.typing.specs.Needs.{boardOf, Needs}
+use Rattle.search.specs.Strikes.{Searched}
 use Rattle.typing.proofs.Boards.{pairs-bound, board-inside}
-use Rattle.search.proofs.Needs.{needing-in, target-exact}
+use Rattle.search.proofs.Needs.{needing-in}
 use Rattle.search.proofs.strike.strike_rounds.Statement.{statement}
 use Rattle.search.proofs.strike.strike_rounds.Tie as tie
 
 abbrev Inv-loop : tie.InvT-loop
-Inv-loop script first next names shapes named alike grid₀ queue₀ tail₀ head₀ tally₀ grid queue tail head tally =
+Inv-loop script starts first next names shapes incoming named alike grid₀ queue₀ tail₀ head₀ tally₀ grid queue
+    tail head tally =
     (length grid₀ ≤ length queue₀)
     × Searching (boardOf script names shapes grid₀) (length queue₀) (work grid queue tail) head
     (tally .struck) (tally .rounds)
     × (Marks grid₀ → Marks grid)
 
 abbrev μ-loop : tie.MeasureT-loop
-μ-loop script first next names shapes named alike grid₀ queue₀ tail₀ head₀ tally₀ grid queue tail head tally =
+μ-loop script starts first next names shapes incoming named alike grid₀ queue₀ tail₀ head₀ tally₀ grid queue
+    tail head tally =
     length grid₀ - head
 
 -- the function's entry, from where the queue is listed and from the loop
 abbrev Entered : tie.After-list-off-arg2 Inv-loop μ-loop → tie.Start Inv-loop μ-loop
-Entered c = c .before .before .before .before .before .before .before .before .before .before
+Entered c = c .before .before .before .before .before .before .before .before .before .before .before
 
 abbrev Listing : tie.At-loop Inv-loop μ-loop → tie.After-list-off Inv-loop μ-loop
 Listing l = l .before .before .before
@@ -53,10 +54,10 @@ Queue l = Listing l .list-off .last .1 .0
 abbrev Past : tie.After-wide Inv-loop μ-loop → tie.Joined1 Inv-loop μ-loop
 Past a = a .before .before
 
-abbrev Read : tie.After-strike-target Inv-loop μ-loop → tie.After-wide Inv-loop μ-loop
+abbrev Read : tie.After-strike-needing Inv-loop μ-loop → tie.After-wide Inv-loop μ-loop
 Read a = a .before .before .before
 
-abbrev Struck : tie.After-slice-known6 Inv-loop μ-loop → tie.After-strike-target Inv-loop μ-loop
+abbrev Struck : tie.After-slice-known6 Inv-loop μ-loop → tie.After-strike-needing Inv-loop μ-loop
 Struck c = c .before .before .before .before
 
 abbrev Turn : tie.After-slice-known6 Inv-loop μ-loop → tie.In-loop Inv-loop μ-loop
@@ -69,7 +70,7 @@ room-of l = omega (arith, l .loop .inv .0, Start l .pre .full)
 
 few-pairs : (l : tie.At-loop Inv-loop μ-loop) → let s = Start l in
     getD (now (s .args .script)) 0 0 * s .args .shapes ≤ maxGrid
-few-pairs l = pairs-bound (Start l .pre .indexed .ready)
+few-pairs l = pairs-bound (Start l .pre .links .ready)
 
 -- the search stands where the loop does, the tally has the closed rounds, and the head is within the level
 abbrev Within : tie.At-loop Inv-loop μ-loop → Tally → Type 0
@@ -86,7 +87,7 @@ joined c =
     let i = c .before in
     let l = i .before in
     let s = Start l in
-    let inside = board-inside (s .pre .indexed .ready) (now (s .args .grid)) in
+    let inside = board-inside (s .pre .links .ready) (now (s .args .grid)) in
     let so-far = l .loop .inv .1 in
     let more = i .loop-test .taken in ⊎-elim
     (λ w. subst (Within l) (sym (w .2 ∙ w .1 .ensures)) (search-next so-far inside more (w .0 .taken), more))
@@ -96,7 +97,7 @@ joined c =
 list-off-requires : tie.Need-list-off-requires Inv-loop μ-loop
 list-off-requires c κs =
     let s = Entered c in
-    record { few-places = omega (arith, s .pre .full, pairs-bound (s .pre .indexed .ready)); room = s .pre .room }
+    record { few-places = omega (arith, s .pre .full, pairs-bound (s .pre .links .ready)); room = s .pre .room }
 
 loop-holds : tie.Need-loop-holds Inv-loop μ-loop
 loop-holds c =
@@ -124,28 +125,23 @@ slice-read-wide c =
 wide-requires : tie.Need-wide-requires Inv-loop μ-loop
 wide-requires c κs = search needs
 
-div-strike-target : tie.Need-div-strike-target Inv-loop μ-loop
-div-strike-target c = Start (Past c .before .before) .pre .indexed .ready .one-shape
-
-rem-strike-target : tie.Need-rem-strike-target Inv-loop μ-loop
-rem-strike-target c = Start (Past c .before .before) .pre .indexed .ready .one-shape
-
-strike-target-requires : tie.Need-strike-target-requires Inv-loop μ-loop
-strike-target-requires c κs =
+strike-needing-requires : tie.Need-strike-needing-requires Inv-loop μ-loop
+strike-needing-requires c κs =
     let read = c .before .before in
     let turn = Past read .before in
     let l = turn .before in
     let s = Start l in
-    let shapes = s .args .shapes in
-    let cards = getD (now (s .args .script)) 0 0 in
-    let is = read .wide .ensures .same in
-    let small = search-head (l .loop .inv .1) (turn .loop-test .taken) in
-    let one-shape = s .pre .indexed .ready .one-shape in
+    let full = l .loop .inv .1 .full in
     record {
-      indexed = s .pre .indexed;
-      card-in = card-in shapes one-shape cards (read .wide .result) (omega (arith, is, small));
-      shape-in = shape-in shapes one-shape (read .wide .result);
-      full = l .loop .inv .1 .full;
+      links = s .pre .links;
+      places = s .pre .places;
+      on-board = omega (
+        arith,
+        read .wide .ensures .same,
+        search-head (l .loop .inv .1) (turn .loop-test .taken),
+        full,
+      );
+      full = full;
       room = search-room (l .loop .inv .1) (room-of l);
     }
 
@@ -161,25 +157,21 @@ loop-less c =
 
 loop-again : tie.Need-loop-again Inv-loop μ-loop
 loop-again c =
-    let struck = Struck c .strike-target in
+    let struck = Struck c .strike-needing in
     let read = Read (Struck c) in
     let here = joined (Past read) in
     let l = Turn c .before in
     let s = Start l in
-    let ready = s .pre .indexed .ready in
+    let ready = s .pre .links .ready in
     let shapes = s .args .shapes in
     let q = getD (l .loop .queue) (l .loop .head) 0 in
-    let Good = TargetGood (now (s .args .script)) (now (s .args .names)) shapes in
+    let Good = Needs (now (s .args .script)) (now (s .args .names)) shapes in
     let w = work (l .loop .grid) (l .loop .queue) (l .loop .tail) in
-    let last = struck .last .1 .1 .1 .1 .1 .1 .1 .1 .1 in
+    let last = struck .last .1 .1 .1 .1 .1 .1 .1 .1 .1 .1 in
     let v = work (last .0) (last .1 .0) (struck .result) in
-    let swept = subst (λ (x : ℕ). Swept (Good (x / shapes) (x % shapes)) w v) (read .wide .ensures .same)
-    (struck .ensures) in (
+    let swept = subst (λ (x : ℕ). Swept (λ p. Good p x) w v) (read .wide .ensures .same) (struck .ensures) in (
       l .loop .inv .0,
-      search-turn (here .0) (room-of l) (here .1)
-          (λ p g. let d = target-exact ready p q .0 g in (needing-in ready p q d, d))
-          (λ p _ d. target-exact ready p q .1 d)
-          swept,
+      search-turn (here .0) (room-of l) (here .1) (λ p d. (needing-in ready p q d, d)) (λ p _ d. d) swept,
       λ m. swept-marks swept (l .loop .inv .2 m),
     )
 
@@ -205,7 +197,7 @@ returns c =
           (sym (c .after-round2 .ensures)) (record {
             striking = l .loop .tally .rounds;
             counted = add-one (l .loop .tally .rounds);
-            finished = search-done (l .loop .inv .1) (board-inside (s .pre .indexed .ready) grid)
+            finished = search-done (l .loop .inv .1) (board-inside (s .pre .links .ready) grid)
                 (c .before .loop-test .left);
           });
       size = l .loop .inv .1 .full ∙ sym (s .pre .full);
@@ -224,9 +216,7 @@ strike-rounds-spec =
     mul-wide
     slice-read-wide
     wide-requires
-    div-strike-target
-    rem-strike-target
-    strike-target-requires
+    strike-needing-requires
     add-head
     loop-less
     loop-again

@@ -1,0 +1,41 @@
+//! Sheets that put a question of *Fit counts* to the printer.
+
+use super::bookings;
+use super::parts::any_outgoing;
+use super::scripts::{self, Links};
+use crate::labels::{Labelled, Way};
+use crate::numbers::{Card, Shape};
+use crate::script::{MOST_CARDS, MOST_LINKS};
+use crate::sheet::Files;
+use crate::template::{self, Link, Part, Template};
+
+/// A sheet whose bookings are met exactly if the counts fit the part. Card 0 has that many links with each label, and
+/// is booked for shape 0, which is the part. At their far ends are cards with shape 1, which takes any links to card 0
+/// and is what the part asks for. None if there are too many links.
+pub fn sheet(part: &Part, counts: &Labelled<u16>) -> Option<Files> {
+    let mut links = Links::new();
+    for (label, count) in counts.iter() {
+        let kind = label.kind.0;
+        links.extend((1..=*count).map(|far| match label.way {
+            Way::Outgoing => (0, kind, far),
+            Way::Incoming => (far, kind, 0),
+        }));
+    }
+    let most = counts.values().iter().max()?;
+    if *most >= MOST_CARDS || links.len() > usize::from(MOST_LINKS) {
+        return None;
+    }
+    let to_second = |link: Link| Link {
+        shape: Shape(1),
+        ..link
+    };
+    let template = Template {
+        kinds: counts.kinds(),
+        parts: vec![part.with_links(&to_second), any_outgoing(counts.kinds(), 0)],
+    };
+    Some(Files {
+        template: template::write(&template),
+        script: scripts::words(1 + most, &links),
+        bookings: bookings::words(&[(Card(0), Shape(0))]),
+    })
+}

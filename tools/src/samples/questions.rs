@@ -1,0 +1,160 @@
+//! Questions for *Fit counts*, answered by enumeration of bags: fixed ones, and small random ones.
+
+use super::{one_shape, spaced, turned};
+use crate::fit::{self, lines::written};
+use crate::generate::arriving::GUESTS;
+use crate::generate::parts::{draw, outgoing, small_bounds, Drawn, PartMaker};
+use crate::labels::{Label, Labelled, Way};
+use crate::random::Random;
+use crate::template::{self, Part, Template, MOST_COUNT, MOST_KINDS};
+
+/// A question for *Fit counts*.
+#[derive(Clone, Debug)]
+pub struct Question {
+    /// The words of a template.
+    pub template: Vec<u16>,
+    /// A shape of it.
+    pub shape: u16,
+    /// A count for each kind each way.
+    pub counts: Vec<u16>,
+}
+
+/// The questions that are the same for every seed: the samples both ways, alone and with counts that are ignored; the
+/// page's items and guests; as many counts as there should be, and others; the first count that is too large.
+pub fn fixed() -> Vec<Question> {
+    let mut questions = Vec::new();
+    for (_, part, counts) in turned() {
+        let named = part.named(2);
+        let ignored = |(label, count): (Label, &u16)| match (label.way, named[label]) {
+            (Way::Incoming, None) => 3 + label.kind.0,
+            _ => *count,
+        };
+        let with_others: Vec<u16> = counts.iter().map(ignored).collect();
+        for counts in [counts.values().to_vec(), with_others] {
+            questions.push(asked(&one_shape(2, &part), 0, &counts));
+        }
+    }
+    let guests: [(u16, &[u16]); 6] = [
+        (1, &[0, 1]),
+        (1, &[0, 0]),
+        (1, &[1, 1]),
+        (0, &[1, 7]),
+        (0, &[1]),
+        (0, &[1, 8193]),
+    ];
+    questions.extend(guests.map(|(shape, counts)| asked(&GUESTS, shape, counts)));
+    questions.extend(lengths());
+    questions.extend(too_large());
+    questions
+}
+
+fn asked(template: &[u16], shape: u16, counts: &[u16]) -> Question {
+    Question {
+        template: template.to_vec(),
+        shape,
+        counts: counts.to_vec(),
+    }
+}
+
+/// As many counts as kinds, as twice the kinds, and around that; with and without a shape that isn't there.
+fn lengths() -> Vec<Question> {
+    let mut questions = Vec::new();
+    for kinds in [1, 2, MOST_KINDS] {
+        let template = one_shape(kinds, &Part::Nothing);
+        let all = 2 * usize::from(kinds);
+        for length in [0, all / 2, all - 1, all, all + 1] {
+            questions.push(asked(&template, 0, &vec![0; length]));
+        }
+        questions.push(asked(&template, 0, &vec![MOST_COUNT + 1; all - 1]));
+        questions.push(asked(&template, 1, &vec![MOST_COUNT + 1; all + 1]));
+    }
+    questions
+}
+
+/// Each count at its limit and above it, in both halves, and two that are above it.
+fn too_large() -> Vec<Question> {
+    let template = one_shape(2, &outgoing(0, 0, 0, None));
+    let mut questions = Vec::new();
+    for place in 0..4 {
+        for count in [MOST_COUNT, MOST_COUNT + 1] {
+            let mut counts = [0; 4];
+            counts[place] = count;
+            questions.push(asked(&template, 0, &counts));
+        }
+        let mut counts = [MOST_COUNT + 1; 4];
+        counts[..place].fill(1);
+        questions.push(asked(&template, 0, &counts));
+    }
+    questions
+}
+
+/// A random question with 1 to 3 kinds, parts that name up to 3 labels, and counts 0 to 4 of them.
+pub fn question(random: &mut Random) -> Question {
+    let kinds = random.word(1, 3);
+    let shapes = random.word(1, 2);
+    let mut parts = Vec::new();
+    for _ in 0..shapes {
+        let mut used: Vec<Label> = Label::all(kinds).collect();
+        random.shuffle(&mut used);
+        let fewest = usize::from(random.chance(11, 12));
+        used.truncate(random.between(fewest, used.len().min(3)));
+        let depth = random.between(2, 5);
+        parts.push(
+            PartMaker {
+                random,
+                shapes,
+                bounds: small_bounds,
+            }
+            .part(&used, depth),
+        );
+    }
+    let shape = random.word(0, shapes - 1);
+    let mut counts: Vec<u16> = (0..2 * kinds).map(|_| random.word(0, 4)).collect();
+    if random.chance(2, 3) {
+        counts = drawn_counts(random, &parts[usize::from(shape)], kinds);
+    }
+    if random.chance(1, 4) {
+        let changed = random.below(counts.len());
+        counts[changed] = random.word(0, 4);
+    }
+    Question {
+        template: template::write(&Template { kinds, parts }),
+        shape,
+        counts,
+    }
+}
+
+/// Counts that are likely to fit the part: at most 4 of each label that it names, and some of the incoming kinds that
+/// it doesn't.
+fn drawn_counts(random: &mut Random, part: &Part, kinds: u16) -> Vec<u16> {
+    let mut bag = Drawn::new();
+    draw(random, part, 2, &mut bag);
+    let mut counts = Labelled::new(kinds, 0);
+    for (label, shape) in part.named(kinds).iter() {
+        if label.way == Way::Incoming && shape.is_none() {
+            counts[label] = random.pick(&[0, 0, 1, 5, MOST_COUNT]);
+        }
+    }
+    for ((label, _), number) in bag {
+        counts[label] = number.min(4) as u16;
+    }
+    counts.values().to_vec()
+}
+
+/// One line per question, answered by enumeration of bags: the fixed ones first, then random ones.
+pub fn text(seed: u64, count: usize) -> String {
+    let mut random = Random::new(seed);
+    let any = std::iter::repeat_with(|| question(&mut random));
+    let mut text = String::new();
+    for question in fixed().into_iter().chain(any).take(count) {
+        let answer = fit::fit_by_bags(&question.template, question.shape, &question.counts);
+        text += &format!(
+            "T {} | {} | {} | {}\n",
+            spaced(&question.template),
+            question.shape,
+            spaced(&question.counts),
+            written(answer)
+        );
+    }
+    text
+}
