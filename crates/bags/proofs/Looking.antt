@@ -27,7 +27,8 @@ use Rattle.bags.specs.Bag.{when, count}
 use Rattle.bags.specs.Choice.{Neighbour, to}
 use Rattle.bags.specs.Look.{looksAt, seen, lookedAt, listed}
 use Rattle.bags.specs.Proposition.{labelCount}
-use Rattle.bags.specs.Interval.{Interval, add, meet, from, inside, starInterval, plusInterval, linkInterval, allZero}
+use Rattle.bags.specs.Interval.{Interval, add, meet, from, inside, allZero}
+use Rattle.bags.specs.Interval.{starInterval, plusInterval, linkInterval}
 use Rattle.bags.specs.Interval.{runAllZero, interval, addRun, meetRun, othersZero, fits}
 use Rattle.bags.proofs.Totals.{when-no}
 use Rattle.bags.proofs.Naming.{names-exact}
@@ -189,7 +190,8 @@ module _ (w v : ℕ → ℕ) where
     meet-alike (more p ps) h =
         ap₂ meet (interval-alike p (λ k n. h k (inl n))) (meet-alike ps (λ k n. h k (inr n)))
 
-  others-alike : (p : Part) (kinds : ℕ) → ((k : ℕ) → k < kinds → w k ≡ v k) → othersZero kinds p w ≡ othersZero kinds p v
+  others-alike : (p : Part) (kinds : ℕ) → ((k : ℕ) → k < kinds → w k ≡ v k)
+      → othersZero kinds p w ≡ othersZero kinds p v
   others-alike p zero h = refl
   others-alike p (suc kinds) h =
       ap₂ _&&_ (others-alike p kinds (λ k l. h k (omega arith)))

@@ -138,7 +138,7 @@ abbrev pub othersZero : ℕ → Part → (ℕ → ℕ) → Bool
 othersZero zero p w = true
 othersZero (suc k) p w = othersZero k p w && (names p k || eqb (w k) 0)
 
--- Whether the counts that a part looks at fit it, where outgoing labels that are no kinds count 0: 1 is in its interval,
--- and the outgoing kinds that it does not name count 0.
+-- Whether the counts that a part looks at fit it, where outgoing labels that are no kinds count 0: 1 is in its
+-- interval, and the outgoing kinds that it does not name count 0.
 abbrev pub fits : ℕ → Part → (ℕ → ℕ) → Bool
 fits kinds p w = inside 1 (interval p w) && othersZero kinds p w

@@ -1,4 +1,4 @@
--- Labels (docs/FORMAT.md, "Words and terms"; section 10 of the paper): a link's kind, with the end that it is seen from.
+-- Labels (docs/FORMAT.md, "Words and terms"; section 10 of the paper): a link's kind, and the end it is seen from.
 --   Way         a link is seen from the card that it starts at, or from the one that it leads to
 --   firstLabel  where the labels of a way start; labelOf: the label of a kind seen one way
 -- Assumes nothing.

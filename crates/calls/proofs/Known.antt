@@ -4,24 +4,26 @@
 --   few-pairs                  it has at most 32,768 pairs
 --   ready                      it is ready to be searched
 --   among                      its links are among its cards
---   links-ready                where its links stand, as the searches take it
+--   chain-asked, chain-found   the links to each card are chained in arrays of zeros
+--   links-ready, links-arriving   where its links stand, as the searches take it
 -- Assumes nothing.
 use Prim.Native.Nat.{ℕ, _*_, _≤_}
 use mathlib.Core.Path.{_≡_, sym, _∙_, subst, subst₂}
 use mathlib.Core.List.{List}
 use native.Mathlib.Nat.{mul-le-mul}
 use native.Mathlib.Omega.{arith}
-use lib.ListN.{length, getD}
-use Rattle.words.specs.Limits.{maxLabels}
+use lib.ListN.{length, getD, replicate, length-replicate, getD-replicate}
+use Rattle.words.specs.Limits.{maxLabels, maxCards, maxLinks}
 use Rattle.words.specs.Sizes.{maxGrid}
 use Rattle.words.specs.Reading.{accepted}
 use Rattle.words.proofs.Readings.{accepted-same}
 use Rattle.template.specs.Template.{Template}
 use Rattle.template.specs.Machine.{Tabled}
-use Rattle.script.specs.Link.{below}
+use Rattle.script.specs.Link.{toAt, below}
 use Rattle.script.specs.Script.{ScriptCounts, countsOf}
 use Rattle.script.specs.Steps.{Ascending, LinksAmong}
-use Rattle.script.specs.Index.{StartsOf, ArrivalsOf}
+use Rattle.script.specs.Chain.{Chained}
+use Rattle.script.specs.Index.{StartsOf, ArrivalsOf, ChainAsked}
 use Rattle.sheet.specs.Sheet.{Sheet, sheetOf, readSheet}
 use Rattle.sheet.specs.Opened.{templateAs, Known}
 use Rattle.sheet.specs.declared.Extent.{Extent}
@@ -72,6 +74,28 @@ module _ {template script names : List ℕ} {e : Extent} (k : Known template scr
         to-in = links .to-below;
       }
 
+  -- the links to each card are chained
+  pub chain-asked : ChainAsked script (e .links) (replicate maxCards 0) (replicate maxLinks 0)
+  chain-asked =
+      let cards = length-replicate {A = ℕ} maxCards 0 in
+      let links = read .links in
+      record {
+        within = among .within;
+        cards = λ i l. omega (arith, links .to-below i l, links .cards-bound, cards);
+        blank = record {
+          zeros = λ m l. getD-replicate {A = ℕ} maxCards m 0 0 (omega (arith, cards));
+          room = omega (arith, links .links-bound, length-replicate {A = ℕ} maxLinks 0);
+        };
+      }
+
+  pub chain-found : {first next : List ℕ} → Chained (toAt script) first next (e .links)
+      → length first ≡ maxCards → length next ≡ maxLinks → ArrivalsOf script first next (e .cards) (e .links)
+  chain-found chained cards links = record {
+    cards-in = omega (arith, cards, read .links .cards-bound);
+    links-in = omega (arith, links, read .links .links-bound);
+    chained = chained;
+  }
+
   -- the links from a card stand from its start up to the next card's
   card-starts : {starts : List ℕ} → StartsOf script starts (e .cards) (e .links) → Starts script starts
   card-starts {starts} s =
@@ -80,11 +104,16 @@ module _ {template script names : List ℕ} {e : Extent} (k : Known template scr
       (λ c l. subst (λ (m : ℕ). getD starts c 0 ≡ below script c m) (read .links .links)
       (s .exact c (omega (arith, read .links .cards))))
 
+  pub links-arriving : {first next : List ℕ} → ArrivalsOf script first next (e .cards) (e .links)
+      → ArrivalsOf script first next (getD script 0 0) (getD script 1 0)
+  links-arriving {first} {next} found =
+      subst₂ (ArrivalsOf script first next) (read .links .cards) (read .links .links) found
+
   pub links-ready : {starts first next : List ℕ} → LinksFound script e starts first next
       → LinksReady script starts first next names (e .shapes) (e .incoming)
-  links-ready {starts} {first} {next} found = record {
+  links-ready found = record {
     ready = ready;
     leaving = card-starts (found .leaving);
-    arriving = subst₂ (ArrivalsOf script first next) (read .links .cards) (read .links .links) (found .arriving);
+    arriving = λ some. links-arriving (found .arriving some);
     ways = k .ways;
   }

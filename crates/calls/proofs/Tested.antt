@@ -1,5 +1,4 @@
 -- The grid of a sheet's pairs that fit stands for the sheet.
---   test-asked                      arrays of zeros are what testing the pairs asks
 --   pairs-tested, some-tested       what it leaves is that grid for each sheet that is read, and some sheet is
 --   cards-same, shapes-same, counted-as   the sheet's counts, and its words, are those that are read
 --   full, full-words, few           the grid has the sheet's size, which the script's words tell too
@@ -12,11 +11,10 @@ use mathlib.Core.Logic.{_⊎_, inl, inr}
 use mathlib.Core.Bool.{Bool, true, false, cond}
 use mathlib.Core.List.{List}
 use native.Mathlib.Omega.{arith}
-use lib.ListN.{length, getD, replicate, length-replicate, getD-replicate}
+use lib.ListN.{length, getD}
 use Rattle.bags.specs.Part.{Part}
 use Rattle.bags.specs.Interval.{fits}
 use Rattle.bags.specs.Proposition.{labelCount}
-use Rattle.words.specs.Limits.{maxCards, maxLinks}
 use Rattle.words.specs.Sizes.{maxGrid}
 use Rattle.words.specs.Reading.{accepted}
 use Rattle.words.proofs.Places.{card-in, shape-in, place-of}
@@ -30,20 +28,9 @@ use Rattle.typing.specs.Needs.{boardOf}
 use Rattle.typing.proofs.Represents.{Represents}
 use Rattle.typing.proofs.Instance.{FitsGrid, fits-grid, represents}
 use Rattle.fits.specs.Fitting.{Fitted}
-use Rattle.calls.specs.Steps.{SheetTested, LinksFound, SomeTested, PairsTested, Sized, TestAsked, CountedAs}
+use Rattle.calls.specs.Steps.{SheetTested, LinksFound, SomeTested, PairsTested, CountedAs}
 use Rattle.calls.proofs.Known.{sheet, asked, same-sheet, read, few-pairs, tabled, rows}
 use Rattle.calls.proofs.Rows.{byte-on}
-
-pub test-asked : {template script names : List ℕ} {e : Extent} {grid : List ℕ} → Sized template script names e grid
-    → TestAsked template script names e (replicate maxCards 0) (replicate maxLinks 0) grid
-test-asked sized = record {
-  sized = sized;
-  cards = length-replicate {A = ℕ} maxCards 0;
-  blank = record {
-    zeros = λ m l. getD-replicate {A = ℕ} maxCards m 0 0 (omega (arith, length-replicate {A = ℕ} maxCards 0));
-    room = omega (arith, length-replicate {A = ℕ} maxLinks 0);
-  };
-}
 
 pub pairs-tested : {template script names : List ℕ} {e : Extent} {starts first next fitting : List ℕ}
     (k : Known template script names e) → LinksFound script e starts first next

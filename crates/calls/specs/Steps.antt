@@ -1,26 +1,29 @@
 -- What the steps of a call ask for and leave behind; no part of a promise.
 -- SheetTested   a sheet that is read, its table of names, and the grid of the pairs that fit by counts
--- LinksFound    where the links from each card and to it stand
+-- Arrivals      where the links to each card stand, if some shape names an incoming kind
+-- LinksFound    these, and where the links from each card stand
 -- SomeTested    some sheet is tested, and where its links stand is known
 -- TestAsked     what testing the pairs asks
 -- PairsTested   each sheet that the readings ask for is tested, and where its links stand is known
 -- Listed        a sheet with its table of names and a booking list, all read; BookedAs: what reading them finds
--- Sized, Lent   what is read, with a grid or two grids of the sheet's size
+-- Sized, Lent   what is read, with a grid or two grids of the sheet's size; LentLinked: and the links to each card
+-- StrikesAsked  what striking asks
 -- Settling      what settling the bookings asks for
--- Judging       what is read, with a grid that is judged; JudgingTested: its pairs tested, and one of zeros and ones
+-- Judging       what is read, with a grid that is judged; JudgingLinked: and the links to each card; JudgingTested: its
+--               pairs tested, and one of zeros and ones
 -- CountedAs     a sheet has these words of its script and these counts
 -- Rows          a grid has a row of shapes for each card, and links are among the cards
 -- struckSaid, settledSaid, bothOf   what the two searches say, and both
 -- Assumes nothing.
 use Prim.Native.Nat.{ℕ, _*_, _≤_}
 use mathlib.Core.Path.{_≡_}
+use mathlib.Core.Bool.{true}
 use mathlib.Core.List.{List, [], _∷_}
 use lib.ListN.{length}
 use Rattle.words.specs.Said.{Said, values, refusal}
-use Rattle.words.specs.Limits.{maxCards, maxLinks, maxShapes}
+use Rattle.words.specs.Limits.{maxCards, maxShapes}
 use Rattle.words.specs.Reading.{accepted, turnedDown, then}
 use Rattle.board.specs.Machine.{Marks}
-use Rattle.script.specs.Chain.{Blank}
 use Rattle.script.specs.Steps.{LinksAmong}
 use Rattle.script.specs.Index.{StartsOf, ArrivalsOf}
 use Rattle.sheet.specs.Sheet.{Sheet, readSheet}
@@ -44,10 +47,14 @@ pub record SheetTested (s : Sheet) (script names : List ℕ) (e : Extent) (fitti
   pub asked : readSheet template script ≡ accepted s
   pub fits : Fitted script e (s .parts) fitting
 
--- Where the links from each card and to it stand.
+-- Where the links to each card stand, if some shape names an incoming kind.
+abbrev pub Arrivals : List ℕ → Extent → List ℕ → List ℕ → Type 0
+Arrivals script e first next = e .incoming ≡ true → ArrivalsOf script first next (e .cards) (e .links)
+
+-- And where the links from each card stand.
 pub record LinksFound (script : List ℕ) (e : Extent) (starts first next : List ℕ) : Type 0 where
   pub leaving : StartsOf script starts (e .cards) (e .links)
-  pub arriving : ArrivalsOf script first next (e .cards) (e .links)
+  pub arriving : Arrivals script e first next
 
 -- Some sheet is tested so, and where its links stand is known.
 pub record SomeTested (script names : List ℕ) (e : Extent) (starts first next fitting : List ℕ) : Type 0 where
@@ -76,11 +83,15 @@ pub record Sized (template script names : List ℕ) (e : Extent) (grid : List �
   pub known : Known template script names e
   pub size : length grid ≡ e .cards * e .shapes
 
--- What testing the pairs asks: such a sheet and grid, and what the links to each card are chained in.
+-- What testing the pairs asks: such a sheet and grid, and where the links to each card stand.
 pub record TestAsked (template script names : List ℕ) (e : Extent) (first next grid : List ℕ) : Type 0 where
   pub sized : Sized template script names e grid
-  pub cards : length first ≡ maxCards
-  pub blank : Blank first next maxLinks
+  pub arriving : Arrivals script e first next
+
+-- What striking asks: some sheet is tested, and where the links to each card stand, whatever shapes name.
+pub record StrikesAsked (script names : List ℕ) (e : Extent) (starts first next fitting : List ℕ) : Type 0 where
+  pub some : SomeTested script names e starts first next fitting
+  pub arriving : ArrivalsOf script first next (e .cards) (e .links)
 
 -- A sheet with a booking list, and two grids of its size.
 pub record Lent (template script names : List ℕ) (e : Extent) (bookings : List ℕ) (count : ℕ) (one other : List ℕ)
@@ -88,6 +99,12 @@ pub record Lent (template script names : List ℕ) (e : Extent) (bookings : List
   pub listed : Listed template script names e bookings count
   pub size : length one ≡ e .cards * e .shapes
   pub other-size : length other ≡ e .cards * e .shapes
+
+-- Such a sheet and grids, and where the links to each card stand.
+pub record LentLinked (template script names : List ℕ) (e : Extent) (first next bookings : List ℕ) (count : ℕ)
+    (one other : List ℕ) : Type 0 where
+  pub lent : Lent template script names e bookings count one other
+  pub arriving : Arrivals script e first next
 
 -- Some sheet is tested, where its links stand and a booking list are known, and the grid has the sheet's size.
 pub record Settling (script names : List ℕ) (e : Extent) (starts first next fitting bookings : List ℕ) (count : ℕ)
@@ -101,6 +118,13 @@ pub record Judging (template script names : List ℕ) (e : Extent) (bookings : L
     : Type 0 where
   pub listed : Listed template script names e bookings count
   pub size : length grid ≡ e .cards * e .shapes
+
+-- The same with where the links to each card stand; the grid is one of zeros and ones.
+pub record JudgingLinked (template script names : List ℕ) (e : Extent) (first next bookings : List ℕ) (count : ℕ)
+    (grid : List ℕ) : Type 0 where
+  pub judging : Judging template script names e bookings count grid
+  pub arriving : Arrivals script e first next
+  pub marks : Marks grid
 
 -- The same with the sheet's pairs tested, as settling the bookings asks for; the grid is one of zeros and ones.
 pub record JudgingTested (script names : List ℕ) (e : Extent) (starts first next fitting bookings : List ℕ) (count : ℕ)

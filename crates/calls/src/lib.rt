@@ -15,8 +15,8 @@ ghost use Rattle.bookings.specs.Bookings.{Booked};
 ghost use Rattle.typing.specs.Answer.{largestSaid, smallestSaid, bothSaid};
 ghost use Rattle.typing.specs.Largest.{bareCards};
 ghost use Rattle.typing.specs.Calls.{LargestFound, LargestSays, SmallestFound, SmallestSays, BothFound, BothSays};
-ghost use Rattle.calls.specs.Steps.{SheetTested, SomeTested, TestAsked, PairsTested, BookedAs, Sized, Lent};
-ghost use Rattle.calls.specs.Steps.{Settling, CountedAs, Rows, struckSaid, settledSaid, bothOf};
+ghost use Rattle.calls.specs.Steps.{SheetTested, StrikesAsked, TestAsked, PairsTested, BookedAs, Sized, Lent};
+ghost use Rattle.calls.specs.Steps.{LentLinked, Settling, CountedAs, Rows, struckSaid, settledSaid, bothOf};
 use board::all_off;
 use bookings::BookingRead;
 use bookings::read_bookings;
@@ -103,25 +103,23 @@ pub fn read_booked(
     }
 }
 
-// Finds where the links from each card and to it stand, and tests each shape on each card: the grid has 1 where the
-// counts fit, else 0.
+// Finds where the links from each card start, and tests each shape on each card: the grid has 1 where the counts fit,
+// else 0. The links to each card are looked at where some shape names an incoming kind.
 fn test_pairs(
     template: &[u16],
     script: &[u16],
+    first: &[u16],
+    next: &[u16],
     names: &[u8],
     e: Extent,
     starts: &mut [u16; STARTS],
-    first: &mut [u16; MAX_CARDS],
-    next: &mut [u16; MAX_LINKS],
     fitting: &mut [u8],
 )
     requires { ⌜ TestAsked (now template) (now script) (now names) e (now first) (now next) (now fitting) ⌝ }
     ensures { λ _. ⌜ PairsTested (now (template .entry)) (now (script .entry)) (now (names .entry)) e
-        (now (starts .exit)) (now (first .exit)) (now (next .exit)) (now (fitting .exit)) ⌝ }
+        (now (starts .exit)) (now (first .entry)) (now (next .entry)) (now (fitting .exit)) ⌝ }
 {
-    let links = e.links as usize;
-    link_starts(script, links, e.cards as usize, starts);
-    chain(script, links, first, next);
+    link_starts(script, e.links as usize, e.cards as usize, starts);
     fit_grid(template, script, names, starts, first, next, e, fitting);
 }
 
@@ -151,14 +149,14 @@ fn count_bare(script: &[u16], e: Extent, grid: &[u8]) -> usize
 fn strike(
     script: &[u16],
     starts: &[u16; STARTS],
-    first: &[u16; MAX_CARDS],
-    next: &[u16; MAX_LINKS],
+    first: &[u16],
+    next: &[u16],
     names: &[u8],
     e: Extent,
     grid: &mut [u8],
     queue: &mut [u16; MAX_GRID],
 ) -> Struck
-    requires { ⌜ SomeTested (now script) (now names) e (now starts) (now first) (now next) (now grid) ⌝ }
+    requires { ⌜ StrikesAsked (now script) (now names) e (now starts) (now first) (now next) (now grid) ⌝ }
     ensures { λ r. ⌜ ((s : Sheet) → SheetTested s (now (script .entry)) (now (names .entry)) e (now (grid .entry))
         → LargestFound s (now (grid .exit)) (struckSaid r)) ⌝ }
 {
@@ -187,8 +185,8 @@ fn strike(
 fn settle(
     script: &[u16],
     starts: &[u16; STARTS],
-    first: &[u16; MAX_CARDS],
-    next: &[u16; MAX_LINKS],
+    first: &[u16],
+    next: &[u16],
     bookings: &[u16],
     count: u16,
     names: &[u8],
@@ -230,25 +228,62 @@ fn largest_of(template: &[u16], script: &[u16], names: &[u8], e: Extent, grid: &
     ensures { λ r. ⌜ ((s : Sheet) → readSheet (now (template .entry)) (now (script .entry)) ≡ accepted s
         → LargestFound s (now (grid .exit)) (struckSaid r)) ⌝ }
 {
-    let mut starts = [0u16; STARTS];
     let mut first = [0u16; MAX_CARDS];
     let mut next = [0u16; MAX_LINKS];
-    test_pairs(
-        template,
-        script,
-        names,
-        e,
-        &mut starts,
-        &mut first,
-        &mut next,
-        grid,
-    );
+    chain(script, e.links as usize, &mut first, &mut next);
+    let mut starts = [0u16; STARTS];
+    test_pairs(template, script, &first, &next, names, e, &mut starts, grid);
     let mut queue = [0u16; MAX_GRID];
     strike(script, &starts, &first, &next, names, e, grid, &mut queue)
 }
 
-// The smallest typing of a sheet and bookings that are read, in a grid of its size. The other grid of its size then has
-// the pairs whose counts fit.
+// The smallest typing of a sheet and bookings that are read, in a grid of its size, by where the links to each card
+// stand. The other grid of its size then has the pairs whose counts fit.
+fn smallest_by(
+    template: &[u16],
+    script: &[u16],
+    first: &[u16],
+    next: &[u16],
+    bookings: &[u16],
+    count: u16,
+    names: &[u8],
+    e: Extent,
+    fitting: &mut [u8],
+    grid: &mut [u8],
+) -> Settled
+    requires { ⌜ LentLinked (now template) (now script) (now names) e (now first) (now next) (now bookings) count
+        (now grid) (now fitting) ⌝ }
+    ensures { λ r. ⌜ ((s : Sheet) → readSheet (now (template .entry)) (now (script .entry)) ≡ accepted s
+        → SmallestFound s (Booked (now (bookings .entry))) (now (grid .exit)) (settledSaid r)) ⌝ }
+{
+    let mut starts = [0u16; STARTS];
+    test_pairs(
+        template,
+        script,
+        first,
+        next,
+        names,
+        e,
+        &mut starts,
+        fitting,
+    );
+    let mut queue = [0u16; MAX_GRID];
+    settle(
+        script,
+        &starts,
+        first,
+        next,
+        bookings,
+        count,
+        names,
+        e,
+        fitting,
+        grid,
+        &mut queue,
+    )
+}
+
+// The same. The links to each card are chained only where some shape names an incoming kind.
 fn smallest_of(
     template: &[u16],
     script: &[u16],
@@ -263,32 +298,35 @@ fn smallest_of(
     ensures { λ r. ⌜ ((s : Sheet) → readSheet (now (template .entry)) (now (script .entry)) ≡ accepted s
         → SmallestFound s (Booked (now (bookings .entry))) (now (grid .exit)) (settledSaid r)) ⌝ }
 {
-    let mut starts = [0u16; STARTS];
-    let mut first = [0u16; MAX_CARDS];
-    let mut next = [0u16; MAX_LINKS];
-    test_pairs(
+    if e.incoming {
+        let mut first = [0u16; MAX_CARDS];
+        let mut next = [0u16; MAX_LINKS];
+        chain(script, e.links as usize, &mut first, &mut next);
+        return smallest_by(
+            template,
+            script,
+            &first,
+            &next,
+            bookings,
+            count,
+            names,
+            e,
+            fitting,
+            grid,
+        );
+    }
+    let none = &script[0..0];
+    smallest_by(
         template,
         script,
-        names,
-        e,
-        &mut starts,
-        &mut first,
-        &mut next,
-        fitting,
-    );
-    let mut queue = [0u16; MAX_GRID];
-    settle(
-        script,
-        &starts,
-        &first,
-        &next,
+        none,
+        none,
         bookings,
         count,
         names,
         e,
         fitting,
         grid,
-        &mut queue,
     )
 }
 
@@ -307,17 +345,18 @@ pub fn both_of(
     ensures { λ r. ⌜ ((s : Sheet) → readSheet (now (template .entry)) (now (script .entry)) ≡ accepted s
         → BothFound s (Booked (now (bookings .entry))) (now (small .exit)) (now (large .exit)) (bothOf r)) ⌝ }
 {
-    let mut starts = [0u16; STARTS];
     let mut first = [0u16; MAX_CARDS];
     let mut next = [0u16; MAX_LINKS];
+    chain(script, e.links as usize, &mut first, &mut next);
+    let mut starts = [0u16; STARTS];
     test_pairs(
         template,
         script,
+        &first,
+        &next,
         names,
         e,
         &mut starts,
-        &mut first,
-        &mut next,
         large,
     );
     let mut queue = [0u16; MAX_GRID];

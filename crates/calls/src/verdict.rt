@@ -5,7 +5,7 @@ ghost use Rattle.words.specs.Reading.{accepted};
 ghost use Rattle.sheet.specs.Sheet.{Sheet, readSheet};
 ghost use Rattle.typing.specs.Answer.{judgeSaid};
 ghost use Rattle.typing.specs.Judge.{JudgeFound, JudgeSays};
-ghost use Rattle.calls.specs.Steps.{SheetTested, Judging, JudgingTested};
+ghost use Rattle.calls.specs.Steps.{SheetTested, Judging, JudgingLinked, JudgingTested};
 use crate::BookedRead;
 use crate::STARTS;
 use crate::grid_size;
@@ -13,6 +13,7 @@ use crate::read_booked;
 use crate::test_pairs;
 use board::first_over;
 use script::Card;
+use script::chain;
 use search::first_unheld;
 use search::first_unmet;
 use sheet::Extent;
@@ -28,8 +29,8 @@ use words::TABLE_SIZE;
 fn judge_tested(
     script: &[u16],
     starts: &[u16; STARTS],
-    first: &[u16; MAX_CARDS],
-    next: &[u16; MAX_LINKS],
+    first: &[u16],
+    next: &[u16],
     bookings: &[u16],
     count: u16,
     names: &[u8],
@@ -64,7 +65,43 @@ fn judge_tested(
     JudgeAnswer::Accepted
 }
 
-// The verdict on a grid of the size of a sheet that is read, with a booking list that is read.
+// The verdict on a grid of zeros and ones of the size of a sheet that is read, with a booking list that is read, by
+// where the links to each card stand.
+fn judge_by(
+    template: &[u16],
+    script: &[u16],
+    first: &[u16],
+    next: &[u16],
+    bookings: &[u16],
+    count: u16,
+    names: &[u8],
+    e: Extent,
+    grid: &[u8],
+) -> JudgeAnswer
+    requires { ⌜ JudgingLinked (now template) (now script) (now names) e (now first) (now next) (now bookings) count
+        (now grid) ⌝ }
+    ensures { λ r. ⌜ ((s : Sheet) → readSheet (now (template .entry)) (now (script .entry)) ≡ accepted s
+        → JudgeFound s (now (bookings .entry)) (now (grid .entry)) (judgeSaid r)) ⌝ }
+{
+    let mut starts = [0u16; STARTS];
+    let mut fitting = [0u8; MAX_GRID];
+    let pairs = &mut fitting[0..grid.len()];
+    test_pairs(template, script, first, next, names, e, &mut starts, pairs);
+    judge_tested(
+        script,
+        &starts,
+        first,
+        next,
+        bookings,
+        count,
+        names,
+        e,
+        pairs,
+        grid,
+    )
+}
+
+// The verdict on any grid of that size. The links to each card are chained only where a shape names incoming ones.
 pub fn judge_of(
     template: &[u16],
     script: &[u16],
@@ -78,36 +115,36 @@ pub fn judge_of(
     ensures { λ r. ⌜ ((s : Sheet) → readSheet (now (template .entry)) (now (script .entry)) ≡ accepted s
         → JudgeFound s (now (bookings .entry)) (now (grid .entry)) (judgeSaid r)) ⌝ }
 {
-    let size = grid.len();
     let over = first_over(grid);
-    if over < size {
+    if over < grid.len() {
         return JudgeAnswer::Refused(61, over);
     }
-    let mut starts = [0u16; STARTS];
-    let mut first = [0u16; MAX_CARDS];
-    let mut next = [0u16; MAX_LINKS];
-    let mut fitting = [0u8; MAX_GRID];
-    let pairs = &mut fitting[0..size];
-    test_pairs(
+    if e.incoming {
+        let mut first = [0u16; MAX_CARDS];
+        let mut next = [0u16; MAX_LINKS];
+        chain(script, e.links as usize, &mut first, &mut next);
+        return judge_by(
+            template,
+            script,
+            &first,
+            &next,
+            bookings,
+            count,
+            names,
+            e,
+            grid,
+        );
+    }
+    let none = &script[0..0];
+    judge_by(
         template,
         script,
-        names,
-        e,
-        &mut starts,
-        &mut first,
-        &mut next,
-        pairs,
-    );
-    judge_tested(
-        script,
-        &starts,
-        &first,
-        &next,
+        none,
+        none,
         bookings,
         count,
         names,
         e,
-        pairs,
         grid,
     )
 }

@@ -1,21 +1,22 @@
 -- Counts of labels, walked from the first on.
--- others-step, others-not         whether the labels that a part does not name count 0, one label more
+-- others-named, others-zero, others-not   whether the labels that a part does not name count 0, one label more
 -- over-here, over-next, over-end  where the first count over 8,192 stands, from a place on
 -- over-none                       it stands nowhere if no count is over 8,192
 -- Assumes nothing.
 use mathlib.Core.Path.{_≡_, refl, sym, _∙_, ap}
 use mathlib.Core.Logic.{⊎-elim}
-use mathlib.Core.Bool.{Bool, true, false, _||_, not}
+use mathlib.Core.Bool.{true, false, _||_, not}
 use mathlib.Core.List.{List, [], _∷_}
 use Prim.Native.Nat.{ℕ, zero, suc, _+_, _≤_, _<_}
 use native.Mathlib.Omega.{arith}
 use native.Mathlib.Numerals.{add-one}
-use borrow.Author.Tests.{lt-ltb, le-ltb}
+use borrow.Author.Tests.{eq-eqb, ne-eqb, lt-ltb, le-ltb}
 use lib.ListN.{length, getD, drop}
 use lib.Seq.{drop-cons, drop-length}
 use lib.Dec.{eqb}
 use Rattle.words.specs.Limits.{maxCount}
 use Rattle.words.proofs.Bools.{never-both, is-false, and-first, and-second, and-both, last-or-below}
+use Rattle.words.proofs.Bools.{or-cases, or-left, or-right}
 use Rattle.bags.specs.Part.{Part, names}
 use Rattle.bags.specs.Named.{named}
 use Rattle.bags.specs.Interval.{othersZero}
@@ -32,17 +33,25 @@ module _ (p : Part) (w : ℕ → ℕ) where
       (λ b. others-at labels (and-first (othersZero labels p w) (names p labels || eqb (w labels) 0) e) i b)
       (last-or-below l)
 
-  module _
-      (i entry : ℕ) (r : Bool) (same : entry ≡ named p i) (test : r ≡ (not (eqb entry 0) || eqb (w i) 0))
-    where
-      named-test : r ≡ (names p i || eqb (w i) 0)
-      named-test = test ∙ rw (same, named-names p i)
+  module _ (i entry : ℕ) (same : entry ≡ named p i) where
+    -- the test of label i, by its entry
+    named-test : names p i ≡ not (eqb entry 0)
+    named-test = named-names p i ∙ ap (λ (x : ℕ). not (eqb x 0)) (sym same)
 
-      pub others-step : r ≡ true → othersZero i p w ≡ true → othersZero (i + 1) p w ≡ true
-      others-step e h = rw add-one (and-both (othersZero i p w) _ h (sym named-test ∙ e))
+    more : (names p i || eqb (w i) 0) ≡ true → othersZero i p w ≡ true → othersZero (i + 1) p w ≡ true
+    more e h = rw add-one (and-both (othersZero i p w) _ h e)
 
-      pub others-not : (labels : ℕ) → i < labels → r ≡ false → false ≡ othersZero labels p w
-      others-not labels l e = sym (is-false (λ t. never-both (named-test ∙ others-at labels t i l) e))
+    pub others-named : (entry ≡ 0 → ⊥) → othersZero i p w ≡ true → othersZero (i + 1) p w ≡ true
+    others-named ne = more (or-left (names p i) (eqb (w i) 0) (named-test ∙ ap not (ne-eqb entry 0 ne)))
+
+    pub others-zero : w i ≡ 0 → othersZero i p w ≡ true → othersZero (i + 1) p w ≡ true
+    others-zero z = more (or-right (names p i) (eqb (w i) 0) (eq-eqb (w i) 0 z))
+
+    pub others-not : (w i ≡ 0 → ⊥) → entry ≡ 0 → (labels : ℕ) → i < labels → false ≡ othersZero labels p w
+    others-not ne none labels l = sym (is-false (λ t. ⊎-elim
+        (λ d. never-both d (named-test ∙ ap not (eq-eqb entry 0 none)))
+        (λ d. never-both d (ne-eqb (w i) 0 ne))
+        (or-cases (names p i) (eqb (w i) 0) (others-at labels t i l))))
 
 module _ (counts : List ℕ) (i : ℕ) where
   pub over-here : i < length counts → maxCount < getD counts i 0 → firstOver (drop i counts) ≡ 0

@@ -199,16 +199,6 @@ pub fn shape_place(words: &[u16], shape: u16) -> usize
     at
 }
 
-// Whether a label with this entry may have this count: only 0 where the row's part does not name it.
-fn allowed(entry: u8, count: u16) -> bool
-    ensures { λ r. ⌜ r ≡ (not (eqb entry 0) || eqb count 0) ⌝ }
-{
-    if entry != 0 {
-        return true;
-    }
-    count == 0
-}
-
 // Whether each outgoing kind that has no entry in the row counts 0: those that the row's part does not name.
 fn others_zero(row: &[u8], counts: &[u16], kinds: usize) -> bool
     requires { ⌜ (kinds ≤ length (now row)) × (kinds ≤ length (now counts)) ⌝ }
@@ -217,11 +207,10 @@ fn others_zero(row: &[u8], counts: &[u16], kinds: usize) -> bool
 {
     let mut i = 0;
     while i < kinds {
-        if allowed(row[i], counts[i]) {
-            i += 1;
-        } else {
+        if counts[i] != 0 && row[i] == 0 {
             return false;
         }
+        i += 1;
     }
     true
 }

@@ -40,8 +40,8 @@ use Rattle.sheet.specs.Opened.{templateAs, Known}
 use Rattle.fits.specs.Fitting.{byteOf, CardCounted, RowFitted, CardFitted}
 
 -- ---- counting
-module _ (script : List ℕ) (e : Extent) (read : readScript (e .kinds) script ≡ accepted (countsOf (e .cards) (e .links)))
-    (n : ℕ) (l : n < e .cards) where
+module _ (script : List ℕ) (e : Extent)
+    (read : readScript (e .kinds) script ≡ accepted (countsOf (e .cards) (e .links))) (n : ℕ) (l : n < e .cards) where
   module _ (starts : List ℕ) (s : StartsOf script starts (e .cards) (e .links)) (lo hi : ℕ) (p : lo ≡ getD starts n 0)
       (q : hi ≡ getD starts (n + 1) 0) where
     low-is : lo ≡ below script n (e .links)
@@ -50,13 +50,15 @@ module _ (script : List ℕ) (e : Extent) (read : readScript (e .kinds) script �
     high-is : hi ≡ below script (n + 1) (e .links)
     high-is = q ∙ s .exact (n + 1) (omega arith)
 
-    pub leaving-asked : (counts : List ℕ) → length counts ≡ e .kinds → LeavingAsked script lo hi counts
-    leaving-asked counts size =
+    pub leaving-asked : (counts : List ℕ) → length counts ≡ e .kinds
+        → ((k : ℕ) → k < length counts → getD counts k 0 ≡ 0) → LeavingAsked script lo hi counts
+    leaving-asked counts size zeros =
         let w = script-accepted (e .kinds) script (countsOf (e .cards) (e .links)) read in
         record {
           within = part-within script (e .links) (w .ascending) n lo hi low-is high-is;
           kinds = λ i a b.
               omega (arith, w .kind-below i (omega (arith, high-is, below-le script (n + 1) (e .links))), size);
+          zeros = zeros;
         }
 
     pub leaving-counted : (k : ℕ) → kindCount script k lo hi ≡ wayCount outgoing script n k (e .links)
@@ -66,8 +68,8 @@ module _ (script : List ℕ) (e : Extent) (read : readScript (e .kinds) script �
 
   pub arriving-asked : (first next : List ℕ) → ArrivalsOf script first next (e .cards) (e .links) → (links : ℕ)
       → links ≡ e .links → (counts : List ℕ) → length counts ≡ e .kinds
-      → ArrivingAsked script first next links n counts
-  arriving-asked first next a links q counts size =
+      → ((k : ℕ) → k < length counts → getD counts k 0 ≡ 0) → ArrivingAsked script first next links n counts
+  arriving-asked first next a links q counts size zeros =
       let w = script-accepted (e .kinds) script (countsOf (e .cards) (e .links)) read in
       record {
         within = record {
@@ -81,9 +83,10 @@ module _ (script : List ℕ) (e : Extent) (read : readScript (e .kinds) script �
           chained = subst (Chained (toAt script) first next) (sym q) (a .chained);
         };
         kinds = λ i b. omega (arith, w .kind-below i (omega arith), size);
+        zeros = zeros;
       }
 
--- The counts of the links from a card stand before a rest, and those of the links to it are put behind all outgoing kinds.
+-- The counts of the links from a card stand before a rest, and those of the links to it are put behind.
 module _ (script : List ℕ) (e : Extent) (n : ℕ) (leaving rest : List ℕ) (size : length leaving ≡ e .kinds)
     (out : (k : ℕ) → k < length leaving → getD leaving k 0 ≡ wayCount outgoing script n k (e .links)) where
   out-first : (k : ℕ) → k < e .kinds → count (leaving ++ rest) k ≡ wayCount outgoing script n k (e .links)

@@ -1,6 +1,6 @@
 -- What testing a sheet's pairs by counts asks and leaves behind; no part of a promise.
--- SheetReady, GridReady, CardReady, CountsReady, RowReady   what testing all cards, one card, counting it, and testing some
---             counts asks
+-- SheetReady, GridReady, CardReady, CountsReady, RowReady   what testing all cards, one card, counting it, and testing
+--             some counts asks
 -- CardCounted counts are those of a card's links
 -- byteOf      the byte of a part for some counts: 1 where they fit it
 -- byteAt      the byte of a pair: by the counts of the card's links
@@ -27,11 +27,12 @@ use Rattle.script.specs.Counts.{wayCount}
 use Rattle.sheet.specs.declared.Extent.{Extent}
 use Rattle.sheet.specs.Opened.{templateAs, TableOf, Known, Shaped}
 
--- A sheet that is read, its table of names, and where the links from each card and to it stand.
+-- A sheet that is read, its table of names, where the links from each card stand and, if some shape names an incoming
+-- kind, those to it.
 pub record SheetReady (template script names starts first next : List ℕ) (e : Extent) : Type 0 where
   pub known : Known template script names e
   pub leaving : StartsOf script starts (e .cards) (e .links)
-  pub arriving : ArrivalsOf script first next (e .cards) (e .links)
+  pub arriving : e .incoming ≡ true → ArrivalsOf script first next (e .cards) (e .links)
 
 -- Such a sheet, and a grid with a byte for each pair.
 pub record GridReady (template script names starts first next : List ℕ) (e : Extent) (grid : List ℕ) : Type 0 where
@@ -45,14 +46,15 @@ pub record CardReady (template script names starts first next : List ℕ) (e : E
   pub below : n < e .cards
   pub size : length row ≡ e .shapes
 
--- A script that is read, where its links stand, a card of it, and room for a count of each label.
+-- A script that is read, where its links stand, a card of it, and a count of each label, all 0.
 pub record CountsReady (script starts first next : List ℕ) (e : Extent) (n : ℕ) (counts : List ℕ) : Type 0 where
   pub read : readScript (e .kinds) script ≡ accepted (countsOf (e .cards) (e .links))
   pub few : e .kinds ≤ maxKinds
   pub leaving : StartsOf script starts (e .cards) (e .links)
-  pub arriving : ArrivalsOf script first next (e .cards) (e .links)
+  pub arriving : e .incoming ≡ true → ArrivalsOf script first next (e .cards) (e .links)
   pub below : n < e .cards
   pub room : length counts ≡ maxLabels
+  pub zeros : (k : ℕ) → k < length counts → getD counts k 0 ≡ 0
 
 -- The counts of card n's outgoing links, and those of its incoming ones if some shape names an incoming kind.
 pub record CardCounted (script : List ℕ) (e : Extent) (n : ℕ) (counts : List ℕ) : Type 0 where

@@ -42,7 +42,8 @@ fn fit_card(
     }
 }
 
-// Counts the links of card n: those from it by kind, and those to it by kind if some shape names an incoming kind.
+// Counts the links of card n: those from it by kind, and those to it by kind if some shape names an incoming kind. The
+// counts are all 0 before.
 fn count_card(
     script: &[u16],
     starts: &[u16],
@@ -72,8 +73,7 @@ fn count_card(
     }
 }
 
-// Tests each shape on card n: its row of the grid is 1 where the counts of its links fit, else 0. The counts are room to
-// work in.
+// Tests each shape on card n: its row of the grid is 1 where the counts of its links fit, else 0.
 fn fit_row(
     template: &[u16],
     script: &[u16],
@@ -83,15 +83,15 @@ fn fit_row(
     next: &[u16],
     e: Extent,
     n: usize,
-    counts: &mut [u16; MAX_LABELS],
     row: &mut [u8],
 )
     requires { ⌜ CardReady (now template) (now script) (now names) (now starts) (now first) (now next) e n
         (now row) ⌝ }
     ensures { λ _. ⌜ CardFitted (now (template .entry)) (now (script .entry)) e n (now (row .exit)) ⌝ }
 {
-    count_card(script, starts, first, next, e, n, counts);
-    fit_card(template, names, wide(e.kinds), wide(e.shapes), counts, row);
+    let mut counts = [0u16; MAX_LABELS];
+    count_card(script, starts, first, next, e, n, &mut counts);
+    fit_card(template, names, wide(e.kinds), wide(e.shapes), &counts, row);
 }
 
 // Tests each shape on each card: the grid has 1 where the counts fit, else 0.
@@ -111,7 +111,6 @@ pub fn fit_grid(
         readTemplate (now (template .entry)) ≡ accepted (templateAs (e .kinds) (e .shapes) parts) →
         Fitted (now (script .entry)) e parts (now (grid .exit))) ⌝ }
 {
-    let mut counts = [0u16; MAX_LABELS];
     let cards = wide(e.cards);
     let shapes = wide(e.shapes);
     let mut n = 0;
@@ -127,7 +126,6 @@ pub fn fit_grid(
             next,
             e,
             n,
-            &mut counts,
             &mut grid[base..end],
         );
         n += 1;

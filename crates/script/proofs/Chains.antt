@@ -1,6 +1,7 @@
 -- Chains of numbers by a key: of the links, by the cards that they lead to.
 -- last-here, last-other, last-le, last-is, last-none   the last number below another with a key
--- chained-none, chained-more                           the chains of no numbers, and of one number more
+-- last-zero                                            no number below another has a key
+-- chained-none, chained-more, chained-skip             the chains of no numbers, of one more, and of one with no head
 -- Assumes nothing.
 use Prim.Native.Nat.{ℕ, zero, suc, _+_, _≤_, _<_}
 use mathlib.Core.Path.{_≡_, refl, sym, ap, subst, _∙_}
@@ -56,6 +57,12 @@ last-none key m (suc k) i l h e =
     (eq-or-ne (key k) m))
     (eq-or-lt-of-le (le-of-suc-le-suc h))
 
+pub last-zero : (key : ℕ → ℕ) (m k : ℕ) → ((i : ℕ) → i < k → key i ≡ m → ⊥) → lastAt key m k ≡ 0
+unfolding lastAt
+last-zero key m zero h = refl
+last-zero key m (suc k) h =
+    last-other key m k (h k (omega arith)) ∙ last-zero key m k (λ i l. h i (omega arith))
+
 pub chained-none : (key : ℕ → ℕ) (first next : List ℕ) → ((m : ℕ) → m < length first → getD first m 0 ≡ 0)
     → Chained key first next 0
 unfolding lastAt
@@ -89,3 +96,15 @@ module _ (key : ℕ → ℕ) (first next : List ℕ) (k m : ℕ)
 
     pub chained-more : Chained key (set first m (k + 1)) (set next k (getD first m 0)) (k + 1)
     chained-more = rw (add-one k) (record { heads = more-heads; nexts = more-nexts })
+
+-- A number whose key has no head and is no other's is passed over.
+pub chained-skip : (key : ℕ → ℕ) (first next : List ℕ) (k : ℕ) → Chained key first next k → length first ≤ key k
+    → ((i : ℕ) → i < k → key i ≡ key k → ⊥) → getD next k 0 ≡ 0 → Chained key first next (k + 1)
+chained-skip key first next k s past own zero-next = rw (add-one k) (record {
+  heads = λ c lc. s .heads c lc ∙ sym (last-other key c k (λ e. omega (arith, e)));
+  nexts = λ i li. ⊎-elim
+      (λ (x : i ≡ k). ap (λ (y : ℕ). getD next y 0) x ∙ zero-next ∙ sym (last-zero key (key k) k own)
+      ∙ ap (λ (y : ℕ). lastAt key (key y) y) (sym x))
+      (λ l. s .nexts i l)
+      (eq-or-lt-of-le (le-of-suc-le-suc li));
+})

@@ -249,7 +249,8 @@ module _ (script : List ℕ) (m : ℕ) (rise : StartsRise script m) (c k : ℕ) 
       (le-or-lt (below script c m) e)
 
   count-after : (d : ℕ) → below script (c + 1) m + d ≤ m
-      → wayCount outgoing script c k (below script (c + 1) m + d) ≡ wayCount outgoing script c k (below script (c + 1) m)
+      → wayCount outgoing script c k (below script (c + 1) m + d)
+      ≡ wayCount outgoing script c k (below script (c + 1) m)
   unfolding wayCount
   count-after zero h = rw add-zero refl
   count-after (suc d) h =

@@ -51,16 +51,18 @@ unfoldable pub kindCount : List ℕ → ℕ → ℕ → ℕ → ℕ
 kindCount script k lo zero = 0
 kindCount script k lo (suc i) = kindCount script k lo i + cond (leb lo i) (cond (eqb k (kindAt script i)) 1 0) 0
 
--- The links from link lo on and below link hi are in the script, and each kind of theirs has a count.
+-- The links from link lo on and below link hi are in the script, and each kind of theirs has a count, which is 0.
 pub record LeavingAsked (script : List ℕ) (lo hi : ℕ) (counts : List ℕ) : Type 0 where
   pub within : Within script lo hi
   pub kinds : (i : ℕ) → lo ≤ i → i < hi → kindAt script i < length counts
+  pub zeros : (k : ℕ) → k < length counts → getD counts k 0 ≡ 0
 
--- The links to a card are chained, they are in the script, and each kind of theirs has a count.
+-- The links to a card are chained, they are in the script, and each kind of theirs has a count, which is 0.
 pub record ArrivingAsked (script first next : List ℕ) (links card : ℕ) (counts : List ℕ) : Type 0 where
   pub within : Within script 0 links
   pub arrivals : ArrivalsOf script first next (card + 1) links
   pub kinds : (i : ℕ) → i < links → kindAt script i < length counts
+  pub zeros : (k : ℕ) → k < length counts → getD counts k 0 ≡ 0
 
 -- Counting stands before link at - 1 of the chain, or at its end if `at` is 0: the links counted and those below `at`
 -- are all.

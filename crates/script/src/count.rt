@@ -7,26 +7,13 @@ ghost use Rattle.script.specs.Index.{kindCount, LeavingAsked, ArrivingAs
 ghost use Rattle.script.specs.Counts.{wayCount};
 use words::wide;
 
-// Sets all counts to 0.
-fn clear(counts: &mut [u16])
-    ensures cleared { λ _. ⌜ ((k : ℕ) → k < length (now (counts .entry)) → getD (now (counts .exit)) k 0 ≡ 0) ⌝ }
-    ensures size { λ _. ⌜ length (now (counts .exit)) ≡ length (now (counts .entry)) ⌝ }
-{
-    let mut k = 0;
-    while k < counts.len() {
-        counts[k] = 0;
-        k += 1;
-    }
-}
-
-// How many of the links from lo to hi, hi not included, have each kind. What the counts were before does not matter.
+// How many of the links from lo to hi, hi not included, have each kind. The counts are all 0 before.
 pub fn count_leaving(script: &[u16], lo: usize, hi: usize, counts: &mut [u16])
     requires { ⌜ LeavingAsked (now script) lo hi (now counts) ⌝ }
     ensures exact { λ _. ⌜ ((k : ℕ) → k < length (now (counts .entry)) →
         getD (now (counts .exit)) k 0 ≡ kindCount (now (script .entry)) k lo hi) ⌝ }
     ensures size { λ _. ⌜ length (now (counts .exit)) ≡ length (now (counts .entry)) ⌝ }
 {
-    clear(counts);
     let mut i = lo;
     while i < hi {
         let kind = wide(script[3 + 3 * i]);
@@ -35,7 +22,7 @@ pub fn count_leaving(script: &[u16], lo: usize, hi: usize, counts: &mut [u16])
     }
 }
 
-// How many of the links to a card have each kind. What the counts were before does not matter.
+// How many of the links to a card have each kind. The counts are all 0 before.
 pub fn count_arriving(
     script: &[u16],
     first: &[u16],
@@ -49,7 +36,6 @@ pub fn count_arriving(
         getD (now (counts .exit)) k 0 ≡ wayCount incoming (now (script .entry)) card k links) ⌝ }
     ensures size { λ _. ⌜ length (now (counts .exit)) ≡ length (now (counts .entry)) ⌝ }
 {
-    clear(counts);
     let mut at = wide(first[card]);
     while 0 < at {
         let i = at - 1;

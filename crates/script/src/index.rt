@@ -1,4 +1,4 @@
-// Where the links of a card stand, each index built in one pass: those from it start at a number, those to it are a chain.
+// Where the links of a card stand, each index built in one pass: those from it have a start, those to it a chain.
 ghost use Prim.Native.Nat.{_≤_};
 ghost use mathlib.Core.Path.{_≡_};
 ghost use lib.ListN.{length};

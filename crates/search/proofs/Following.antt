@@ -48,7 +48,8 @@ module _ {script starts names : List ℕ} {shapes : ℕ} (ready : Ready script n
   had-first h q g = h q (out-needs q g)
 
   out-led : (i q u : ℕ) → i < getD script 1 0 → nearAt outgoing script i ≡ p / shapes
-      → entryAt names (p % shapes) (labelAt outgoing script i) ≡ suc u → q ≡ farAt outgoing script i * shapes + u → Out q
+      → entryAt names (p % shapes) (labelAt outgoing script i) ≡ suc u → q ≡ farAt outgoing script i * shapes + u
+      → Out q
   out-led i q u l near e at =
       let (a, b) = from-range st p-card low high i l near in
       record { link = i; low = a; high = b; good = needs-led ready p half i q u l e at }

@@ -1,6 +1,6 @@
--- Walks: along links. Entries, Names, Needs: what entries, their chains and the links make good. Following, Followed, Indexes: the
--- search forwards. Striking: the one backwards. Tallies: a tally in memory. Marks, Closures: the closure of the bookings.
--- Judging: a grid tested as it is.
+-- Walks: along links. Entries, Names, Needs: what entries, their chains and the links make good. Following, Followed,
+-- Indexes: the search forwards. Striking, Rounds: the one backwards. Tallies: a tally in memory. Marks, Closures: the
+-- closure of the bookings. Judging: a grid tested as it is.
 pub mod Walks
 pub mod Entries
 pub mod Names
@@ -9,6 +9,7 @@ pub mod Following
 pub mod Followed
 pub mod Indexes
 pub mod Striking
+pub mod Rounds
 pub mod Tallies
 pub mod Marks
 pub mod Closures

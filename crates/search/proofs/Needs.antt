@@ -165,6 +165,7 @@ module _ {script starts : List ℕ} (st : Starts script starts) {c lo hi : ℕ} 
       )
 
 -- A card below the count of cards has its chain.
-pub arrivals-at : {script first next : List ℕ} {m : ℕ} → ArrivalsOf script first next (getD script 0 0) (getD script 1 0)
+pub arrivals-at : {script first next : List ℕ} {m : ℕ}
+    → ArrivalsOf script first next (getD script 0 0) (getD script 1 0)
     → m < getD script 0 0 → ArrivalsOf script first next (m + 1) (getD script 1 0)
 arrivals-at a l = record { cards-in = omega (arith, a .cards-in); links-in = a .links-in; chained = a .chained }

@@ -1,6 +1,6 @@
 -- The search backwards: which pairs need one, by the links to its card and by those from it.
---   struck-both, struck-sources   sweeps of both, and of the first where no shape names an incoming kind, sweep all that
---                                 need it
+--   struck-both, struck-sources   sweeps of both, and of the first where no shape names an incoming kind, sweep all
+--                                 that need it
 -- Assumes nothing.
 use mathlib.Core.Path.{_≡_}
 use mathlib.Core.Logic.{_⊎_, inl, inr}

@@ -1,5 +1,5 @@
--- Walks: along the links of a card. Indexes: of the table of names. Strikes, Tally: the search backwards. Follows: the one
--- forwards. Closing: the closure of the bookings. Judging: a grid tested as it is.
+-- Walks: along the links of a card. Indexes: of the table of names. Strikes, Tally: the search backwards. Follows: the
+-- one forwards. Closing: the closure of the bookings. Judging: a grid tested as it is.
 pub mod Walks
 pub mod Indexes
 pub mod Strikes

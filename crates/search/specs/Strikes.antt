@@ -2,8 +2,10 @@
 -- NamedGood    the pairs of a card whose shape names a shape for a label; NamedAsked: what striking them asks
 -- NeedGood     the pairs that need one of a link's far end, by the link seen one way
 -- NeedAsked    what striking by links asks; SourcesAsked, TargetsAsked: by those to a card, and by those from it
--- NeedingAsked what striking all pairs that need one asks
--- RoundsAsked, StrikeAsked  what the search asks, with its index of names and without
+-- OutReady, BothReady   what striking goes by: the links to a card, and those from it too
+-- NeedingAsked what striking all pairs that need one asks, both ways
+-- Roomy        a grid and a queue of the right sizes
+-- OutAsked, BothAsked   what the rounds ask, one way and both; BackAsked, StrikeAsked: with indexes still to be built
 -- Searched     its answer; StrikesLeft: with what becomes of the grid
 -- Assumes nothing.
 use Prim.Native.Nat.{ℕ, suc, _+_, _*_, _≤_, _<_}
@@ -11,18 +13,19 @@ use mathlib.Core.Path.{_≡_}
 use mathlib.Core.List.{List}
 use mathlib.Core.Bool.{Bool}
 use lib.ListN.{length, getD}
-use Rattle.words.specs.Limits.{maxLabels, maxShapes}
+use Rattle.words.specs.Limits.{maxKinds, maxShapes}
 use Rattle.words.specs.Sizes.{maxGrid}
-use Rattle.bags.specs.Label.{Way}
+use Rattle.bags.specs.Label.{Way, outgoing, incoming, firstLabel}
 use Rattle.template.specs.Machine.{entryAt}
 use Rattle.script.specs.Link.{nearAt, labelAt}
 use Rattle.script.specs.Index.{ArrivalsOf}
+use Rattle.sheet.specs.Opened.{OnlyOutgoing}
 use Rattle.board.specs.Grid.{on}
 use Rattle.board.specs.Board.{Board, Finished}
 use Rattle.board.specs.Machine.{Marks}
 use Rattle.board.specs.Work.{Work, Room}
 use Rattle.typing.specs.Needs.{boardOf, Ready}
-use Rattle.search.specs.Walks.{LinksReady}
+use Rattle.search.specs.Walks.{Starts, LinksReady}
 use Rattle.search.specs.Indexes.{Table, NameIndex}
 
 -- The pairs of the card at `base` whose shape names u for the label k.
@@ -32,11 +35,13 @@ pub record NamedGood (names : List ℕ) (shapes k base u p : ℕ) : Type 0 where
   pub names-it : entryAt names by k ≡ suc u
   pub at : p ≡ base + by
 
--- What striking these asks.
-pub record NamedAsked (names : List ℕ) (shapes : ℕ) (named alike : List ℕ) (k base u : ℕ) (w : Work) : Type 0 where
+-- What striking these asks, of the label of a kind in one half of the table.
+pub record NamedAsked (names : List ℕ) (start shapes : ℕ) (named alike : List ℕ) (kind base u : ℕ) (w : Work)
+    : Type 0 where
   pub table : Table names shapes
-  pub places : NameIndex names shapes named alike
-  pub label-in : k < maxLabels
+  pub half : start ≤ maxKinds
+  pub places : NameIndex names start shapes named alike
+  pub kind-in : kind < maxKinds
   pub shape-in : u < maxShapes
   pub few-places : length (w .grid) ≤ maxGrid
   -- the card's pairs are on the board
@@ -48,10 +53,11 @@ abbrev pub NeedGood : Way → List ℕ → List ℕ → ℕ → ℕ → ℕ → 
 NeedGood way script names shapes u i p =
     NamedGood names shapes (labelAt way script i) (nearAt way script i * shapes) u p
 
--- What striking by links the pairs that need the shape u asks.
-pub record NeedAsked (script names : List ℕ) (shapes : ℕ) (named alike : List ℕ) (u : ℕ) (w : Work) : Type 0 where
+-- What striking by links seen one way the pairs that need the shape u asks.
+pub record NeedAsked (way : Way) (script names : List ℕ) (shapes : ℕ) (named alike : List ℕ) (u : ℕ) (w : Work)
+    : Type 0 where
   pub ready : Ready script names shapes
-  pub places : NameIndex names shapes named alike
+  pub places : NameIndex names (firstLabel way) shapes named alike
   pub shape-in : u < shapes
   pub full : length (w .grid) ≡ getD script 0 0 * shapes
   pub room : Room w
@@ -59,39 +65,65 @@ pub record NeedAsked (script names : List ℕ) (shapes : ℕ) (named alike : Lis
 -- By the links to card m.
 pub record SourcesAsked (script first next names : List ℕ) (shapes : ℕ) (named alike : List ℕ) (m u : ℕ) (w : Work)
     : Type 0 where
-  pub need : NeedAsked script names shapes named alike u w
+  pub need : NeedAsked outgoing script names shapes named alike u w
   pub arrivals : ArrivalsOf script first next (m + 1) (getD script 1 0)
 
 -- By the links lo up to hi.
 pub record TargetsAsked (script names : List ℕ) (shapes : ℕ) (named alike : List ℕ) (lo hi u : ℕ) (w : Work)
     : Type 0 where
-  pub need : NeedAsked script names shapes named alike u w
+  pub need : NeedAsked incoming script names shapes named alike u w
   pub rising : lo ≤ hi
   pub links-in : hi ≤ getD script 1 0
 
+-- What the search by the links to a card goes by: a script, where its links stand, and the index of the outgoing names.
+pub record OutReady (script first next names : List ℕ) (shapes : ℕ) (named alike : List ℕ) : Type 0 where
+  pub ready : Ready script names shapes
+  pub arriving : ArrivalsOf script first next (getD script 0 0) (getD script 1 0)
+  pub places : NameIndex names (firstLabel outgoing) shapes named alike
+
+-- And by those from it: also where these stand, and the index of the incoming names.
+pub record BothReady (script starts first next names : List ℕ) (shapes : ℕ) (named alike inward inalike : List ℕ)
+    : Type 0 where
+  pub out : OutReady script first next names shapes named alike
+  pub leaving : Starts script starts
+  pub inward-places : NameIndex names (firstLabel incoming) shapes inward inalike
+
 -- What striking all pairs that need the one at place q asks.
-pub record NeedingAsked (script starts first next names : List ℕ) (shapes : ℕ) (incoming : Bool)
-    (named alike : List ℕ) (q : ℕ) (w : Work) : Type 0 where
-  pub links : LinksReady script starts first next names shapes incoming
-  pub places : NameIndex names shapes named alike
+pub record NeedingAsked (script starts first next names : List ℕ) (shapes : ℕ)
+    (named alike inward inalike : List ℕ) (q : ℕ) (w : Work) : Type 0 where
+  pub both : BothReady script starts first next names shapes named alike inward inalike
   pub on-board : q < length (w .grid)
   pub full : length (w .grid) ≡ getD script 0 0 * shapes
   pub room : Room w
 
--- What the search asks: the indexes, a byte for each pair, and room in the queue for all.
-pub record RoundsAsked (script starts first next names : List ℕ) (shapes : ℕ) (incoming : Bool)
-    (named alike grid queue : List ℕ) : Type 0 where
-  pub links : LinksReady script starts first next names shapes incoming
-  pub places : NameIndex names shapes named alike
+-- A byte for each pair, and room in the queue for all.
+pub record Roomy (script : List ℕ) (shapes : ℕ) (grid queue : List ℕ) : Type 0 where
   pub full : length grid ≡ getD script 0 0 * shapes
   pub room : length grid ≤ length queue
 
--- What it asks where the index of names is still to be built.
+-- What the rounds ask where no shape names an incoming kind, and where some does.
+pub record OutAsked (script first next names : List ℕ) (shapes : ℕ) (named alike grid queue : List ℕ) : Type 0 where
+  pub out : OutReady script first next names shapes named alike
+  pub only : OnlyOutgoing names shapes maxKinds
+  pub lent : Roomy script shapes grid queue
+
+pub record BothAsked (script starts first next names : List ℕ) (shapes : ℕ)
+    (named alike inward inalike grid queue : List ℕ) : Type 0 where
+  pub both : BothReady script starts first next names shapes named alike inward inalike
+  pub lent : Roomy script shapes grid queue
+
+-- The same where the index of the incoming names is still to be built; and where both are.
+pub record BackAsked (script starts first next names : List ℕ) (shapes : ℕ) (named alike grid queue : List ℕ)
+    : Type 0 where
+  pub out : OutReady script first next names shapes named alike
+  pub leaving : Starts script starts
+  pub lent : Roomy script shapes grid queue
+
 pub record StrikeAsked (script starts first next names : List ℕ) (shapes : ℕ) (incoming : Bool) (grid queue : List ℕ)
     : Type 0 where
   pub links : LinksReady script starts first next names shapes incoming
-  pub full : length grid ≡ getD script 0 0 * shapes
-  pub room : length grid ≤ length queue
+  pub arriving : ArrivalsOf script first next (getD script 0 0) (getD script 1 0)
+  pub lent : Roomy script shapes grid queue
 
 -- The rounds counted are one more than those that strike something: the first that strikes none is counted too.
 pub record Searched (B : Board) (X : ℕ → Bool) (rounds struck : ℕ) : Type 0 where

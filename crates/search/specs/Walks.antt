@@ -7,7 +7,7 @@
 use Prim.Native.Nat.{ℕ, _+_, _≤_, _<_}
 use mathlib.Core.Path.{_≡_}
 use mathlib.Core.List.{List}
-use mathlib.Core.Bool.{Bool, false}
+use mathlib.Core.Bool.{Bool, true, false}
 use lib.ListN.{length, getD}
 use Rattle.words.specs.Limits.{maxKinds}
 use Rattle.script.specs.Link.{fromAt, toAt}
@@ -36,10 +36,10 @@ pub record Starts (script starts : List ℕ) : Type 0 where
   pub each : (i : ℕ) → i < getD script 1 0
       → (getD starts (fromAt script i) 0 ≤ i) × (i < getD starts (fromAt script i + 1) 0)
 
--- A script and a table of names that fit together, and where the links from each card and to it stand. Links to cards may
--- be left out only where no shape names an incoming kind.
+-- A script and a table of names that fit together, and where the links from each card stand and, if some shape names an
+-- incoming kind, those to it.
 pub record LinksReady (script starts first next names : List ℕ) (shapes : ℕ) (incoming : Bool) : Type 0 where
   pub ready : Ready script names shapes
   pub leaving : Starts script starts
-  pub arriving : ArrivalsOf script first next (getD script 0 0) (getD script 1 0)
+  pub arriving : incoming ≡ true → ArrivalsOf script first next (getD script 0 0) (getD script 1 0)
   pub ways : incoming ≡ false → OnlyOutgoing names shapes maxKinds

@@ -1,47 +1,49 @@
 // The search backwards: from the pairs whose counts do not fit, rounds of strikes, until one strikes nothing.
 ghost use mathlib.Core.Path.{_≡_};
-ghost use Prim.Native.Nat.{_≤_};
+ghost use Prim.Native.Nat.{_+_, _≤_};
 ghost use Rattle.words.specs.Sizes.{maxGrid};
 ghost use Rattle.bags.specs.Label.{outgoing, incoming as arriving};
 ghost use Rattle.board.specs.Work.{work, Swept};
 ghost use Rattle.typing.specs.Needs.{Needs};
-ghost use Rattle.search.specs.Tally.{closed};
+ghost use Rattle.search.specs.Tally.{closed, HeadTally};
 ghost use Rattle.search.specs.Walks.{Leaving, Arriving};
 ghost use Rattle.search.specs.Strikes.{NamedGood, NamedAsked, NeedGood, SourcesAsked, TargetsAsked, NeedingAsked};
-ghost use Rattle.search.specs.Strikes.{RoundsAsked, StrikeAsked, StrikesLeft};
+ghost use Rattle.search.specs.Strikes.{OutAsked, BothAsked, BackAsked, StrikeAsked, StrikesLeft};
 use crate::Tally;
 use crate::index::index_names;
 use board::list_off;
 use board::strike_one;
 use words::MAX_KINDS;
-use words::MAX_LABELS;
 use words::MAX_SHAPES;
-use words::TABLE_SIZE;
 use words::wide;
 
-// Strikes the pairs of the card at `base` whose shape names u for the label.
+// Entries of one half of a table of names: a row of kinds for each shape.
+const HALF_TABLE: usize = MAX_SHAPES * MAX_KINDS;
+
+// Strikes the pairs of the card at `base` whose shape names u for the label start + kind.
 fn strike_named(
     names: &[u8],
+    start: usize,
     shapes: usize,
     named: &[u16],
     alike: &[u16],
-    label: usize,
+    kind: usize,
     base: usize,
     u: usize,
     grid: &mut [u8],
     queue: &mut [u16],
     tail: usize,
 ) -> usize
-    requires { ⌜ NamedAsked (now names) shapes (now named) (now alike) label base u
+    requires { ⌜ NamedAsked (now names) start shapes (now named) (now alike) kind base u
         (work (now grid) (now queue) tail) ⌝ }
-    ensures { λ r. ⌜ Swept (NamedGood (now (names .entry)) shapes label base u)
+    ensures { λ r. ⌜ Swept (NamedGood (now (names .entry)) shapes (start + kind) base u)
         (work (now (grid .entry)) (now (queue .entry)) tail) (work (now (grid .exit)) (now (queue .exit)) r) ⌝ }
 {
     let mut end = tail;
-    let mut at = wide(named[label * MAX_SHAPES + u]);
+    let mut at = wide(named[kind * MAX_SHAPES + u]);
     while 0 < at {
         let p = at - 1;
-        end = strike_one(grid, queue, end, base + p / MAX_LABELS);
+        end = strike_one(grid, queue, end, base + p / MAX_KINDS);
         at = wide(alike[p]);
     }
     end
@@ -76,6 +78,7 @@ fn strike_sources(
         let kind = wide(script[3 + 3 * i]);
         end = strike_named(
             names,
+            0,
             shapes,
             named,
             alike,
@@ -91,8 +94,8 @@ fn strike_sources(
     end
 }
 
-// Strikes the pairs at the end of one of the links lo up to hi, all from one card, that need the shape u there: by their
-// incoming labels.
+// Strikes the pairs at the end of one of the links lo up to hi, all from one card, that need the shape u there: by
+// their incoming labels.
 fn strike_targets(
     script: &[u16],
     names: &[u8],
@@ -118,10 +121,11 @@ fn strike_targets(
         let to = wide(script[4 + 3 * i]);
         end = strike_named(
             names,
+            MAX_KINDS,
             shapes,
             named,
             alike,
-            MAX_KINDS + kind,
+            kind,
             to * shapes,
             u,
             grid,
@@ -133,8 +137,7 @@ fn strike_targets(
     end
 }
 
-// Strikes what needs the pair at place q: by the links to its card and, where shapes name incoming kinds, by those from
-// it.
+// Strikes what needs the pair at place q: by the links to its card, and by those from it.
 fn strike_needing(
     script: &[u16],
     starts: &[u16],
@@ -142,16 +145,17 @@ fn strike_needing(
     next: &[u16],
     names: &[u8],
     shapes: usize,
-    incoming: bool,
     named: &[u16],
     alike: &[u16],
+    inward: &[u16],
+    inalike: &[u16],
     q: usize,
     grid: &mut [u8],
     queue: &mut [u16],
     tail: usize,
 ) -> usize
-    requires { ⌜ NeedingAsked (now script) (now starts) (now first) (now next) (now names) shapes incoming
-        (now named) (now alike) q (work (now grid) (now queue) tail) ⌝ }
+    requires { ⌜ NeedingAsked (now script) (now starts) (now first) (now next) (now names) shapes
+        (now named) (now alike) (now inward) (now inalike) q (work (now grid) (now queue) tail) ⌝ }
     ensures { λ r. ⌜ Swept (λ p. Needs (now (script .entry)) (now (names .entry)) shapes p q)
         (work (now (grid .entry)) (now (queue .entry)) tail) (work (now (grid .exit)) (now (queue .exit)) r) ⌝ }
 {
@@ -171,24 +175,21 @@ fn strike_needing(
         queue,
         tail,
     );
-    if incoming {
-        let lo = wide(starts[m]);
-        let hi = wide(starts[m + 1]);
-        return strike_targets(
-            script,
-            names,
-            shapes,
-            named,
-            alike,
-            lo,
-            hi,
-            u,
-            grid,
-            queue,
-            end,
-        );
-    }
-    end
+    let lo = wide(starts[m]);
+    let hi = wide(starts[m + 1]);
+    strike_targets(
+        script,
+        names,
+        shapes,
+        inward,
+        inalike,
+        lo,
+        hi,
+        u,
+        grid,
+        queue,
+        end,
+    )
 }
 
 // The thin round closer brings the lent tally up to date: one round more, and the pairs struck so far.
@@ -210,24 +211,33 @@ fn after_round(tally: Tally, struck: usize) -> Tally
     current
 }
 
-// Strikes rounds from the pairs in the grid, those whose counts fit, until one strikes nothing. The tally has the
-// rounds that are closed: where the head has come to their last strike, another round is over, as is the one at the
-// end.
+// The tally at the head of the queue: where the head has come to the last strike of the rounds closed, another is over.
+fn at_head(tally: Tally, head: usize, tail: usize) -> Tally
+    requires { ⌜ tally .rounds ≤ maxGrid ⌝ }
+    ensures { λ r. ⌜ HeadTally tally head tail r ⌝ }
+{
+    let end = tally.struck;
+    if head == end {
+        return after_round(tally, tail);
+    }
+    tally
+}
+
+// Strikes rounds from the pairs in the grid, those whose counts fit, until one strikes nothing, where no shape names an
+// incoming kind. The tally has the rounds that are closed; the one at the end is closed like the others.
 fn strike_rounds(
     script: &[u16],
-    starts: &[u16],
     first: &[u16],
     next: &[u16],
     names: &[u8],
     shapes: usize,
-    incoming: bool,
     named: &[u16],
     alike: &[u16],
     grid: &mut [u8],
     queue: &mut [u16],
 ) -> Tally
-    requires { ⌜ RoundsAsked (now script) (now starts) (now first) (now next) (now names) shapes incoming
-        (now named) (now alike) (now grid) (now queue) ⌝ }
+    requires { ⌜ OutAsked (now script) (now first) (now next) (now names) shapes (now named) (now alike)
+        (now grid) (now queue) ⌝ }
     ensures { λ r. ⌜ StrikesLeft (now (script .entry)) (now (names .entry)) shapes
         (now (grid .entry)) (now (grid .exit)) (r .rounds) (r .struck) ⌝ }
 {
@@ -238,10 +248,55 @@ fn strike_rounds(
         struck: 0,
     };
     while head < tail {
-        let end = tally.struck;
-        if head == end {
-            tally = after_round(tally, tail);
-        }
+        tally = at_head(tally, head, tail);
+        let q = wide(queue[head]);
+        tail = strike_sources(
+            script,
+            first,
+            next,
+            names,
+            shapes,
+            named,
+            alike,
+            q / shapes,
+            q % shapes,
+            grid,
+            queue,
+            tail,
+        );
+        head += 1;
+    }
+    after_round(tally, tail)
+}
+
+// The same where some shape names an incoming kind: links are looked at from both ends.
+fn strike_rounds_both(
+    script: &[u16],
+    starts: &[u16],
+    first: &[u16],
+    next: &[u16],
+    names: &[u8],
+    shapes: usize,
+    named: &[u16],
+    alike: &[u16],
+    inward: &[u16],
+    inalike: &[u16],
+    grid: &mut [u8],
+    queue: &mut [u16],
+) -> Tally
+    requires { ⌜ BothAsked (now script) (now starts) (now first) (now next) (now names) shapes
+        (now named) (now alike) (now inward) (now inalike) (now grid) (now queue) ⌝ }
+    ensures { λ r. ⌜ StrikesLeft (now (script .entry)) (now (names .entry)) shapes
+        (now (grid .entry)) (now (grid .exit)) (r .rounds) (r .struck) ⌝ }
+{
+    let mut tail = list_off(grid, queue);
+    let mut head = 0;
+    let mut tally = Tally {
+        rounds: 0,
+        struck: 0,
+    };
+    while head < tail {
+        tally = at_head(tally, head, tail);
         let q = wide(queue[head]);
         tail = strike_needing(
             script,
@@ -250,9 +305,10 @@ fn strike_rounds(
             next,
             names,
             shapes,
-            incoming,
             named,
             alike,
+            inward,
+            inalike,
             q,
             grid,
             queue,
@@ -261,6 +317,43 @@ fn strike_rounds(
         head += 1;
     }
     after_round(tally, tail)
+}
+
+// Indexes the incoming names too, and strikes rounds both ways.
+fn strike_both(
+    script: &[u16],
+    starts: &[u16],
+    first: &[u16],
+    next: &[u16],
+    names: &[u8],
+    shapes: usize,
+    named: &[u16],
+    alike: &[u16],
+    grid: &mut [u8],
+    queue: &mut [u16],
+) -> Tally
+    requires { ⌜ BackAsked (now script) (now starts) (now first) (now next) (now names) shapes
+        (now named) (now alike) (now grid) (now queue) ⌝ }
+    ensures { λ r. ⌜ StrikesLeft (now (script .entry)) (now (names .entry)) shapes
+        (now (grid .entry)) (now (grid .exit)) (r .rounds) (r .struck) ⌝ }
+{
+    let mut inward = [0u16; HALF_TABLE];
+    let mut inalike = [0u16; HALF_TABLE];
+    index_names(names, MAX_KINDS, shapes, &mut inward, &mut inalike);
+    strike_rounds_both(
+        script,
+        starts,
+        first,
+        next,
+        names,
+        shapes,
+        named,
+        alike,
+        &inward,
+        &inalike,
+        grid,
+        queue,
+    )
 }
 
 // Strikes rounds from a grid that has the pairs whose counts fit, until one strikes nothing.
@@ -280,17 +373,29 @@ pub fn strike_all(
     ensures { λ r. ⌜ StrikesLeft (now (script .entry)) (now (names .entry)) shapes
         (now (grid .entry)) (now (grid .exit)) (r .rounds) (r .struck) ⌝ }
 {
-    let mut named = [0u16; TABLE_SIZE + 1];
-    let mut alike = [0u16; TABLE_SIZE];
-    index_names(names, shapes, &mut named, &mut alike);
+    let mut named = [0u16; HALF_TABLE];
+    let mut alike = [0u16; HALF_TABLE];
+    index_names(names, 0, shapes, &mut named, &mut alike);
+    if incoming {
+        return strike_both(
+            script,
+            starts,
+            first,
+            next,
+            names,
+            shapes,
+            &named,
+            &alike,
+            grid,
+            queue,
+        );
+    }
     strike_rounds(
         script,
-        starts,
         first,
         next,
         names,
         shapes,
-        incoming,
         &named,
         &alike,
         grid,

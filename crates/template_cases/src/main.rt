@@ -26,7 +26,7 @@ fn show(label: &[u8], words: &[u16]) {
     }
 }
 
-// 1, 2 and 3: the number of words, of kinds and of shapes.
+// 1 and 2: the number of words and of kinds.
 fn sizes() {
     show(
         b"sample",
@@ -38,6 +38,10 @@ fn sizes() {
     show(b"one-kind", &[1, 1, 1, 0]);
     show(b"64-kinds", &[64, 1, 1, 0]);
     show(b"65-kinds", &[65, 1, 1, 0]);
+}
+
+// 3, and the order of the three.
+fn shape_counts() {
     show(b"no-shapes", &[1, 0]);
     show(b"33-shapes", &[1, 33, 1, 0]);
     show(b"length-before-kinds", &[0]);
@@ -45,7 +49,7 @@ fn sizes() {
     show(b"shapes-before-words", &[1, 0, 9]);
 }
 
-// 4 and 12: words that are missing, and words that are left.
+// 4: words that are missing.
 fn ends() {
     show(b"no-second-shape", &[1, 2, 1, 0]);
     show(b"count-past-the-end", &[1, 1, 2, 0]);
@@ -54,6 +58,10 @@ fn ends() {
     show(b"empty-first-shape", &[1, 2, 0, 1, 0]);
     show(b"star-alone", &[1, 1, 1, 1]);
     show(b"star-at-its-shape-end", &[1, 2, 1, 1, 1, 0]);
+}
+
+// 12: words that are left.
+fn words_left() {
     show(b"word-after-the-part", &[1, 1, 2, 0, 0]);
     show(b"word-after-the-shape", &[1, 1, 1, 0, 7]);
     show(b"words-after-both-shapes", &[1, 2, 1, 0, 1, 0, 0, 0]);
@@ -73,6 +81,10 @@ fn codes() {
     show(b"code-16", &[1, 1, 4, 16, 2, 0, 0]);
     show(b"code-17", &[1, 1, 4, 17, 2, 0, 0]);
     show(b"code-18", &[1, 1, 4, 18, 2, 0, 0]);
+}
+
+// The codes of links.
+fn link_codes() {
     show(b"code-255", &[1, 1, 4, 255, 0, 0, 0]);
     show(b"code-256", &[1, 1, 4, 256, 0, 0, 0]);
     show(b"code-319", &[64, 1, 4, 319, 0, 0, 0]);
@@ -82,7 +94,7 @@ fn codes() {
     show(b"code-65535", &[64, 1, 4, 65535, 0, 0, 0]);
 }
 
-// 11: the count of a group, and 4 for its words.
+// 11: the count of a group.
 fn group_counts() {
     show(b"group-of-0", &[1, 1, 2, 16, 0]);
     show(b"group-of-1", &[1, 1, 3, 16, 1, 0]);
@@ -140,6 +152,10 @@ fn group_counts() {
             0,
         ],
     );
+}
+
+// 4 for a group's words.
+fn group_words() {
     show(b"group-without-count", &[1, 1, 1, 17]);
     show(b"group-at-its-shape-end", &[1, 2, 1, 17, 1, 0]);
     show(b"group-misses-a-part", &[1, 1, 3, 17, 2, 0]);
@@ -148,7 +164,7 @@ fn group_counts() {
     show(b"group-second-part", &[1, 1, 4, 17, 2, 0, 18]);
 }
 
-// 7 and 8: the kind of a link, and 4 for its words.
+// 7: the kind of a link, and 4 for its words.
 fn kinds() {
     show(b"link-of-1-word", &[1, 1, 1, 256]);
     show(b"link-of-3-words", &[1, 1, 3, 256, 0, 0]);
@@ -158,6 +174,10 @@ fn kinds() {
     show(b"kind-at-the-count", &[1, 1, 4, 257, 0, 0, 0]);
     show(b"kind-63-of-63", &[63, 1, 4, 319, 0, 0, 0]);
     show(b"kind-before-shape", &[1, 1, 4, 257, 9, 9000, 0]);
+}
+
+// 8: a kind twice in a shape.
+fn kinds_twice() {
     show(
         b"kind-twice-in-all",
         &[1, 1, 10, 17, 2, 256, 0, 0, 1, 256, 0, 0, 1],
@@ -200,6 +220,10 @@ fn incoming() {
     show(b"incoming-before-shape", &[1, 1, 4, 321, 9, 9000, 0]);
     show(b"incoming-shape-at-the-count", &[1, 1, 4, 320, 1, 9000, 0]);
     show(b"incoming-high-below-low", &[1, 1, 4, 320, 0, 1, 0]);
+}
+
+// Both ways in a shape, and one of them twice.
+fn ways_twice() {
     show(b"both-ways", &[1, 1, 10, 17, 2, 256, 0, 0, 1, 320, 0, 0, 1]);
     show(
         b"both-ways-incoming-first",
@@ -227,7 +251,7 @@ fn incoming() {
     );
 }
 
-// 9 and 10: the shape, the low and the high of a link.
+// 9 and 10: the shape and the low of a link.
 fn limits() {
     show(b"shape-below-the-count", &[1, 2, 4, 256, 1, 0, 0, 1, 0]);
     show(b"shape-at-the-count", &[1, 2, 4, 256, 2, 0, 0, 1, 0]);
@@ -236,6 +260,10 @@ fn limits() {
     show(b"low-8192-no-limit", &[1, 1, 4, 256, 0, 8192, 65535]);
     show(b"low-8193", &[1, 1, 4, 256, 0, 8193, 8193]);
     show(b"low-8193-no-limit", &[1, 1, 4, 256, 0, 8193, 65535]);
+}
+
+// 10: the high of a link.
+fn highs() {
     show(b"high-8192", &[1, 1, 4, 256, 0, 0, 8192]);
     show(b"high-8193", &[1, 1, 4, 256, 0, 0, 8193]);
     show(b"high-65534", &[1, 1, 4, 256, 0, 0, 65534]);
@@ -264,6 +292,10 @@ fn depths() {
         b"depth-before-link",
         &[1, 1, 13, 1, 1, 1, 1, 1, 1, 1, 1, 1, 1, 1, 1, 256],
     );
+}
+
+// The depth of a group's parts.
+fn group_depths() {
     show(
         b"group-of-depth-12",
         &[1, 1, 14, 1, 1, 1, 1, 1, 1, 1, 1, 1, 1, 17, 2, 0, 0],
@@ -347,13 +379,21 @@ fn lengths(words: &[u16; 4097]) {
 
 fn main() {
     sizes();
+    shape_counts();
     ends();
+    words_left();
     codes();
+    link_codes();
     group_counts();
+    group_words();
     kinds();
+    kinds_twice();
     incoming();
+    ways_twice();
     limits();
+    highs();
     depths();
+    group_depths();
     many_shapes();
     let mut words = [0u16; 4097];
     fill(&mut words);

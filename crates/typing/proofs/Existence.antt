@@ -80,7 +80,8 @@ module _ {words : List ℕ} {kinds : ℕ} {s : Sheet} (read : SheetAccepted word
 
   names-room : s .shapes * maxLabels ≤ length (namesOf s)
   unfolding namesOf
-  names-room = omega (arith, list-length (λ p. named (partOf s (p / maxLabels)) (p % maxLabels)) (s .shapes * maxLabels))
+  names-room =
+      omega (arith, list-length (λ p. named (partOf s (p / maxLabels)) (p % maxLabels)) (s .shapes * maxLabels))
 
   fits-right : FitsGrid s (fitsOf s kinds)
   unfolding fitsOf

@@ -10,7 +10,7 @@ use Rattle.calls.proofs.settle.Statement.{statement}
 use Rattle.calls.proofs.settle.Tie as tie
 
 -- The start, the closure that is written, and the verdict on its pairs.
-abbrev start : tie.After-close-arg5 → tie.Start
+abbrev start : tie.After-close-arg3 → tie.Start
 start c = c .before .before .before .before .before .before .before .before .before .before .before .before
 
 abbrev closed : tie.After-first-unfit-arg → tie.After-close

@@ -2,14 +2,14 @@
 use mathlib.Core.Path.{_∙_}
 use native.Mathlib.Omega.{arith}
 use borrow.Author.Needs.{needs}
-use Rattle.calls.proofs.Known.{read, links-ready, among}
+use Rattle.calls.proofs.Known.{read, links-ready, links-arriving, among}
 use Rattle.calls.proofs.Tested.{counted-as, full-words, few}
 use Rattle.calls.proofs.Striking.{struck-found}
 use Rattle.calls.proofs.strike.Statement.{statement}
 use Rattle.calls.proofs.strike.Tie as tie
 
 -- The start, and the rounds struck.
-abbrev start : tie.After-strike-all-arg5 → tie.Start
+abbrev start : tie.After-strike-all-arg3 → tie.Start
 start c = c .before .before .before .before .before .before .before .before .before
 
 abbrev rounds : tie.After-count-bare-arg → tie.After-strike-all
@@ -20,16 +20,16 @@ cast-shapes c = search needs
 
 strike-all-requires : tie.Need-strike-all-requires
 strike-all-requires c κs =
-    let t = start c .pre .tested in
+    let t = start c .pre .some .tested in
     record {
-      links = links-ready (t .known) (start c .pre .links);
-      full = full-words t;
-      room = omega (arith, few t);
+      links = links-ready (t .known) (start c .pre .some .links);
+      arriving = links-arriving (t .known) (start c .pre .arriving);
+      lent = record { full = full-words t; room = omega (arith, few t) };
     }
 
 count-bare-requires : tie.Need-count-bare-requires
 count-bare-requires c κs =
-    let t = start (rounds c .before) .pre .tested in
+    let t = start (rounds c .before) .pre .some .tested in
     let accepted = read (t .known) in
     record {
       among = among (t .known);

@@ -4,18 +4,20 @@ use Prim.Native.Nat.{ℕ, _+_, _-_, _≤_, _<_}
 use mathlib.Core.Path.{_≡_, refl, sym, ap, _∙_}
 use native.Mathlib.Omega.{arith}
 use mathlib.Core.List.{List, _++_}
-use lib.ListN.{length, getD}
+use lib.ListN.{length, getD, drop}
+use lib.Seq.{getD-take, getD-drop}
 use denote.Ref.{now}
 use borrow.Author.Needs.{needs}
 use borrow.Rule.Slice.PartMut.{postOf, mid-len, same-len-mid}
 use Rattle.words.specs.Limits.{maxKinds, maxLabels}
+use Rattle.words.proofs.Cells.{put-after}
 use Rattle.bags.specs.Label.{outgoing, incoming}
 use Rattle.script.specs.Counts.{wayCount}
 use Rattle.fits.proofs.CardCounts.{leaving-asked, leaving-counted, arriving-asked, counted-out, counted-both}
 use Rattle.fits.proofs.count_card.Statement.{statement}
 use Rattle.fits.proofs.count_card.Tie as tie
 
--- From the point where both ends of the card's part are read: where the count of kinds is read, and the function's start.
+-- From the point where both ends of the card's part are read: where the count of kinds is read, and the start.
 abbrev kinds : tie.After-wide3 → tie.After-wide
 kinds w = w .before .before .before .before
 
@@ -63,6 +65,17 @@ full a =
     same-len-mid 0 (kinds w .wide .result - 0) (now (s .args .counts)) (leaving a) (a .count-leaving .ensures .1)
     ∙ s .pre .room
 
+-- Behind the counts of the links from the card all is 0.
+rest-zero : (a : tie.After-count-leaving) →
+    (k : ℕ) → k < maxLabels → kinds (a .before .before) .wide .result ≤ k → getD (leaving a ++ rest a) k 0 ≡ 0
+rest-zero a k l h =
+    let w = a .before .before in
+    let s = start w in
+    let all = mid-len 0 (kinds w .wide .result) (now (s .args .counts)) (omega (arith, few w, s .pre .room)) in
+    put-after 0 (kinds w .wide .result) (now (s .args .counts)) (leaving a) k (omega arith)
+    (omega (arith, few w, s .pre .room)) (a .count-leaving .ensures .1 ∙ all) h
+    ∙ s .pre .zeros k (omega (arith, s .pre .room))
+
 wide-requires : tie.Need-wide-requires
 wide-requires c κs = search needs
 
@@ -103,6 +116,9 @@ count-leaving-requires c κs =
     let size = mid-len 0 (kinds w .wide .result) (now (s .args .counts)) (omega (arith, few w, s .pre .room)) in
     leaving-asked _ (s .args .e) (s .pre .read) _ (s .pre .below) _ (s .pre .leaving) _ _ (low w) (high w) _
     (size ∙ omega (arith, kinds w .wide .ensures .same))
+    (λ k l. getD-take (kinds w .wide .result - 0) (drop 0 (now (s .args .counts))) k 0 (omega (arith, l, size))
+    ∙ getD-drop 0 (now (s .args .counts)) k 0
+    ∙ s .pre .zeros (0 + k) (omega (arith, l, size, few w, s .pre .room)))
 
 add-end : tie.Need-add-end
 add-end c = search needs
@@ -124,9 +140,15 @@ count-arriving-requires c κs =
     let a = c .before .before .before .before .before in
     let w = a .before .before in
     let s = start w in
-    let size = mid-len maxKinds (maxKinds + kinds w .wide .result) (leaving a ++ rest a) (omega (arith, few w, full a)) in
-    arriving-asked _ (s .args .e) (s .pre .read) _ (s .pre .below) _ _ (s .pre .arriving) _ (c .before .wide4 .ensures .same) _
+    let size =
+    mid-len maxKinds (maxKinds + kinds w .wide .result) (leaving a ++ rest a) (omega (arith, few w, full a)) in
+    let links = s .pre .arriving (c .before .before .if1 .taken) in
+    arriving-asked _ (s .args .e) (s .pre .read) _ (s .pre .below) _ _ links _ (c .before .wide4 .ensures .same) _
     (size ∙ omega (arith, kinds w .wide .ensures .same))
+    (λ k l. getD-take (maxKinds + kinds w .wide .result - maxKinds) (drop maxKinds (leaving a ++ rest a)) k 0
+    (omega (arith, l, size))
+    ∙ getD-drop maxKinds (leaving a ++ rest a) k 0
+    ∙ rest-zero a (maxKinds + k) (omega (arith, l, size, few w)) (omega (arith, few w)))
 
 same-length : tie.Need-same-length
 same-length c = search needs
@@ -138,7 +160,8 @@ returns c =
     let w = a .before .before in
     let s = start w in
     let back = r .count-arriving .last .1 .1 .1 .1 .1 .0 in
-    let all = mid-len maxKinds (maxKinds + kinds w .wide .result) (leaving a ++ rest a) (omega (arith, few w, full a)) in
+    let all =
+    mid-len maxKinds (maxKinds + kinds w .wide .result) (leaving a ++ rest a) (omega (arith, few w, full a)) in
     let size : length back ≡ s .args .e .kinds =
     r .count-arriving .ensures .1 ∙ all ∙ omega (arith, kinds w .wide .ensures .same) in
     let links = r .before .before .wide4 .ensures .same in

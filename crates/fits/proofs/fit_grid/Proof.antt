@@ -11,11 +11,11 @@ use Rattle.fits.proofs.fit_grid.Statement.{statement}
 use Rattle.fits.proofs.fit_grid.Tie as tie
 
 abbrev Inv-loop : tie.InvT-loop
-Inv-loop template script names starts first next e grid₀ counts₀ cards shapes n₀ grid counts n =
+Inv-loop template script names starts first next e grid₀ cards shapes n₀ grid n =
     RowsFitted template script e cards shapes grid n
 
 abbrev μ-loop : tie.MeasureT-loop
-μ-loop template script names starts first next e grid₀ counts₀ cards shapes n₀ grid counts n = cards - n
+μ-loop template script names starts first next e grid₀ cards shapes n₀ grid n = cards - n
 
 -- The function's start, from the point where both counts are read.
 abbrev start : tie.After-wide2 Inv-loop μ-loop → tie.Start Inv-loop μ-loop
@@ -54,13 +54,14 @@ part-fit-row-start c = search needs
 
 part-fit-row-end : tie.Need-part-fit-row-end Inv-loop μ-loop
 part-fit-row-end c =
-    let b = row-inside _ _ _ _ _ _ _ (c .before .before .loop .inv) (omega arith) in
+    let b = row-inside _ _ _ _ _ _ _ (c .before .loop .inv) (omega arith) in
     search needs
 
 fit-row-requires : tie.Need-fit-row-requires Inv-loop μ-loop
 fit-row-requires c κs =
-    let a = c .before .before .before .before in
-    let size = row-length _ _ _ _ _ _ _ (c .before .before .before .loop .inv) (omega arith) in
+    let l = c .before .before in
+    let a = l .before in
+    let size = row-length _ _ _ _ _ _ _ (l .loop .inv) (omega arith) in
     let shapes = a .wide2 .ensures .same in
     record { sheet = start a .pre .sheet; below = omega arith; size = size ∙ shapes }
 
@@ -73,8 +74,8 @@ loop-less c = search needs
 loop-again : tie.Need-loop-again Inv-loop μ-loop
 loop-again c =
     let r = c .before .before in
-    let a = r .before .before .before .before in
-    rows-next _ _ _ _ _ _ _ (a .loop .inv) (omega arith) (r .fit-row .last .1 .1 .1 .1 .1 .1 .1 .1 .1 .0)
+    let a = r .before .before .before in
+    rows-next _ _ _ _ _ _ _ (a .loop .inv) (omega arith) (r .fit-row .last .1 .1 .1 .1 .1 .1 .1 .1 .0)
     (c .before .grid .given .0) (a .before .wide2 .ensures .same) (r .fit-row .ensures)
 
 same-length : tie.Need-same-length Inv-loop μ-loop

@@ -92,8 +92,8 @@ returns-3 c =
       opened = sheet-opened _ _ _ (said w) (counts ∙ w .read-with-kinds .ensures);
       table = table;
       room = full w;
-      ways = λ e. all-outgoing _ (named w .read-names .last .1 .0) _ _ (said w) _ _ table (n .before .wide .ensures .same)
-          (n .wide2 .ensures .same) (c .names-incoming .ensures e);
+      ways = λ e. all-outgoing _ (named w .read-names .last .1 .0) _ _ (said w) _ _ table
+          (n .before .wide .ensures .same) (n .wide2 .ensures .same) (c .names-incoming .ensures e);
     }
 
 pub read-sheet-spec : {M : Type 1} → statement M

@@ -1,25 +1,30 @@
--- `calls::judge_of` gives the verdict on a grid of a sheet's size: a byte over 1, or what testing its pairs finds.
--- Assumes nothing.
+-- `calls::judge_of` gives the verdict on a grid of a sheet's size: a byte over 1, or what testing its pairs finds. It
+-- chains the links to each card where that is asked for. Assumes nothing.
 use mathlib.Core.Path.{_∙_, ap}
-use native.Mathlib.Omega.{arith}
 use denote.Ref.{now}
 use borrow.Author.Needs.{needs}
+use Rattle.words.proofs.Bools.{never-both}
 use Rattle.sheet.specs.Sheet.{size}
-use Rattle.calls.proofs.Known.{same-sheet, few-pairs}
-use Rattle.calls.proofs.Tested.{test-asked, some-tested}
+use Rattle.calls.proofs.Known.{same-sheet, chain-asked, chain-found}
 use Rattle.calls.proofs.Judging.{over-found, marks-by}
 use Rattle.calls.proofs.verdict.judge_of.Statement.{statement}
 use Rattle.calls.proofs.verdict.judge_of.Tie as tie
 
--- The start, where no byte is over 1, and the pairs as they were tested.
+-- The start, and where no byte is over 1: from where the links were chained, and from where they were not.
 abbrev start : tie.After-first-over → tie.Start
 start c = c .before .before .before .before .before .before
 
-abbrev low : tie.After-test-pairs-arg → tie.Else1
-low c = c .before .before .before .before .before
+abbrev low : tie.After-next → tie.Else1
+low c = c .before .before .before .before
 
-abbrev tested : tie.After-pairs2 → tie.After-test-pairs
-tested c = c .before .before .before .before .before .before
+abbrev chained : tie.After-next3 → tie.After-chain
+chained c = c .before .before .before .before
+
+abbrev none : tie.After-none → tie.Else2
+none c = c .before
+
+abbrev plain : tie.Else2 → tie.Else1
+plain c = c .before
 
 first-over-requires : tie.Need-first-over-requires
 first-over-requires c κs = search needs
@@ -31,44 +36,61 @@ returns c s q =
     let full = lent .size ∙ ap size (same-sheet (lent .listed .known) s q) in
     over-found (now (start a .args .grid)) (a .first-over .ensures) full (c .if1 .taken)
 
-sub-pairs : tie.Need-sub-pairs
-sub-pairs c = search needs
+cast-chain : tie.Need-cast-chain
+cast-chain c = search needs
 
-part-fitting-start : tie.Need-part-fitting-start
-part-fitting-start c = search needs
+slice-aggregate-chain : tie.Need-slice-aggregate-chain
+slice-aggregate-chain c = search needs
 
-part-fitting-end : tie.Need-part-fitting-end
-part-fitting-end c =
-    let lent = start (c .before) .pre in
-    omega (arith, lent .size, few-pairs (lent .listed .known))
+slice-aggregate-chain-2 : tie.Need-slice-aggregate-chain-2
+slice-aggregate-chain-2 c = search needs
 
-test-pairs-requires : tie.Need-test-pairs-requires
-test-pairs-requires c κs =
-    let lent = start (low c .before) .pre in
-    test-asked (record {
-      known = lent .listed .known;
-      size = omega (arith, lent .size, few-pairs (lent .listed .known));
-    })
+chain-requires : tie.Need-chain-requires
+chain-requires c κs = chain-asked (start (low c .before) .pre .listed .known)
 
-judge-tested-requires : tie.Need-judge-tested-requires
-judge-tested-requires c κs =
-    let pairs = tested c in
-    let none = low (pairs .before) in
-    let s = start (none .before) in
-    let k = s .pre .listed .known in
+slice-aggregate-judge-by : tie.Need-slice-aggregate-judge-by
+slice-aggregate-judge-by c = search needs
+
+slice-aggregate-judge-by-2 : tie.Need-slice-aggregate-judge-by-2
+slice-aggregate-judge-by-2 c = search needs
+
+judge-by-requires : tie.Need-judge-by-requires
+judge-by-requires c κs =
+    let links = chained c in
+    let fine = low (links .before) in
+    let s = start (fine .before) in
+    let (firsts, nexts) = links .chain .ensures .1 in
     record {
-      settling = record {
-        some = some-tested k (pairs .test-pairs .ensures);
-        list = s .pre .listed .list;
-        size = s .pre .size;
-      };
-      marks = marks-by (now (s .args .grid)) (none .before .first-over .ensures) (none .if1 .left);
+      judging = s .pre;
+      arriving = λ _. chain-found (s .pre .listed .known) (links .chain .ensures .0) firsts nexts;
+      marks = marks-by (now (s .args .grid)) (fine .before .first-over .ensures) (fine .if1 .left);
     }
 
 returns-2 : tie.Need-returns-2
-returns-2 c s q =
-    let told = c .before in
-    told .judge-tested .ensures s (tested (told .before) .test-pairs .ensures .tested s q)
+returns-2 c = search needs
+
+sub-none : tie.Need-sub-none
+sub-none c = search needs
+
+part-none-start : tie.Need-part-none-start
+part-none-start c = search needs
+
+part-none-end : tie.Need-part-none-end
+part-none-end c = search needs
+
+judge-by-requires-2 : tie.Need-judge-by-requires-2
+judge-by-requires-2 c κs =
+    let out = none c in
+    let fine = plain out in
+    let s = start (fine .before) in
+    record {
+      judging = s .pre;
+      arriving = λ some. absurd (never-both some (out .if2 .left));
+      marks = marks-by (now (s .args .grid)) (fine .before .first-over .ensures) (fine .if1 .left);
+    }
+
+returns-3 : tie.Need-returns-3
+returns-3 c = search needs
 
 pub judge-of-spec : {M : Type 1} → statement M
 judge-of-spec =
@@ -76,9 +98,16 @@ judge-of-spec =
     (tie.spec
     first-over-requires
     returns
-    sub-pairs
-    part-fitting-start
-    part-fitting-end
-    test-pairs-requires
-    judge-tested-requires
-    returns-2)
+    cast-chain
+    slice-aggregate-chain
+    slice-aggregate-chain-2
+    chain-requires
+    slice-aggregate-judge-by
+    slice-aggregate-judge-by-2
+    judge-by-requires
+    returns-2
+    sub-none
+    part-none-start
+    part-none-end
+    judge-by-requires-2
+    returns-3)

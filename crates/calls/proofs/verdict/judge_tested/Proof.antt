@@ -15,7 +15,7 @@ use Rattle.calls.proofs.verdict.judge_tested.Statement.{statement}
 use Rattle.calls.proofs.verdict.judge_tested.Tie as tie
 
 -- The start, from where the pairs are looked at.
-abbrev start : tie.After-first-unmet-arg3 → tie.Start
+abbrev start : tie.After-first-unmet-arg → tie.Start
 start c = c .before .before .before .before .before .before .before .before .before
 
 cast-shapes : tie.Need-cast-shapes
@@ -31,11 +31,11 @@ first-unmet-requires c κs =
       tested = omega (arith, asked .some .tested .fits .full, asked .size);
     }
 
-div-t22 : tie.Need-div-t22
-div-t22 c = read (start (c .before .before) .pre .settling .some .tested .known) .shapes .shapes-low
+div-t18 : tie.Need-div-t18
+div-t18 c = read (start (c .before .before) .pre .settling .some .tested .known) .shapes .shapes-low
 
-cast-t23 : tie.Need-cast-t23
-cast-t23 c =
+cast-t19 : tie.Need-cast-t19
+cast-t19 c =
     let s = start (c .before .before) in
     let asked = s .pre .settling in
     omega (
@@ -45,11 +45,11 @@ cast-t23 c =
       few-pairs (asked .some .tested .known),
     )
 
-rem-t25 : tie.Need-rem-t25
-rem-t25 c = read (start (c .before .before) .pre .settling .some .tested .known) .shapes .shapes-low
+rem-t21 : tie.Need-rem-t21
+rem-t21 c = read (start (c .before .before) .pre .settling .some .tested .known) .shapes .shapes-low
 
-cast-t26 : tie.Need-cast-t26
-cast-t26 c =
+cast-t22 : tie.Need-cast-t22
+cast-t22 c =
     let s = start (c .before .before) in
     let accepted = read (s .pre .settling .some .tested .known) in
     omega (
@@ -76,11 +76,11 @@ first-unheld-requires c κs =
       booked-in = listed-in (e .cards) (e .shapes) (now (s .args .bookings)) (asked .list);
     }
 
-mul-t28 : tie.Need-mul-t28
-mul-t28 c = search needs
+mul-t24 : tie.Need-mul-t24
+mul-t24 c = search needs
 
-add-t29 : tie.Need-add-t29
-add-t29 c = search needs
+add-t25 : tie.Need-add-t25
+add-t25 c = search needs
 
 returns-2 : tie.Need-returns-2
 returns-2 c sheet t =
@@ -108,13 +108,13 @@ judge-tested-spec =
     (tie.spec
     cast-shapes
     first-unmet-requires
-    div-t22
-    cast-t23
-    rem-t25
-    cast-t26
+    div-t18
+    cast-t19
+    rem-t21
+    cast-t22
     returns
     first-unheld-requires
-    mul-t28
-    add-t29
+    mul-t24
+    add-t25
     returns-2
     returns-3)

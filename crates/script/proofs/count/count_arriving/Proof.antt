@@ -1,5 +1,5 @@
--- `script::count_arriving` counts kinds along the chain of the links to a card: at each turn the links counted and those
--- below the next one are all. Assumes nothing.
+-- `script::count_arriving` counts kinds along the chain of the links to a card: at each turn the links counted and
+-- those below the next one are all. Assumes nothing.
 use Prim.Native.Nat.{ℕ, _+_, _*_, _-_, _≤_, _<_}
 use mathlib.Core.Path.{_≡_, refl, sym, ap, _∙_}
 use native.Mathlib.Omega.{arith}
@@ -25,7 +25,7 @@ abbrev turn : tie.After-wide2 Inv-loop μ-loop → tie.At-loop Inv-loop μ-loop
 turn a = a .before .before .before
 
 abbrev start : tie.After-wide Inv-loop μ-loop → tie.Start Inv-loop μ-loop
-start a = a .before .before .before .before .before .before .before .before .before .before
+start a = a .before .before .before .before .before .before
 
 -- The kind of the link that a turn looks at, and that it has a place among the counts.
 kind-is : (a : tie.After-wide2 Inv-loop μ-loop) →
@@ -37,9 +37,8 @@ kind-in : (a : tie.After-wide2 Inv-loop μ-loop) → a .wide2 .result < length (
 kind-in a =
     let l = turn a in
     let s = start (l .before) in
-    let cleared = l .before .before .before .before .before .clear .ensures in
     let below = s .pre .kinds (l .loop .at - 1) (omega (arith, l .loop .inv .1 .bound)) in
-    omega (arith, kind-is a, below, l .loop .inv .0, cleared .1)
+    omega (arith, kind-is a, below, l .loop .inv .0)
 
 -- The next link of the chain.
 next-is : (a : tie.After-wide3 Inv-loop μ-loop) →
@@ -50,9 +49,6 @@ next-is a =
     let l = turn (a .before .before .before) in
     a .wide3 .ensures .same
     ∙ start (l .before) .pre .arrivals .chained .nexts (l .loop .at - 1) (omega (arith, l .loop .inv .1 .bound))
-
-clear-requires : tie.Need-clear-requires Inv-loop μ-loop
-clear-requires c κs = search needs
 
 mul-wide : tie.Need-mul-wide Inv-loop μ-loop
 mul-wide c = search needs
@@ -65,11 +61,11 @@ wide-requires c κs = search needs
 
 loop-holds : tie.Need-loop-holds Inv-loop μ-loop
 loop-holds c =
-    let cleared = c .before .before .before .before .clear .ensures in
     let s = start c in (
       refl,
-      arriving-start _ _ _ _ _ (λ k l. cleared .0 k (omega (arith, cleared .1)))
-          (c .wide .ensures .same ∙ s .pre .arrivals .chained .heads (s .args .card) (omega (arith, s .pre .arrivals .cards-in))),
+      arriving-start _ _ _ _ _ (s .pre .zeros)
+          (c .wide .ensures .same
+          ∙ s .pre .arrivals .chained .heads (s .args .card) (omega (arith, s .pre .arrivals .cards-in))),
     )
 
 sub-i : tie.Need-sub-i Inv-loop μ-loop
@@ -133,10 +129,7 @@ same-length c = search needs
 returns : tie.Need-returns Inv-loop μ-loop
 returns c =
     let l = c .before in
-    let cleared = l .before .before .before .before .before .clear .ensures in (
-      λ k h. arriving-done (l .loop .inv .1) (omega arith) k (omega (arith, l .loop .inv .0, cleared .1)),
-      l .loop .inv .0 ∙ cleared .1,
-    )
+    (λ k h. arriving-done (l .loop .inv .1) (omega arith) k (omega (arith, l .loop .inv .0)), l .loop .inv .0)
 
 pub count-arriving-spec : {M : Type 1} → statement M
 count-arriving-spec =
@@ -144,7 +137,6 @@ count-arriving-spec =
     (tie.spec
     Inv-loop
     μ-loop
-    clear-requires
     mul-wide
     shared-slice-read-wide
     wide-requires

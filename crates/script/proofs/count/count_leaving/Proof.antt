@@ -27,7 +27,7 @@ abbrev turn : tie.After-wide Inv-loop μ-loop → tie.At-loop Inv-loop μ-loop
 turn a = a .before .before .before
 
 abbrev start : tie.At-loop Inv-loop μ-loop → tie.Start Inv-loop μ-loop
-start l = l .before .before .before .before .before .before .before
+start l = l .before .before .before
 
 -- The kind of link i, and that it has a place among the counts.
 kind-is : (a : tie.After-wide Inv-loop μ-loop) →
@@ -38,17 +38,13 @@ kind-is a = a .wide .ensures .same
 kind-in : (a : tie.After-wide Inv-loop μ-loop) → a .wide .result < length (turn a .loop .counts)
 kind-in a =
     let l = turn a in
-    let cleared = l .before .before .before .clear .ensures in
     let below = start l .pre .kinds (l .loop .i) (omega arith) (omega arith) in
-    omega (arith, kind-is a, below, l .loop .inv .2, cleared .1)
-
-clear-requires : tie.Need-clear-requires Inv-loop μ-loop
-clear-requires c κs = search needs
+    omega (arith, kind-is a, below, l .loop .inv .2)
 
 loop-holds : tie.Need-loop-holds Inv-loop μ-loop
 loop-holds c =
-    let cleared = c .before .before .clear .ensures in
-    (omega arith, omega arith, refl, λ k l. cleared .0 k (omega (arith, cleared .1)) ∙ sym (kind-count-none _ k _))
+    let s = c .before .before in
+    (omega arith, omega arith, refl, λ k l. s .pre .zeros k l ∙ sym (kind-count-none _ k _))
 
 mul-wide : tie.Need-mul-wide Inv-loop μ-loop
 mul-wide c = search needs
@@ -107,9 +103,8 @@ same-length c = search needs
 returns : tie.Need-returns Inv-loop μ-loop
 returns c =
     let l = c .before in
-    let cleared = l .before .before .before .clear .ensures in
     let e : l .loop .i ≡ start l .args .hi = omega arith in
-    (λ k h. rw e at (l .loop .inv .3 k (omega (arith, cleared .1, l .loop .inv .2))), l .loop .inv .2 ∙ cleared .1)
+    (λ k h. rw e at (l .loop .inv .3 k (omega (arith, l .loop .inv .2))), l .loop .inv .2)
 
 pub count-leaving-spec : {M : Type 1} → statement M
 count-leaving-spec =
@@ -117,7 +112,6 @@ count-leaving-spec =
     (tie.spec
     Inv-loop
     μ-loop
-    clear-requires
     loop-holds
     mul-wide
     add-wide

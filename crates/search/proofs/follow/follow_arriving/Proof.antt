@@ -1,4 +1,5 @@
--- `search::follow_arriving` walks the chain of the links to a card, and strikes what they lead back to. Assumes nothing.
+-- `search::follow_arriving` walks the chain of the links to a card, and strikes what they lead back to.
+-- Assumes nothing.
 use mathlib.Core.Path.{subst₂, _≡_, _∙_, ap}
 use Prim.Native.Nat.{ℕ, _<_, _≤_, _+_, _*_, _-_}
 use native.Mathlib.Omega.{arith}

@@ -1,4 +1,4 @@
--- `search::follow_leaving` strikes what the links from a card lead to. The invariant: what those below i lead to is struck.
+-- `search::follow_leaving` strikes what the links from a card lead to. The invariant: that of those below i is.
 -- Assumes nothing.
 use mathlib.Core.Path.{subst, subst₂, _≡_, refl, sym, _∙_, ap}
 use Prim.Native.Nat.{ℕ, _<_, _≤_, _+_, _*_, _-_}

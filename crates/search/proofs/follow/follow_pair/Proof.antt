@@ -17,7 +17,7 @@ use Rattle.search.proofs.Following.{followed-out, followed-both}
 use Rattle.search.proofs.follow.follow_pair.Statement.{statement}
 use Rattle.search.proofs.follow.follow_pair.Tie as tie
 
--- the function's entry, from where the slices are known, and from where the start and the end of the card's links are read
+-- the function's entry, from where the slices are known, and from where both ends of the card's part are read
 abbrev Entered : tie.After-slice-known2 → tie.Start
 Entered c = c .before .before .before .before .before .before .before
 
@@ -62,13 +62,15 @@ high h = h .wide2 .ensures .same
 out-half : (s : tie.Start) (base : ℕ) → base ≡ s .args .q % s .args .shapes * maxLabels
     → Half (now (s .args .names)) (s .args .q % s .args .shapes) outgoing
     (take (base + maxKinds - base) (drop base (now (s .args .names))))
-out-half s base e = half-row (now (s .args .names)) (s .args .q % s .args .shapes) outgoing base (base + maxKinds - base)
+out-half s base e =
+    half-row (now (s .args .names)) (s .args .q % s .args .shapes) outgoing base (base + maxKinds - base)
     (omega arith) (omega arith) (omega (arith, row-in s))
 
 back-half : (s : tie.Start) (base : ℕ) → base ≡ s .args .q % s .args .shapes * maxLabels + maxKinds
     → Half (now (s .args .names)) (s .args .q % s .args .shapes) incoming
     (take (base + maxKinds - base) (drop base (now (s .args .names))))
-back-half s base e = half-row (now (s .args .names)) (s .args .q % s .args .shapes) incoming base (base + maxKinds - base)
+back-half s base e =
+    half-row (now (s .args .names)) (s .args .q % s .args .shapes) incoming base (base + maxKinds - base)
     (omega arith) (omega arith) (omega (arith, row-in s))
 
 -- what the links from the card lead to is on the board
@@ -164,7 +166,7 @@ follow-arriving-requires c κs =
     let full = swept-grid (a .follow-leaving .ensures) ∙ s .pre .full in
     record {
       row-in = row-asked (links .ready) (shape-is s) (back-half s _ refl) full;
-      arrivals = arrivals-at (links .arriving) (card-is s);
+      arrivals = arrivals-at (links .arriving (c .before .before .before .if1 .taken)) (card-is s);
       room = swept-room (a .follow-leaving .ensures) (out-in a) (s .pre .room);
     }
 

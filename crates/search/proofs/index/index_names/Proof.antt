@@ -1,113 +1,246 @@
--- `search::index_names` chains the table's places. The invariant: those below p are chained. Assumes nothing.
-use mathlib.Core.Path.{subst, _≡_, refl, _∙_}
-use Prim.Native.Nat.{ℕ, _≤_, _+_, _*_, _-_}
+-- `search::index_names` chains the places of a half of the table. The invariant: those below p are chained, and from p
+-- on the links of the chains are 0. Assumes nothing.
+use mathlib.Core.Path.{subst, subst₂, _≡_, refl, sym, ap, _∙_}
+use mathlib.Core.Logic.{⊎-elim}
+use mathlib.Core.List.{List}
+use Prim.Native.Nat.{ℕ, _≤_, _<_, _+_, _*_, _-_, _/_, _%_}
 use native.Mathlib.Omega.{arith}
-use lib.ListN.{length-set, length, getD}
+use lib.ListN.{length-set, length, getD, set}
+use lib.Seq.{getD-set-other}
 use denote.Ref.{now}
 use borrow.Author.Needs.{needs}
-use Rattle.words.specs.Limits.{maxLabels}
+use Rattle.words.specs.Limits.{maxKinds, maxLabels, maxShapes}
+use Rattle.words.proofs.Places.{shape-in}
 use Rattle.script.specs.Chain.{Chained}
-use Rattle.search.specs.Indexes.{entryKey}
-use Rattle.script.proofs.Chains.{chained-none, chained-more}
+use Rattle.script.proofs.Chains.{chained-none, chained-more, chained-skip}
+use Rattle.search.specs.Indexes.{entryKey, halfEntry}
+use Rattle.search.proofs.Names.{half-place, half-in, half-bound, key-none, key-of, key-own}
 use Rattle.search.proofs.index.index_names.Statement.{statement}
 use Rattle.search.proofs.index.index_names.Tie as tie
 
 abbrev Inv-loop : tie.InvT-loop
-Inv-loop names shapes first₀ next₀ p₀ first next p =
-    (p ≤ shapes * maxLabels) × (length first ≡ length first₀) × (length next ≡ length next₀)
-    × Chained (entryKey names) first next p
+Inv-loop names start shapes first₀ next₀ p₀ first next p =
+    (p ≤ shapes * maxKinds) × (length first ≡ length first₀) × (length next ≡ length next₀)
+    × Chained (entryKey names start) first next p
+    × ((i : ℕ) → p ≤ i → i < length next → getD next i 0 ≡ 0)
 
 abbrev μ-loop : tie.MeasureT-loop
-μ-loop names shapes first₀ next₀ p₀ first next p = shapes * maxLabels - p
+μ-loop names start shapes first₀ next₀ p₀ first next p = shapes * maxKinds - p
 
--- the function's entry
+-- the function's entry, and a turn: the entry at the place is read
 abbrev Start : tie.At-loop Inv-loop μ-loop → tie.Start Inv-loop μ-loop
 Start l = l .before .before .before .before
 
+abbrev Turn : tie.After-byte Inv-loop μ-loop → tie.In-loop Inv-loop μ-loop
+Turn a = a .before .before
+
 loop-holds : tie.Need-loop-holds Inv-loop μ-loop
 loop-holds c =
-    let start = c .before .before .before in (
+    let s = c .before .before .before in (
       omega arith,
       refl,
       refl,
-      chained-none (entryKey (now (start .args .names))) (now (start .args .first)) (now (start .args .next))
-          (start .pre .blank .zeros),
+      chained-none (entryKey (now (s .args .names)) (s .args .start)) (now (s .args .first)) (now (s .args .next))
+          (s .pre .blank .zeros),
+      λ i _ l. s .pre .zeros i l,
+    )
+
+-- the place that a turn reads is in the table
+place-here : (c : tie.In-loop Inv-loop μ-loop) → let s = Start (c .before) in
+    let p = c .before .loop .p in
+    p / maxKinds * maxLabels + s .args .start + p % maxKinds < length (now (s .args .names))
+place-here c =
+    let s = Start (c .before) in
+    let p = c .before .loop .p in
+    omega (
+      arith,
+      half-in (now (s .args .names)) (s .args .start) p (s .args .shapes) (s .pre .half) (c .loop-test .taken),
+      s .pre .table .rows,
+    )
+
+small-place : (c : tie.In-loop Inv-loop μ-loop) → let s = Start (c .before) in
+    let p = c .before .loop .p in
+    p / maxKinds * maxLabels + s .args .start + p % maxKinds < maxShapes * maxLabels
+small-place c =
+    let s = Start (c .before) in
+    let p = c .before .loop .p in
+    omega (
+      arith,
+      half-in (now (s .args .names)) (s .args .start) p (s .args .shapes) (s .pre .half) (c .loop-test .taken),
+      s .pre .table .few-shapes,
+    )
+
+-- its entry
+entry-is : (a : tie.After-byte Inv-loop μ-loop) → let l = Turn a .before in
+    a .byte .result ≡ halfEntry (now (Start l .args .names)) (Start l .args .start) (l .loop .p)
+entry-is a =
+    let l = Turn a .before in
+    a .byte .ensures .same ∙ half-place (now (Start l .args .names)) (Start l .args .start) (l .loop .p)
+
+-- an entry is a shape plus one at most, so its key has a head
+entry-low : (a : tie.After-byte Inv-loop μ-loop) → a .byte .result ≤ maxShapes
+entry-low a =
+    let i = Turn a in
+    let s = Start (i .before) in
+    omega (
+      arith,
+      entry-is a,
+      half-bound (now (s .args .names)) (s .args .start) (i .before .loop .p) (s .pre .table) (s .pre .half)
+          (i .loop-test .taken),
+    )
+
+key-low : (a : tie.After-byte Inv-loop μ-loop)
+    → Turn a .before .loop .p % maxKinds * maxShapes + (a .byte .result - 1) < length (Turn a .before .loop .first)
+key-low a =
+    let l = Turn a .before in
+    omega (
+      arith,
+      entry-low a,
+      shape-in maxKinds (omega arith) (l .loop .p),
+      l .loop .inv .1,
+      Start l .pre .keys,
+    )
+
+-- and the place has one in the chains' links
+place-low : (a : tie.After-byte Inv-loop μ-loop) → Turn a .before .loop .p < length (Turn a .before .loop .next)
+place-low a =
+    let i = Turn a in
+    omega (arith, i .loop-test .taken, i .before .loop .inv .2, Start (i .before) .pre .blank .room)
+
+-- after a turn: the state that the next one starts from
+abbrev After : tie.After-byte Inv-loop μ-loop → List ℕ → List ℕ → Type 0
+After a first next =
+    let l = Turn a .before in
+    let s = Start l in
+    Inv-loop (now (s .args .names)) (s .args .start) (s .args .shapes) (now (s .args .first)) (now (s .args .next)) 0
+    first next (l .loop .p + 1)
+
+-- the place names a shape, and is chained
+one-more : (a : tie.After-byte Inv-loop μ-loop) → 0 < a .byte .result → let l = Turn a .before in
+    let key = l .loop .p % maxKinds * maxShapes + (a .byte .result - 1) in
+    After a (set (l .loop .first) key (l .loop .p + 1)) (set (l .loop .next) (l .loop .p) (getD (l .loop .first) key 0))
+one-more a some =
+    let i = Turn a in
+    let l = i .before in
+    let s = Start l in
+    let names = now (s .args .names) in
+    let first = l .loop .first in
+    let next = l .loop .next in
+    let p = l .loop .p in
+    let key = p % maxKinds * maxShapes + (a .byte .result - 1) in
+    let head = getD first key 0 in
+    let is = ap (λ (x : ℕ). p % maxKinds * maxShapes + (x - 1)) (entry-is a)
+    ∙ sym (key-of names (s .args .start) p (λ z. omega (arith, entry-is a, z, some))) in (
+      omega (arith, i .loop-test .taken),
+      length-set first key (p + 1) ∙ l .loop .inv .1,
+      length-set next p head ∙ l .loop .inv .2,
+      chained-more (entryKey names (s .args .start)) first next p key (l .loop .inv .3) is (key-low a) (place-low a),
+      λ j past small. getD-set-other next p j head 0 (λ e. omega (arith, e, past))
+          ∙ l .loop .inv .4 j (omega arith) (omega (arith, length-set next p head)),
+    )
+
+-- it names none, and is passed over
+none-here : (a : tie.After-byte Inv-loop μ-loop) → a .byte .result ≤ 0
+    → After a (Turn a .before .loop .first) (Turn a .before .loop .next)
+none-here a none =
+    let i = Turn a in
+    let l = i .before in
+    let s = Start l in
+    let names = now (s .args .names) in
+    let start = s .args .start in
+    let p = l .loop .p in
+    let empty : halfEntry names start p ≡ 0 = omega (arith, entry-is a, none) in (
+      omega (arith, i .loop-test .taken),
+      l .loop .inv .1,
+      l .loop .inv .2,
+      chained-skip (entryKey names start) (l .loop .first) (l .loop .next) p (l .loop .inv .3)
+          (omega (arith, key-none names start p empty, l .loop .inv .1, s .pre .keys))
+          (λ q lq. key-own names start p q empty
+          (half-bound names start q (s .pre .table) (s .pre .half) (omega (arith, lq, i .loop-test .taken))) lq)
+          (l .loop .inv .4 p (omega arith) (place-low a)),
+      λ j past. l .loop .inv .4 j (omega arith),
     )
 
 mul-loop : tie.Need-mul-loop Inv-loop μ-loop
 mul-loop c = search needs
 
-entry-key-requires : tie.Need-entry-key-requires Inv-loop μ-loop
-entry-key-requires c κs =
-    let table = Start (c .before) .pre .table in
-    record {
-      inside = omega (arith, table .rows, c .loop-test .taken);
-      entry = table .entries (c .before .loop .p) (c .loop-test .taken);
-    }
+mul-byte : tie.Need-mul-byte Inv-loop μ-loop
+mul-byte c = omega (arith, small-place c)
+
+add-byte : tie.Need-add-byte Inv-loop μ-loop
+add-byte c = omega (arith, small-place c)
+
+add-byte-2 : tie.Need-add-byte-2 Inv-loop μ-loop
+add-byte-2 c = omega (arith, small-place c)
+
+shared-slice-read-byte : tie.Need-shared-slice-read-byte Inv-loop μ-loop
+shared-slice-read-byte c = place-here (c .before)
+
+byte-requires : tie.Need-byte-requires Inv-loop μ-loop
+byte-requires c κs = search needs
+
+mul-key : tie.Need-mul-key Inv-loop μ-loop
+mul-key c = omega (arith, key-low (c .before))
+
+sub-key : tie.Need-sub-key Inv-loop μ-loop
+sub-key c = search needs
+
+add-key : tie.Need-add-key Inv-loop μ-loop
+add-key c = omega (arith, key-low (c .before))
 
 mul-next : tie.Need-mul-next Inv-loop μ-loop
-mul-next c = search needs
+mul-next c = omega (arith, key-low (c .before))
 
 slice-read-next : tie.Need-slice-read-next Inv-loop μ-loop
-slice-read-next c = search needs
+slice-read-next c = key-low (c .before .before)
 
 mul-next-2 : tie.Need-mul-next-2 Inv-loop μ-loop
-mul-next-2 c = search needs
+mul-next-2 c = omega (arith, place-low (c .before .before))
 
 slice-write-next : tie.Need-slice-write-next Inv-loop μ-loop
-slice-write-next c = search needs
+slice-write-next c = place-low (c .before .before)
 
 add-first : tie.Need-add-first Inv-loop μ-loop
-add-first c = search needs
+add-first c = omega (arith, place-low (c .before .before))
 
 cast-first : tie.Need-cast-first Inv-loop μ-loop
-cast-first c = search needs
+cast-first c = omega (arith, place-low (c .before .before))
 
 mul-first : tie.Need-mul-first Inv-loop μ-loop
-mul-first c = search needs
+mul-first c = omega (arith, key-low (c .before .before))
 
 slice-write-first : tie.Need-slice-write-first Inv-loop μ-loop
-slice-write-first c = search needs
+slice-write-first c = key-low (c .before .before)
 
 add-p : tie.Need-add-p Inv-loop μ-loop
-add-p c = search needs
+add-p c = omega (arith, place-low (c .before))
 
 loop-less : tie.Need-loop-less Inv-loop μ-loop
 loop-less c = search needs
 
 loop-again : tie.Need-loop-again Inv-loop μ-loop
 loop-again c =
-    let at-loop = c .before .before .before in
-    let start = Start at-loop in
-    let key = c .before .entry-key .result in
-    let first = at-loop .loop .first in
-    let next = at-loop .loop .next in
-    let p = at-loop .loop .p in (
-      omega arith,
-      length-set first key (p + 1) ∙ at-loop .loop .inv .1,
-      length-set next p (getD first key 0) ∙ at-loop .loop .inv .2,
-      chained-more (entryKey (now (start .args .names))) first next p key (at-loop .loop .inv .3)
-          (c .before .entry-key .ensures .same)
-          (omega (arith, at-loop .loop .inv .1, start .pre .keys))
-          (omega (arith, at-loop .loop .inv .2, start .pre .blank .room)),
-    )
+    let a = c .before in ⊎-elim
+    (λ w. subst₂ (After a) (sym (w .2)) (sym (w .3)) (one-more a (w .0 .taken)))
+    (λ w. subst₂ (After a) (sym (w .1)) (sym (w .2)) (none-here a (w .0 .left)))
+    (c .if1 .came)
 
 same-length : tie.Need-same-length Inv-loop μ-loop
-same-length c = search needs
+same-length c = c .before .loop .inv .1
 
 same-length-2 : tie.Need-same-length-2 Inv-loop μ-loop
-same-length-2 c = search needs
+same-length-2 c = c .before .loop .inv .2
 
 returns : tie.Need-returns Inv-loop μ-loop
 returns c =
-    let at-loop = c .before in
-    let start = Start at-loop in
-    let key = entryKey (now (start .args .names)) in
-    let e : at-loop .loop .p ≡ start .args .shapes * maxLabels = omega arith in
+    let l = c .before in
+    let s = Start l in
+    let key = entryKey (now (s .args .names)) (s .args .start) in
+    let all-places : l .loop .p ≡ s .args .shapes * maxKinds = omega arith in
     record {
-      keys = at-loop .loop .inv .1 ∙ start .pre .keys;
-      places = omega (arith, at-loop .loop .inv .2, start .pre .blank .room);
-      chained = subst (λ (x : ℕ). Chained key (at-loop .loop .first) (at-loop .loop .next) x) e (at-loop .loop .inv .3);
+      keys = l .loop .inv .1 ∙ s .pre .keys;
+      places = omega (arith, l .loop .inv .2, s .pre .blank .room);
+      chained = subst (Chained key (l .loop .first) (l .loop .next)) all-places (l .loop .inv .3);
     }
 
 pub index-names-spec : {M : Type 1} → statement M
@@ -118,7 +251,14 @@ index-names-spec =
     μ-loop
     loop-holds
     mul-loop
-    entry-key-requires
+    mul-byte
+    add-byte
+    add-byte-2
+    shared-slice-read-byte
+    byte-requires
+    mul-key
+    sub-key
+    add-key
     mul-next
     slice-read-next
     mul-next-2

@@ -154,8 +154,9 @@ returns-2 c =
     let links = s .pre .lent .links in
     met-by-needs (s .pre) (fits h) (
       false-true,
-      λ had. absurd (never-both (a .leaving-had .ensures .1 (had-first (links .ready) (links .leaving) (pair-in (s .pre))
-          (low h) (high h) (out-half s _ refl) had)) (not-true (a .leaving-had .result) (c .if2 .taken))),
+      λ had. absurd (never-both
+          (a .leaving-had .ensures .1 (had-first (links .ready) (links .leaving) (pair-in (s .pre)) (low h)
+          (high h) (out-half s _ refl) had)) (not-true (a .leaving-had .result) (c .if2 .taken))),
     )
 
 add-row : tie.Need-add-row
@@ -178,7 +179,7 @@ arriving-had-requires c κs =
     let links = s .pre .lent .links in
     record {
       row-in = row-asked (links .ready) (shape-is s) (back-half s _ refl) (s .pre .lent .full);
-      arrivals = arrivals-at (links .arriving) (card-here (s .pre));
+      arrivals = arrivals-at (links .arriving (c .before .if3 .taken)) (card-here (s .pre));
     }
 
 returns-3 : tie.Need-returns-3

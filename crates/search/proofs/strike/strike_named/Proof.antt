@@ -1,11 +1,11 @@
--- `search::strike_named` walks the chain of a label and a shape. Assumes nothing.
+-- `search::strike_named` walks the chain of a kind and a shape. Assumes nothing.
 use mathlib.Core.Path.{subst, _≡_, sym, _∙_}
 use Prim.Native.Nat.{_<_, _+_, _*_, _-_, _/_}
 use native.Mathlib.Omega.{arith}
 use lib.ListN.{length}
 use denote.Ref.{now}
 use borrow.Author.Needs.{needs}
-use Rattle.words.specs.Limits.{maxLabels, maxShapes}
+use Rattle.words.specs.Limits.{maxKinds, maxShapes}
 use Rattle.script.specs.Chain.{lastAt}
 use Rattle.board.specs.Work.{Work, work, Swept}
 use Rattle.board.proofs.Worklist.{swept-grid, swept-queue, swept-room}
@@ -17,12 +17,12 @@ use Rattle.search.proofs.strike.strike_named.Statement.{statement}
 use Rattle.search.proofs.strike.strike_named.Tie as tie
 
 abbrev Inv-loop : tie.InvT-loop
-Inv-loop names shapes named alike label base u grid₀ queue₀ tail end₀ at₀ grid queue end at =
-    Walking (entryKey names) (label * maxShapes + u) (shapes * maxLabels) (RowGood base)
+Inv-loop names start shapes named alike kind base u grid₀ queue₀ tail end₀ at₀ grid queue end at =
+    Walking (entryKey names start) (kind * maxShapes + u) (shapes * maxKinds) (RowGood base)
     (work grid₀ queue₀ tail) (work grid queue end) at
 
 abbrev μ-loop : tie.MeasureT-loop
-μ-loop names shapes named alike label base u grid₀ queue₀ tail end₀ at₀ grid queue end at = at
+μ-loop names start shapes named alike kind base u grid₀ queue₀ tail end₀ at₀ grid queue end at = at
 
 -- the function's entry, before the loop and from it
 abbrev Entered : tie.After-shared-slice-known4 Inv-loop μ-loop → tie.Start Inv-loop μ-loop
@@ -40,19 +40,19 @@ Turn c = Struck c .before .before .before
 
 -- the pair that a turn strikes is on the board
 pair-in : (c : tie.In-loop Inv-loop μ-loop) → let s = Start (c .before) in
-    s .args .base + (c .before .loop .at - 1) / maxLabels < length (now (s .args .grid))
+    s .args .base + (c .before .loop .at - 1) / maxKinds < length (now (s .args .grid))
 pair-in c =
     let s = Start (c .before) in
     omega (
       arith,
       s .pre .pairs,
-      card-in maxLabels (omega arith) (s .args .shapes) (c .before .loop .at - 1)
+      card-in maxKinds (omega arith) (s .args .shapes) (c .before .loop .at - 1)
           (walk-in (c .before .loop .inv) (c .loop-test .taken)),
     )
 
 -- the next number of the chain
 next-is : (c : tie.After-wide2 Inv-loop μ-loop) → let l = Turn (c .before) .before in
-    let key = entryKey (now (Start l .args .names)) in
+    let key = entryKey (now (Start l .args .names)) (Start l .args .start) in
     c .wide2 .result ≡ lastAt key (key (l .loop .at - 1)) (l .loop .at - 1)
 next-is c =
     let i = Turn (c .before) in
@@ -70,7 +70,7 @@ mul-wide-2 c = search needs
 
 shared-slice-read-wide : tie.Need-shared-slice-read-wide Inv-loop μ-loop
 shared-slice-read-wide c =
-    let s = Entered c in omega (arith, s .pre .places .keys, s .pre .label-in, s .pre .shape-in)
+    let s = Entered c in omega (arith, s .pre .places .keys, s .pre .kind-in, s .pre .shape-in)
 
 wide-requires : tie.Need-wide-requires Inv-loop μ-loop
 wide-requires c κs = search needs
@@ -79,8 +79,8 @@ loop-holds : tie.Need-loop-holds Inv-loop μ-loop
 loop-holds c =
     let s = Entered (c .before) in
     walk-start (c .wide .ensures .same
-    ∙ s .pre .places .chained .heads (s .args .label * maxShapes + s .args .u)
-    (omega (arith, s .pre .places .keys, s .pre .label-in, s .pre .shape-in)))
+    ∙ s .pre .places .chained .heads (s .args .kind * maxShapes + s .args .u)
+    (omega (arith, s .pre .places .keys, s .pre .kind-in, s .pre .shape-in)))
 
 sub-p : tie.Need-sub-p Inv-loop μ-loop
 sub-p c = search needs
@@ -123,7 +123,7 @@ loop-again c =
     let l = i .before in
     let s = Start l in
     let w = work (l .loop .grid) (l .loop .queue) (l .loop .end) in
-    let p = s .args .base + (l .loop .at - 1) / maxLabels in
+    let p = s .args .base + (l .loop .at - 1) / maxKinds in
     walk-next (l .loop .inv) (i .loop-test .taken) (next-is c)
     (subst (λ (v : Work). Swept (RowGood (s .args .base) (l .loop .at - 1)) w v) (sym (struck .ensures))
     (swept-strike w p (omega (arith, pair-in i, swept-grid (l .loop .inv .swept)))))
@@ -137,8 +137,8 @@ same-length-2 c = swept-queue (c .before .loop .inv .swept)
 returns : tie.Need-returns Inv-loop μ-loop
 returns c =
     let s = Start (c .before) in
-    named-exact (now (s .args .names)) (s .args .shapes) (s .args .label) (s .args .base) (s .args .u)
-    (s .pre .table) (s .pre .label-in) (s .pre .shape-in)
+    named-exact (now (s .args .names)) (s .args .start) (s .args .shapes) (s .args .kind) (s .args .base) (s .args .u)
+    (s .pre .table) (s .pre .half) (s .pre .kind-in) (s .pre .shape-in)
     (walk-done (c .before .loop .inv) (omega (arith, c .loop-test .left)))
 
 pub strike-named-spec : {M : Type 1} → statement M

@@ -11,20 +11,20 @@ use Rattle.board.proofs.Worklist.{swept-grid, swept-room}
 use Rattle.search.specs.Walks.{Arriving}
 use Rattle.search.specs.Strikes.{NeedGood}
 use Rattle.search.proofs.Needs.{need-in-grid, range-rising, range-in, arrivals-at}
-use Rattle.search.proofs.Striking.{struck-both, struck-sources}
+use Rattle.search.proofs.Striking.{struck-both}
 use Rattle.search.proofs.strike.strike_needing.Statement.{statement}
 use Rattle.search.proofs.strike.strike_needing.Tie as tie
 
 -- the function's entry, from where the slices are known, and from the strikes by the links to the card
 abbrev Entered : tie.After-slice-known2 → tie.Start
-Entered c = c .before .before .before .before .before .before .before .before .before
+Entered c = c .before .before .before .before .before .before .before .before .before .before .before
 
 abbrev Found : tie.After-strike-sources → tie.Start
 Found a = Entered (a .before .before .before)
 
 -- from where the start and the end of the links from the card are read
 abbrev Low : tie.After-wide → tie.After-strike-sources
-Low c = c .before .before .before .before .before .before .before
+Low c = c .before .before .before .before .before .before
 
 abbrev High : tie.After-wide2 → tie.After-wide
 High c = c .before .before
@@ -32,11 +32,11 @@ High c = c .before .before
 -- the pair's card and shape are the sheet's
 card-is : (s : tie.Start) → s .args .q / s .args .shapes < getD (now (s .args .script)) 0 0
 card-is s =
-    card-in (s .args .shapes) (s .pre .links .ready .one-shape) (getD (now (s .args .script)) 0 0) (s .args .q)
+    card-in (s .args .shapes) (s .pre .both .out .ready .one-shape) (getD (now (s .args .script)) 0 0) (s .args .q)
     (omega (arith, s .pre .on-board, s .pre .full))
 
 shape-is : (s : tie.Start) → s .args .q % s .args .shapes < s .args .shapes
-shape-is s = shape-in (s .args .shapes) (s .pre .links .ready .one-shape) (s .args .q)
+shape-is s = shape-in (s .args .shapes) (s .pre .both .out .ready .one-shape) (s .args .q)
 
 -- where the card's links start and end
 low : (h : tie.After-wide2) → let s = Found (Low (High h)) in
@@ -49,11 +49,12 @@ high h = h .wide2 .ensures .same
 
 -- what is struck by the links to the card is on the board
 sources-in : (s : tie.Start) (p : ℕ) → Arriving (now (s .args .script)) (s .args .q / s .args .shapes)
-    (NeedGood outgoing (now (s .args .script)) (now (s .args .names)) (s .args .shapes) (s .args .q % s .args .shapes)) p
+    (NeedGood outgoing (now (s .args .script)) (now (s .args .names)) (s .args .shapes) (s .args .q % s .args .shapes))
+    p
     → p < length (now (s .args .grid))
 sources-in s p g = omega (
   arith,
-  need-in-grid (s .pre .links .ready) outgoing (s .args .q % s .args .shapes) (g .link) p (g .below) (g .good),
+  need-in-grid (s .pre .both .out .ready) outgoing (s .args .q % s .args .shapes) (g .link) p (g .below) (g .good),
   s .pre .full,
 )
 
@@ -68,38 +69,38 @@ strike-sources-requires c κs =
     let s = Entered (c .before .before) in
     record {
       need = record {
-        ready = s .pre .links .ready;
-        places = s .pre .places;
+        ready = s .pre .both .out .ready;
+        places = s .pre .both .out .places;
         shape-in = shape-is s;
         full = s .pre .full;
         room = s .pre .room;
       };
-      arrivals = arrivals-at (s .pre .links .arriving) (card-is s);
+      arrivals = arrivals-at (s .pre .both .out .arriving) (card-is s);
     }
 
 mul-wide : tie.Need-mul-wide
 mul-wide c =
-    let s = Found (c .before .before .before .before .before) in
-    omega (arith, card-is s, s .pre .links .ready .few-cards)
+    let s = Found (c .before .before .before .before) in
+    omega (arith, card-is s, s .pre .both .out .ready .few-cards)
 
 shared-slice-read-wide : tie.Need-shared-slice-read-wide
 shared-slice-read-wide c =
-    let s = Found (c .before .before .before .before .before .before) in
-    omega (arith, card-is s, s .pre .links .leaving .cards)
+    let s = Found (c .before .before .before .before .before) in
+    omega (arith, card-is s, s .pre .both .leaving .cards)
 
 wide-requires : tie.Need-wide-requires
 wide-requires c κs = search needs
 
 add-wide : tie.Need-add-wide
-add-wide c = let s = Found (Low c) in omega (arith, card-is s, s .pre .links .ready .few-cards)
+add-wide c = let s = Found (Low c) in omega (arith, card-is s, s .pre .both .out .ready .few-cards)
 
 mul-wide-2 : tie.Need-mul-wide-2
-mul-wide-2 c = let s = Found (Low c) in omega (arith, card-is s, s .pre .links .ready .few-cards)
+mul-wide-2 c = let s = Found (Low c) in omega (arith, card-is s, s .pre .both .out .ready .few-cards)
 
 shared-slice-read-wide-2 : tie.Need-shared-slice-read-wide-2
 shared-slice-read-wide-2 c =
     let s = Found (Low (c .before)) in
-    omega (arith, card-is s, s .pre .links .leaving .cards)
+    omega (arith, card-is s, s .pre .both .leaving .cards)
 
 wide-requires-2 : tie.Need-wide-requires-2
 wide-requires-2 c κs = search needs
@@ -109,18 +110,18 @@ strike-targets-requires c κs =
     let h = c .before .before in
     let a = Low (High h) in
     let s = Found a in
-    let links = s .pre .links in
+    let both = s .pre .both in
     let struck = a .strike-sources .ensures in
     record {
       need = record {
-        ready = links .ready;
-        places = s .pre .places;
+        ready = both .out .ready;
+        places = both .inward-places;
         shape-in = shape-is s;
         full = swept-grid struck ∙ s .pre .full;
         room = swept-room struck (sources-in s) (s .pre .room);
       };
-      rising = range-rising (links .leaving) (card-is s) (low h) (high h);
-      links-in = range-in (links .leaving) (card-is s) (low h) (high h);
+      rising = range-rising (both .leaving) (card-is s) (low h) (high h);
+      links-in = range-in (both .leaving) (card-is s) (low h) (high h);
     }
 
 same-length : tie.Need-same-length
@@ -135,20 +136,8 @@ returns c =
     let h = b .before .before .before in
     let a = Low (High h) in
     let s = Found a in
-    struck-both (s .pre .links .ready) (s .args .q) (s .pre .links .leaving) (card-is s) (low h) (high h)
+    struck-both (s .pre .both .out .ready) (s .args .q) (s .pre .both .leaving) (card-is s) (low h) (high h)
     (a .strike-sources .ensures) (b .strike-targets .ensures)
-
-same-length-3 : tie.Need-same-length-3
-same-length-3 c = search needs
-
-same-length-4 : tie.Need-same-length-4
-same-length-4 c = search needs
-
-returns-2 : tie.Need-returns-2
-returns-2 c =
-    let a = c .before .before .before .before .before in
-    let s = Found a in
-    struck-sources (s .pre .links .ready) (s .args .q) (s .pre .links .ways (c .if1 .left)) (a .strike-sources .ensures)
 
 pub strike-needing-spec : {M : Type 1} → statement M
 strike-needing-spec =
@@ -167,7 +156,4 @@ strike-needing-spec =
     strike-targets-requires
     same-length
     same-length-2
-    returns
-    same-length-3
-    same-length-4
-    returns-2)
+    returns)

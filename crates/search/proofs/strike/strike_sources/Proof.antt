@@ -7,7 +7,7 @@ use lib.ListN.{length, getD}
 use denote.Ref.{now}
 use borrow.Author.Needs.{needs}
 use Rattle.bags.specs.Label.{outgoing}
-use Rattle.script.specs.Link.{fromAt, labelAt, toAt}
+use Rattle.script.specs.Link.{fromAt, kindAt, toAt}
 use Rattle.script.specs.Chain.{lastAt}
 use Rattle.board.specs.Work.{work, Swept}
 use Rattle.board.proofs.Worklist.{swept-grid, swept-queue, swept-room}
@@ -15,7 +15,7 @@ use Rattle.search.specs.Strikes.{NamedGood, NeedGood}
 use Rattle.words.proofs.Places.{card-room}
 use Rattle.typing.proofs.Boards.{pairs-bound}
 use Rattle.search.proofs.Names.{ready-table}
-use Rattle.search.proofs.Needs.{from-word, kind-word, need-in-grid}
+use Rattle.search.proofs.Needs.{from-word, kind-word, kind-in, need-in-grid}
 use Rattle.search.proofs.Walks.{Walking, walk-start, walk-in, walk-less, walk-next, walk-done, arriving-swept}
 use Rattle.search.proofs.strike.strike_sources.Statement.{statement}
 use Rattle.search.proofs.strike.strike_sources.Tie as tie
@@ -61,18 +61,18 @@ words-in : (c : tie.In-loop Inv-loop μ-loop)
     → 5 + 3 * (c .before .loop .at - 1) ≤ length (now (Start (c .before) .args .script))
 words-in c = omega (arith, link-in c, Start (c .before) .pre .need .ready .words)
 
--- the card that it starts at and its label, as they are read
+-- the card that it starts at and its kind, as they are read
 from-is : (a : tie.After-wide2 Inv-loop μ-loop) → let l = Loop a in
     a .wide2 .result ≡ fromAt (now (Start l .args .script)) (l .loop .at - 1)
 from-is a =
     let l = Loop a in
     a .wide2 .ensures .same ∙ from-word (now (Start l .args .script)) (l .loop .at - 1)
 
-label-is : (a : tie.After-wide3 Inv-loop μ-loop) → let l = Loop (From a) in
-    a .wide3 .result ≡ labelAt outgoing (now (Start l .args .script)) (l .loop .at - 1)
-label-is a =
+kind-is : (a : tie.After-wide3 Inv-loop μ-loop) → let l = Loop (From a) in
+    a .wide3 .result ≡ kindAt (now (Start l .args .script)) (l .loop .at - 1)
+kind-is a =
     let l = Loop (From a) in
-    omega (arith, a .wide3 .ensures .same ∙ kind-word (now (Start l .args .script)) (l .loop .at - 1))
+    a .wide3 .ensures .same ∙ kind-word (now (Start l .args .script)) (l .loop .at - 1)
 
 -- all pairs of the card are on the board
 card-pairs : (a : tie.After-wide2 Inv-loop μ-loop) → let s = Start (Loop a) in
@@ -164,7 +164,8 @@ strike-named-requires c κs =
     record {
       table = ready-table ready;
       places = s .pre .need .places;
-      label-in = omega (arith, label-is kind, ready .label-in outgoing (l .loop .at - 1) (link-in turn));
+      half = omega arith;
+      kind-in = omega (arith, kind-is kind, kind-in ready (l .loop .at - 1) (link-in turn));
       shape-in = omega (arith, s .pre .need .shape-in, ready .few-shapes);
       few-places = omega (arith, same, s .pre .need .full, pairs-bound ready);
       pairs = omega (arith, card-pairs (From kind), same);
@@ -202,10 +203,11 @@ loop-again c =
     let l = i .before in
     let s = Start l in
     let w = work (l .loop .grid) (l .loop .queue) (l .loop .end) in
-    let v = work (struck .last .1 .1 .1 .1 .1 .1 .1 .0) (struck .last .1 .1 .1 .1 .1 .1 .1 .1 .0) (struck .result) in
+    let last = struck .last .1 .1 .1 .1 .1 .1 .1 .1 in
+    let v = work (last .0) (last .1 .0) (struck .result) in
     walk-next (l .loop .inv) (i .loop-test .taken) (next-is c)
-    (subst₂ (λ (k base : ℕ). Swept (NamedGood (now (s .args .names)) (s .args .shapes) k base (s .args .u)) w v)
-    (label-is a) (ap (λ (x : ℕ). x * s .args .shapes) (from-is (From a))) (struck .ensures))
+    (subst₂ (λ (k base : ℕ). Swept (NamedGood (now (s .args .names)) (s .args .shapes) (0 + k) base (s .args .u)) w v)
+    (kind-is a) (ap (λ (x : ℕ). x * s .args .shapes) (from-is (From a))) (struck .ensures))
 
 same-length : tie.Need-same-length Inv-loop μ-loop
 same-length c = swept-grid (c .before .loop .inv .swept)

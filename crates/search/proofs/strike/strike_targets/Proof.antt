@@ -9,7 +9,7 @@ use borrow.Author.Needs.{needs}
 use Rattle.words.specs.Limits.{maxKinds}
 use Rattle.words.proofs.Places.{card-room}
 use Rattle.bags.specs.Label.{incoming}
-use Rattle.script.specs.Link.{kindAt, labelAt, toAt}
+use Rattle.script.specs.Link.{kindAt, toAt}
 use Rattle.board.specs.Work.{work, Swept}
 use Rattle.board.proofs.Worklist.{swept-grid, swept-queue, swept-room}
 use Rattle.typing.proofs.Boards.{pairs-bound}
@@ -65,11 +65,6 @@ to-is a =
     let l = Turn (Kind a) .before in
     a .wide2 .ensures .same ∙ to-word (now (Start l .args .script)) (l .loop .i)
 
--- the label under which that card sees it
-label-is : (a : tie.After-wide Inv-loop μ-loop) → let l = Turn a .before in
-    maxKinds + a .wide .result ≡ labelAt incoming (now (Start l .args .script)) (l .loop .i)
-label-is a = omega (arith, kind-is a)
-
 -- all pairs of that card are on the board
 card-pairs : (a : tie.After-wide2 Inv-loop μ-loop) → let s = Start (Turn (Kind a) .before) in
     a .wide2 .result * s .args .shapes + s .args .shapes ≤ length (now (s .args .grid))
@@ -117,9 +112,6 @@ shared-slice-read-wide-2 c = omega (arith, words-in (Turn (c .before)))
 wide-requires-2 : tie.Need-wide-requires-2 Inv-loop μ-loop
 wide-requires-2 c κs = search needs
 
-add-strike-named : tie.Need-add-strike-named Inv-loop μ-loop
-add-strike-named c = search needs
-
 mul-strike-named : tie.Need-mul-strike-named Inv-loop μ-loop
 mul-strike-named c =
     let s = Start (Turn (Kind c) .before) in
@@ -137,14 +129,16 @@ strike-named-requires c κs =
     record {
       table = ready-table ready;
       places = s .pre .need .places;
-      label-in = omega (arith, kind-is (Kind to), kind-in ready (l .loop .i) (link-in i));
+      half = omega arith;
+      kind-in = omega (arith, kind-is (Kind to), kind-in ready (l .loop .i) (link-in i));
       shape-in = omega (arith, s .pre .need .shape-in, ready .few-shapes);
       few-places = omega (arith, same, s .pre .need .full, pairs-bound ready);
       pairs = omega (arith, card-pairs to, same);
       room = swept-room (l .loop .inv .2)
           (λ p g. omega (
             arith,
-            need-in-grid ready incoming u (g .link) p (omega (arith, g .high, l .loop .inv .1, s .pre .links-in)) (g .good),
+            need-in-grid ready incoming u (g .link) p (omega (arith, g .high, l .loop .inv .1, s .pre .links-in))
+                (g .good),
             s .pre .need .full,
           ))
           (s .pre .need .room);
@@ -164,13 +158,14 @@ loop-again c =
     let l = i .before in
     let s = Start l in
     let w = work (l .loop .grid) (l .loop .queue) (l .loop .end) in
-    let last = struck .strike-named .last .1 .1 .1 .1 .1 .1 .1 in
+    let last = struck .strike-named .last .1 .1 .1 .1 .1 .1 .1 .1 in
     let v = work (last .0) (last .1 .0) (struck .strike-named .result) in (
       omega arith,
       omega (arith, i .loop-test .taken),
       leaving-more (l .loop .inv .0) (l .loop .inv .2)
-          (subst₂ (λ (k base : ℕ). Swept (NamedGood (now (s .args .names)) (s .args .shapes) k base (s .args .u)) w v)
-          (label-is (Kind to)) (ap (λ (x : ℕ). x * s .args .shapes) (to-is to)) (struck .strike-named .ensures)),
+          (subst₂ (λ (k base : ℕ).
+          Swept (NamedGood (now (s .args .names)) (s .args .shapes) (maxKinds + k) base (s .args .u)) w v)
+          (kind-is (Kind to)) (ap (λ (x : ℕ). x * s .args .shapes) (to-is to)) (struck .strike-named .ensures)),
     )
 
 same-length : tie.Need-same-length Inv-loop μ-loop
@@ -206,7 +201,6 @@ strike-targets-spec =
     mul-wide-4
     shared-slice-read-wide-2
     wide-requires-2
-    add-strike-named
     mul-strike-named
     strike-named-requires
     add-i

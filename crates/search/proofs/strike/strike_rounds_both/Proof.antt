@@ -1,0 +1,152 @@
+-- `search::strike_rounds_both` strikes as the rounds of "Largest" do, level by level, by links seen from both ends.
+-- Assumes nothing.
+use mathlib.Core.Path.{subst, sym, _∙_}
+use Prim.Native.Nat.{ℕ, _-_}
+use native.Mathlib.Omega.{arith}
+use lib.ListN.{length, getD}
+use denote.Ref.{now}
+use borrow.Author.Needs.{needs}
+use Rattle.board.specs.Work.{work, Swept}
+use Rattle.typing.specs.Needs.{Needs}
+use Rattle.typing.proofs.Boards.{pairs-bound}
+use Rattle.search.proofs.Rounds.{Rounding, rounds-start, rounds-few, rounds-tail, rounds-head, rounds-room}
+use Rattle.search.proofs.Rounds.{Within, rounds-level, rounds-turn, rounds-done}
+use Rattle.search.proofs.strike.strike_rounds_both.Statement.{statement}
+use Rattle.search.proofs.strike.strike_rounds_both.Tie as tie
+
+abbrev Inv-loop : tie.InvT-loop
+Inv-loop script starts first next names shapes named alike inward inalike grid₀ queue₀ tail₀ head₀ tally₀ grid queue
+    tail head tally =
+    Rounding script names shapes grid₀ queue₀ grid queue tail head tally
+
+abbrev μ-loop : tie.MeasureT-loop
+μ-loop script starts first next names shapes named alike inward inalike grid₀ queue₀ tail₀ head₀ tally₀ grid queue
+    tail head tally =
+    length grid₀ - head
+
+-- the function's entry, from where the queue is listed and from the loop
+abbrev Entered : tie.After-list-off-arg2 Inv-loop μ-loop → tie.Start Inv-loop μ-loop
+Entered c = c .before .before .before .before .before .before .before .before .before .before .before .before .before
+
+abbrev Listing : tie.At-loop Inv-loop μ-loop → tie.After-list-off Inv-loop μ-loop
+Listing l = l .before .before .before
+
+abbrev Start : tie.At-loop Inv-loop μ-loop → tie.Start Inv-loop μ-loop
+Start l = Entered (Listing l .before)
+
+-- a turn: the tally is up to date, the pair at the head is read, and what needs it is struck
+abbrev Past : tie.After-wide Inv-loop μ-loop → tie.After-at-head Inv-loop μ-loop
+Past a = a .before .before
+
+abbrev Read : tie.After-strike-needing Inv-loop μ-loop → tie.After-wide Inv-loop μ-loop
+Read a = a .before .before .before
+
+abbrev Struck : tie.After-slice-known6 Inv-loop μ-loop → tie.After-strike-needing Inv-loop μ-loop
+Struck c = c .before .before .before .before
+
+abbrev Turn : tie.After-slice-known6 Inv-loop μ-loop → tie.In-loop Inv-loop μ-loop
+Turn c = Past (Read (Struck c)) .before
+
+-- the tally has the closed rounds, and the head is within the level
+levelled : (c : tie.After-at-head Inv-loop μ-loop) → Within (c .before .before .loop .inv) (c .at-head .result)
+levelled c = rounds-level (c .before .before .loop .inv) (c .before .loop-test .taken) (c .at-head .ensures)
+
+list-off-requires : tie.Need-list-off-requires Inv-loop μ-loop
+list-off-requires c κs =
+    let s = Entered c in
+    record {
+      few-places = omega (arith, s .pre .lent .full, pairs-bound (s .pre .both .out .ready));
+      room = s .pre .lent .room;
+    }
+
+loop-holds : tie.Need-loop-holds Inv-loop μ-loop
+loop-holds c =
+    let s = Entered (c .before .before .before) in
+    let listed = c .before .before .list-off in
+    rounds-start (s .pre .both .out .ready)
+    (record { full = s .pre .lent .full; room = omega (arith, listed .kept .1 .0, s .pre .lent .room) })
+    (listed .ensures)
+
+at-head-requires : tie.Need-at-head-requires Inv-loop μ-loop
+at-head-requires c κs = rounds-few (c .before .loop .inv)
+
+mul-wide : tie.Need-mul-wide Inv-loop μ-loop
+mul-wide c = omega (arith, c .before .loop-test .taken, rounds-tail (c .before .before .loop .inv) .2)
+
+slice-read-wide : tie.Need-slice-read-wide Inv-loop μ-loop
+slice-read-wide c =
+    let i = c .before .before in
+    omega (arith, i .loop-test .taken, rounds-tail (i .before .loop .inv) .0)
+
+wide-requires : tie.Need-wide-requires Inv-loop μ-loop
+wide-requires c κs = search needs
+
+strike-needing-requires : tie.Need-strike-needing-requires Inv-loop μ-loop
+strike-needing-requires c κs =
+    let read = c .before .before in
+    let turn = Past read .before in
+    let r = turn .before .loop .inv in
+    record {
+      both = Start (turn .before) .pre .both;
+      on-board = omega (arith, read .wide .ensures .same, rounds-head r (turn .loop-test .taken), r .search .full);
+      full = r .search .full;
+      room = rounds-room r;
+    }
+
+add-head : tie.Need-add-head Inv-loop μ-loop
+add-head c = let i = Turn c in omega (arith, i .loop-test .taken, rounds-tail (i .before .loop .inv) .2)
+
+loop-less : tie.Need-loop-less Inv-loop μ-loop
+loop-less c = let i = Turn c in omega (arith, i .loop-test .taken, rounds-tail (i .before .loop .inv) .1)
+
+loop-again : tie.Need-loop-again Inv-loop μ-loop
+loop-again c =
+    let struck = Struck c .strike-needing in
+    let read = Read (Struck c) in
+    let l = Turn c .before in
+    let s = Start l in
+    let Good = Needs (now (s .args .script)) (now (s .args .names)) (s .args .shapes) in
+    let w = work (l .loop .grid) (l .loop .queue) (l .loop .tail) in
+    let last = struck .last .1 .1 .1 .1 .1 .1 .1 .1 .1 .1 .1 in
+    let v = work (last .0) (last .1 .0) (struck .result) in
+    let (r, inside) = levelled (Past read) in
+    rounds-turn r inside
+    (subst (λ (q : ℕ). Swept (λ p. Good p q) w v) (read .wide .ensures .same)
+    (struck .ensures))
+
+after-round-requires : tie.Need-after-round-requires Inv-loop μ-loop
+after-round-requires c κs = rounds-few (c .before .loop .inv)
+
+same-length : tie.Need-same-length Inv-loop μ-loop
+same-length c =
+    let r = c .before .before .loop .inv in
+    r .search .full ∙ sym (r .lent .full)
+
+same-length-2 : tie.Need-same-length-2 Inv-loop μ-loop
+same-length-2 c =
+    let l = c .before .before in
+    l .loop .inv .search .space ∙ Listing l .list-off .kept .1 .0
+
+returns : tie.Need-returns Inv-loop μ-loop
+returns c = rounds-done (c .before .before .loop .inv) (c .before .loop-test .left) (c .after-round .ensures)
+
+pub strike-rounds-both-spec : {M : Type 1} → statement M
+strike-rounds-both-spec =
+    tie.close
+    (tie.spec
+    Inv-loop
+    μ-loop
+    list-off-requires
+    loop-holds
+    at-head-requires
+    mul-wide
+    slice-read-wide
+    wide-requires
+    strike-needing-requires
+    add-head
+    loop-less
+    loop-again
+    after-round-requires
+    same-length
+    same-length-2
+    returns)
