@@ -24,7 +24,7 @@ use Rattle.typing.specs.Needs.{metTest, boardOf}
 use Rattle.typing.specs.Typing.{Has, Met, Typing, SoundTyping}
 use Rattle.typing.specs.Judge.{over, unmet, unheld, passes, JudgeFound}
 use Rattle.typing.proofs.Represents.{Represents, pair-in}
-use Rattle.search.specs.Judging.{Failing, Missing}
+use Rattle.judging.specs.Judging.{Failing, Missing}
 use Rattle.calls.specs.Steps.{SheetTested}
 use Rattle.calls.proofs.Tested.{cards-same, shapes-same, stands}
 

@@ -47,6 +47,26 @@ fn two(label: &[u8], template: &[u16], a: u16, b: u16) {
     show(label, template, 0, &[a, b, 0, 0]);
 }
 
+// One case of the template that the format works out.
+fn worked(label: &[u8], shape: u16, counts: &[u16]) {
+    show(
+        label,
+        &[2, 2, 10, 17, 2, 256, 1, 1, 1, 257, 0, 0, 1, 1, 0],
+        shape,
+        counts,
+    );
+}
+
+// One case of items, which point at guests, and of guests.
+fn guest(label: &[u8], shape: u16, counts: &[u16]) {
+    show(
+        label,
+        &[1, 2, 4, 256, 1, 1, 65535, 4, 320, 0, 1, 65535],
+        shape,
+        counts,
+    );
+}
+
 // P1 to P5: nothing, and one link.
 fn links() {
     two(b"P1 nothing: 0,0", &[2, 1, 1, 0], 0, 0);
@@ -118,58 +138,18 @@ fn pluses() {
 
 // 42 on both sides.
 fn shapes() {
-    show(
-        b"shape-below-the-count",
-        &[2, 2, 10, 17, 2, 256, 1, 1, 1, 257, 0, 0, 1, 1, 0],
-        1,
-        &[0, 0, 0, 0],
-    );
-    show(
-        b"shape-at-the-count",
-        &[2, 2, 10, 17, 2, 256, 1, 1, 1, 257, 0, 0, 1, 1, 0],
-        2,
-        &[0, 0, 0, 0],
-    );
-    show(
-        b"shape-65535",
-        &[2, 2, 10, 17, 2, 256, 1, 1, 1, 257, 0, 0, 1, 1, 0],
-        65535,
-        &[0, 0, 0, 0],
-    );
+    worked(b"shape-below-the-count", 1, &[0, 0, 0, 0]);
+    worked(b"shape-at-the-count", 2, &[0, 0, 0, 0]);
+    worked(b"shape-65535", 65535, &[0, 0, 0, 0]);
 }
 
 // 41 on both sides: two kinds have four counts.
 fn lengths() {
-    show(
-        b"one-count-of-four",
-        &[2, 2, 10, 17, 2, 256, 1, 1, 1, 257, 0, 0, 1, 1, 0],
-        0,
-        &[1],
-    );
-    show(
-        b"two-counts-of-four",
-        &[2, 2, 10, 17, 2, 256, 1, 1, 1, 257, 0, 0, 1, 1, 0],
-        0,
-        &[1, 0],
-    );
-    show(
-        b"three-counts-of-four",
-        &[2, 2, 10, 17, 2, 256, 1, 1, 1, 257, 0, 0, 1, 1, 0],
-        0,
-        &[1, 0, 0],
-    );
-    show(
-        b"four-counts-of-four",
-        &[2, 2, 10, 17, 2, 256, 1, 1, 1, 257, 0, 0, 1, 1, 0],
-        0,
-        &[1, 0, 0, 0],
-    );
-    show(
-        b"five-counts-of-four",
-        &[2, 2, 10, 17, 2, 256, 1, 1, 1, 257, 0, 0, 1, 1, 0],
-        0,
-        &[1, 0, 0, 0, 0],
-    );
+    worked(b"one-count-of-four", 0, &[1]);
+    worked(b"two-counts-of-four", 0, &[1, 0]);
+    worked(b"three-counts-of-four", 0, &[1, 0, 0]);
+    worked(b"four-counts-of-four", 0, &[1, 0, 0, 0]);
+    worked(b"five-counts-of-four", 0, &[1, 0, 0, 0, 0]);
 }
 
 // 43 on both sides.
@@ -177,52 +157,17 @@ fn greatest() {
     one(b"count-8192", &[1, 1, 5, 1, 256, 0, 1, 1], 0, 8192);
     one(b"count-8193", &[1, 1, 5, 1, 256, 0, 1, 1], 0, 8193);
     one(b"count-65535", &[1, 1, 5, 1, 256, 0, 1, 1], 0, 65535);
-    two(
-        b"second-count-8193",
-        &[2, 2, 10, 17, 2, 256, 1, 1, 1, 257, 0, 0, 1, 1, 0],
-        1,
-        8193,
-    );
-    two(
-        b"both-counts-8193",
-        &[2, 2, 10, 17, 2, 256, 1, 1, 1, 257, 0, 0, 1, 1, 0],
-        8193,
-        8193,
-    );
-    show(
-        b"arriving-count-8192",
-        &[2, 2, 10, 17, 2, 256, 1, 1, 1, 257, 0, 0, 1, 1, 0],
-        0,
-        &[1, 0, 0, 8192],
-    );
-    show(
-        b"arriving-count-8193",
-        &[2, 2, 10, 17, 2, 256, 1, 1, 1, 257, 0, 0, 1, 1, 0],
-        0,
-        &[1, 0, 0, 8193],
-    );
-    show(
-        b"leaving-count-first",
-        &[2, 2, 10, 17, 2, 256, 1, 1, 1, 257, 0, 0, 1, 1, 0],
-        0,
-        &[1, 8193, 8193, 0],
-    );
+    worked(b"second-count-8193", 0, &[1, 8193, 0, 0]);
+    worked(b"both-counts-8193", 0, &[8193, 8193, 0, 0]);
+    worked(b"arriving-count-8192", 0, &[1, 0, 0, 8192]);
+    worked(b"arriving-count-8193", 0, &[1, 0, 0, 8193]);
+    worked(b"leaving-count-first", 0, &[1, 8193, 8193, 0]);
 }
 
 // Which refusal is first.
 fn order() {
-    show(
-        b"shape-before-length",
-        &[2, 2, 10, 17, 2, 256, 1, 1, 1, 257, 0, 0, 1, 1, 0],
-        2,
-        &[1],
-    );
-    show(
-        b"length-before-count",
-        &[2, 2, 10, 17, 2, 256, 1, 1, 1, 257, 0, 0, 1, 1, 0],
-        0,
-        &[9000],
-    );
+    worked(b"shape-before-length", 2, &[1]);
+    worked(b"length-before-count", 0, &[9000]);
     one(b"template-before-shape", &[0, 1, 1, 0], 9, 9000);
     one(b"template-of-one-word", &[1], 0, 0);
     one(b"template-at-its-end", &[1, 1, 1, 0, 7], 0, 0);
@@ -265,38 +210,17 @@ fn empties() {
     );
 }
 
-// Links that arrive: of items and guests, kinds that are not named, and both ways in one part.
+// Links that arrive: of items and guests.
+fn guests() {
+    guest(b"guest-that-is-pointed-at", 1, &[0, 1]);
+    guest(b"guest-that-is-not", 1, &[0, 0]);
+    guest(b"guest-that-points", 1, &[1, 1]);
+    guest(b"item-that-is-pointed-at", 0, &[1, 7]);
+    guest(b"item-that-does-not-point", 0, &[0, 7]);
+}
+
+// Kinds that are not named, each way, and a kind of which none may arrive.
 fn arriving() {
-    show(
-        b"guest-that-is-pointed-at",
-        &[1, 2, 4, 256, 1, 1, 65535, 4, 320, 0, 1, 65535],
-        1,
-        &[0, 1],
-    );
-    show(
-        b"guest-that-is-not",
-        &[1, 2, 4, 256, 1, 1, 65535, 4, 320, 0, 1, 65535],
-        1,
-        &[0, 0],
-    );
-    show(
-        b"guest-that-points",
-        &[1, 2, 4, 256, 1, 1, 65535, 4, 320, 0, 1, 65535],
-        1,
-        &[1, 1],
-    );
-    show(
-        b"item-that-is-pointed-at",
-        &[1, 2, 4, 256, 1, 1, 65535, 4, 320, 0, 1, 65535],
-        0,
-        &[1, 7],
-    );
-    show(
-        b"item-that-does-not-point",
-        &[1, 2, 4, 256, 1, 1, 65535, 4, 320, 0, 1, 65535],
-        0,
-        &[0, 7],
-    );
     show(
         b"arriving-of-two-kinds",
         &[2, 1, 4, 321, 0, 1, 1],
@@ -317,6 +241,10 @@ fn arriving() {
     );
     show(b"none-may-arrive", &[1, 1, 4, 320, 0, 0, 0], 0, &[0, 1]);
     show(b"none-arrives", &[1, 1, 4, 320, 0, 0, 0], 0, &[0, 0]);
+}
+
+// Both ways in one part.
+fn both_ways() {
     show(
         b"both-ways",
         &[1, 1, 10, 17, 2, 256, 0, 1, 1, 320, 0, 1, 1],
@@ -428,6 +356,8 @@ fn main() {
     order();
     limits();
     empties();
+    guests();
     arriving();
+    both_ways();
     stored();
 }

@@ -8,8 +8,8 @@ use mathlib.Core.Logic.{_↔_}
 use mathlib.Core.Bool.{Bool, true}
 use Prim.Native.Nat.{ℕ, _+_, _-_}
 use native.Mathlib.Omega.{arith}
+use Rattle.search.specs.Walks.{HasAll}
 use Rattle.search.specs.Follows.{EntryGood}
-use Rattle.search.specs.Judging.{HasAll}
 
 -- The entry as a number.
 module _ {entry base number : ℕ} (is : number ≡ entry) where

@@ -21,9 +21,8 @@ use Rattle.sheet.specs.Opened.{OnlyOutgoing}
 use Rattle.board.specs.Work.{Work, Swept}
 use Rattle.board.proofs.Worklist.{swept-same, swept-append}
 use Rattle.typing.specs.Needs.{Needs, Ready}
-use Rattle.search.specs.Walks.{Leaving, Arriving, Starts}
+use Rattle.search.specs.Walks.{Leaving, Arriving, Starts, HasAll}
 use Rattle.search.specs.Follows.{LedGood}
-use Rattle.search.specs.Judging.{HasAll}
 use Rattle.search.proofs.Needs.{Half, kind-in, led-needs, needs-led, range-in, range-from, from-range}
 
 module _ {script starts names : List ℕ} {shapes : ℕ} (ready : Ready script names shapes) (st : Starts script starts)

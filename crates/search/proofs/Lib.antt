@@ -1,6 +1,6 @@
 -- Walks: along links. Entries, Names, Needs: what entries, their chains and the links make good. Following, Followed,
 -- Indexes: the search forwards. Striking, Rounds: the one backwards. Tallies: a tally in memory. Marks, Closures: the
--- closure of the bookings. Judging: a grid tested as it is.
+-- closure of the bookings.
 pub mod Walks
 pub mod Entries
 pub mod Names
@@ -13,4 +13,3 @@ pub mod Rounds
 pub mod Tallies
 pub mod Marks
 pub mod Closures
-pub mod Judging

@@ -27,8 +27,7 @@ use Rattle.board.specs.Grid.{on}
 use Rattle.board.specs.Work.{Work, strikeOne, stay, then, Swept}
 use Rattle.words.proofs.Bools.{le-or-lt}
 use Rattle.board.proofs.Worklist.{one-off, swept-none, swept-same, swept-append}
-use Rattle.search.specs.Walks.{Leaving, Arriving}
-use Rattle.search.specs.Judging.{HasAll}
+use Rattle.search.specs.Walks.{Leaving, Arriving, HasAll}
 
 pub swept-strike : (w : Work) (p : ℕ) → p < length (w .grid) → Swept (λ q. q ≡ p) w (strikeOne w p)
 swept-strike w p l = record {

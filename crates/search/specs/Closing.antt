@@ -45,7 +45,7 @@ pub record Marked (bookings : List ℕ) (shapes k : ℕ) (grid : List ℕ) : Typ
   pub only : (p : ℕ) → p < length grid → on grid p ≡ false → BookedAt bookings shapes k p
   pub each : (p : ℕ) → BookedAt bookings shapes k p → on grid p ≡ false
 
--- What the closure asks: where each card's links stand, bookings that are read, a byte for each pair, a queue with room.
+-- What the closure asks: where each card's links stand, bookings that are read, a byte for each pair, a roomy queue.
 pub record CloseAsked (script starts first next bookings : List ℕ) (count : ℕ) (names : List ℕ) (cards shapes : ℕ)
     (incoming : Bool) (grid queue : List ℕ) : Type 0 where
   pub links : LinksReady script starts first next names shapes incoming

@@ -1,9 +1,8 @@
 -- Walks: along the links of a card. Indexes: of the table of names. Strikes, Tally: the search backwards. Follows: the
--- one forwards. Closing: the closure of the bookings. Judging: a grid tested as it is.
+-- one forwards. Closing: the closure of the bookings.
 pub mod Walks
 pub mod Indexes
 pub mod Strikes
 pub mod Tally
 pub mod Follows
 pub mod Closing
-pub mod Judging

@@ -1,6 +1,7 @@
 -- What walks along the links of a card make good; no part of a promise. `Good i p`: link i makes the place p good.
 -- Leaving      by one of the links from a card, which stand side by side
 -- Arriving     by one of the links to a card
+-- HasAll       a set has all that is good
 -- LinksReady   what every walk goes by: a script and a table of names, where each card's links stand, and whether those
 --              to a card are looked at
 -- Assumes nothing.
@@ -26,6 +27,10 @@ pub record Arriving (script : List ℕ) (m : ℕ) (Good : ℕ → ℕ → Type 0
   pub below : link < getD script 1 0
   pub leads : toAt script link ≡ m
   pub good : Good link p
+
+-- The set has all that is good.
+abbrev pub HasAll : (ℕ → Bool) → (ℕ → Type 0) → Type 0
+HasAll X Good = (q : ℕ) → Good q → X q ≡ true
 
 -- The links from card n stand from `starts n` up to `starts (n + 1)`.
 pub record Starts (script starts : List ℕ) : Type 0 where

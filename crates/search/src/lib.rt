@@ -5,18 +5,13 @@
 //   strike    backwards: the rounds of strikes
 //   follow    forwards: what the links of what is found lead to
 //   closure   the closure of the bookings, and its lowest pair that does not fit
-//   judge     no search: what is wrong with a grid as it is
 mod closure;
 mod follow;
 mod index;
-mod judge;
 mod strike;
 
 pub use closure::close;
 pub use closure::first_unfit;
-pub use judge::first_unheld;
-pub use judge::first_unmet;
-pub use judge::pair_met;
 use script::Card;
 pub use strike::strike_all;
 use template::Shape;

@@ -1,4 +1,4 @@
--- `search::first_unmet` finds the lowest pair of the grid that is not met. The invariant: below `place` there is none.
+-- `judging::first_unmet` finds the lowest pair of the grid that is not met. The invariant: below `place` there is none.
 -- Assumes nothing.
 use mathlib.Core.Logic.{⊎-elim}
 use Prim.Native.Nat.{ℕ, _-_, _≤_, _<_}
@@ -8,11 +8,11 @@ use denote.Ref.{now}
 use borrow.Author.Count.{below-more}
 use borrow.Author.Needs.{needs}
 use borrow.Author.Tests.{not-true, not-false}
-use Rattle.search.specs.Judging.{Failing}
+use Rattle.judging.specs.Judging.{Failing}
 use Rattle.words.proofs.Bools.{never-both}
 use Rattle.board.proofs.Grids.{on-yes, on-no}
-use Rattle.search.proofs.judge.first_unmet.Statement.{statement}
-use Rattle.search.proofs.judge.first_unmet.Tie as tie
+use Rattle.judging.proofs.first_unmet.Statement.{statement}
+use Rattle.judging.proofs.first_unmet.Tie as tie
 
 abbrev Inv-loop : tie.InvT-loop
 Inv-loop script starts first next names shapes incoming fitting grid place₀ place =

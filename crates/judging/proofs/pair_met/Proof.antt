@@ -1,4 +1,4 @@
--- `search::pair_met` tests whether a pair is met under the grid. Assumes nothing.
+-- `judging::pair_met` tests whether a pair is met under the grid. Assumes nothing.
 use mathlib.Core.Bool.{true}
 use mathlib.Core.Path.{_≡_, refl, sym}
 use Prim.Native.Nat.{ℕ, _<_, _≤_, _+_, _*_, _-_, _/_, _%_}
@@ -13,14 +13,13 @@ use Rattle.words.proofs.Places.{shape-in}
 use Rattle.bags.specs.Label.{outgoing, incoming}
 use Rattle.board.specs.Grid.{on}
 use Rattle.board.proofs.Grids.{on-yes, on-no}
-use Rattle.search.specs.Walks.{Leaving}
+use Rattle.search.specs.Walks.{Leaving, HasAll}
 use Rattle.search.specs.Follows.{LedGood}
-use Rattle.search.specs.Judging.{HasAll}
 use Rattle.search.proofs.Needs.{Half, half-row, row-asked, range-rising, range-in, arrivals-at}
 use Rattle.search.proofs.Following.{had-first, had-out, had-both}
-use Rattle.search.proofs.Judging.{pair-in, card-here, unfit-unmet, met-by-needs}
-use Rattle.search.proofs.judge.pair_met.Statement.{statement}
-use Rattle.search.proofs.judge.pair_met.Tie as tie
+use Rattle.judging.proofs.Judging.{pair-in, card-here, unfit-unmet, met-by-needs}
+use Rattle.judging.proofs.pair_met.Statement.{statement}
+use Rattle.judging.proofs.pair_met.Tie as tie
 
 -- the function's entry, from the test of the counts, and from where the start and the end of the card's links are read
 abbrev Entered : tie.After-shared-slice-known8 → tie.Start

@@ -18,8 +18,9 @@ use Rattle.board.specs.Grid.{on}
 use Rattle.bookings.specs.Bookings.{cardAt, shapeAt}
 use Rattle.typing.specs.Needs.{metTest, Needs, Ready}
 use Rattle.typing.proofs.Boards.{board-lawful}
-use Rattle.search.specs.Judging.{HasAll, MetAsked, HeldAsked, Missing}
+use Rattle.search.specs.Walks.{HasAll}
+use Rattle.judging.specs.Judging.{MetAsked, HeldAsked, Missing}
 use Rattle.search.proofs.Marks.{card-word, shape-word}
 
 -- ---- a pair
 module _ {script starts first next names : List ℕ} {shapes : ℕ} {inc : Bool} {fitting grid : List ℕ} {p : ℕ}

@@ -1,5 +1,5 @@
--- `search::leaving_had` tests whether the grid has what the links from a card lead to. The invariant: it has what those
--- below i lead to. Assumes nothing.
+-- `judging::leaving_had` tests whether the grid has what the links from a card lead to. The invariant: it has what
+-- those below i lead to. Assumes nothing.
 use mathlib.Core.Path.{subst, subst₂, _≡_, refl, sym, _∙_, ap}
 use mathlib.Core.Bool.{Bool}
 use Prim.Native.Nat.{ℕ, _<_, _≤_, _+_, _*_, _-_}
@@ -12,13 +12,12 @@ use Rattle.words.proofs.Bools.{false-true, never-both}
 use Rattle.bags.specs.Label.{outgoing}
 use Rattle.script.specs.Link.{kindAt, toAt}
 use Rattle.board.specs.Grid.{on}
-use Rattle.search.specs.Walks.{Leaving}
+use Rattle.search.specs.Walks.{Leaving, HasAll}
 use Rattle.search.specs.Follows.{EntryGood, LedGood}
-use Rattle.search.specs.Judging.{HasAll}
 use Rattle.search.proofs.Needs.{kind-word, to-word}
 use Rattle.search.proofs.Walks.{had-none, had-more, had-one}
-use Rattle.search.proofs.judge.leaving_had.Statement.{statement}
-use Rattle.search.proofs.judge.leaving_had.Tie as tie
+use Rattle.judging.proofs.leaving_had.Statement.{statement}
+use Rattle.judging.proofs.leaving_had.Tie as tie
 
 abbrev Inv-loop : tie.InvT-loop
 Inv-loop script row shapes lo hi grid i₀ i =

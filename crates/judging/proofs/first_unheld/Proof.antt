@@ -1,4 +1,4 @@
--- `search::first_unheld` finds the first booking that the grid does not hold. The invariant: none of the first `i` is
+-- `judging::first_unheld` finds the first booking that the grid does not hold. The invariant: none of the first `i` is
 -- such a booking. Assumes nothing.
 use Prim.Native.Nat.{ℕ, _*_, _+_, _-_, _<_, _≤_}
 use native.Mathlib.Omega.{arith}
@@ -7,10 +7,10 @@ use denote.Ref.{now}
 use borrow.Author.Count.{below-more}
 use borrow.Author.Needs.{needs}
 use Rattle.board.proofs.Grids.{on-yes, on-no}
-use Rattle.search.specs.Judging.{Missing}
-use Rattle.search.proofs.Judging.{booked-in-grid, missing-here, held-here}
-use Rattle.search.proofs.judge.first_unheld.Statement.{statement}
-use Rattle.search.proofs.judge.first_unheld.Tie as tie
+use Rattle.judging.specs.Judging.{Missing}
+use Rattle.judging.proofs.Judging.{booked-in-grid, missing-here, held-here}
+use Rattle.judging.proofs.first_unheld.Statement.{statement}
+use Rattle.judging.proofs.first_unheld.Tie as tie
 
 abbrev Inv-loop : tie.InvT-loop
 Inv-loop bookings count shapes grid pairs i₀ i =

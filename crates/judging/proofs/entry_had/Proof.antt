@@ -1,4 +1,4 @@
--- `search::entry_had` tests whether the grid has the pair that an entry names. Assumes nothing.
+-- `judging::entry_had` tests whether the grid has the pair that an entry names. Assumes nothing.
 use mathlib.Core.Path.{refl}
 use Prim.Native.Nat.{_<_, _+_, _-_}
 use native.Mathlib.Omega.{arith}
@@ -6,9 +6,9 @@ use lib.ListN.{length}
 use denote.Ref.{now}
 use borrow.Author.Needs.{needs}
 use Rattle.board.specs.Grid.{on}
 use Rattle.search.proofs.Entries.{one-named, had-nothing, had-named}
-use Rattle.search.proofs.judge.entry_had.Statement.{statement}
-use Rattle.search.proofs.judge.entry_had.Tie as tie
+use Rattle.judging.proofs.entry_had.Statement.{statement}
+use Rattle.judging.proofs.entry_had.Tie as tie
 
 -- the pair that is read has a place in the grid
 place-in : (c : tie.Else1) → let s = c .before .before .before in

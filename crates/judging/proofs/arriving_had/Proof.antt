@@ -1,4 +1,4 @@
--- `search::arriving_had` walks the chain of the links to a card, and tests whether the grid has what they lead back to.
+-- `judging::arriving_had` walks the chain of the links to a card, and tests whether the grid has what they lead to.
 -- Assumes nothing.
 use mathlib.Core.Path.{subst₂, _≡_, refl, sym, _∙_, ap}
 use mathlib.Core.Bool.{Bool}
@@ -13,12 +13,12 @@ use Rattle.bags.specs.Label.{incoming}
 use Rattle.script.specs.Link.{fromAt, kindAt, toAt}
 use Rattle.script.specs.Chain.{lastAt}
 use Rattle.board.specs.Grid.{on}
+use Rattle.search.specs.Walks.{HasAll}
 use Rattle.search.specs.Follows.{EntryGood, LedGood}
-use Rattle.search.specs.Judging.{HasAll}
 use Rattle.search.proofs.Needs.{from-word, kind-word}
 use Rattle.search.proofs.Walks.{Testing, test-start, test-in, test-less, test-next, test-one, test-done}
-use Rattle.search.proofs.judge.arriving_had.Statement.{statement}
-use Rattle.search.proofs.judge.arriving_had.Tie as tie
+use Rattle.judging.proofs.arriving_had.Statement.{statement}
+use Rattle.judging.proofs.arriving_had.Tie as tie
 
 abbrev Inv-loop : tie.InvT-loop
 Inv-loop script first next row shapes m grid at₀ at =

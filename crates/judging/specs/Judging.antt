@@ -1,5 +1,4 @@
 -- A grid tested against itself and against bookings; no part of a promise.
--- HasAll       a set has all that is good
 -- LeavingTested, ArrivingTested   what testing what the links from a card, and those to it, ask for asks
 -- GridAsked    what testing the pairs of a grid asks; MetAsked: and one pair
 -- Failing      a pair of a grid is not met under it
@@ -15,13 +14,9 @@ use Rattle.script.specs.Index.{ArrivalsOf}
 use Rattle.board.specs.Grid.{on}
 use Rattle.bookings.specs.Bookings.{cardAt, shapeAt}
 use Rattle.typing.specs.Needs.{metTest}
 use Rattle.search.specs.Walks.{LinksReady}
 use Rattle.search.specs.Follows.{RowAsked}
 use Rattle.search.specs.Closing.{BookingsIn}
-
--- The set has all that is good.
-abbrev pub HasAll : (ℕ → Bool) → (ℕ → Type 0) → Type 0
-HasAll X Good = (q : ℕ) → Good q → X q ≡ true
 
 -- What testing the links lo up to hi by a row asks.
 pub record LeavingTested (script row : List ℕ) (shapes lo hi : ℕ) (grid : List ℕ) : Type 0 where
