@@ -43,7 +43,7 @@
 #include <stdint.h>
 
 /* The version of this header; prep_version gives the library's. */
-#define PREP_VERSION_MAJOR 2
+#define PREP_VERSION_MAJOR 3
 #define PREP_VERSION_MINOR 0
 #define PREP_VERSION_PATCH 0
 #define PREP_VERSION (PREP_VERSION_MAJOR * 10000 + PREP_VERSION_MINOR * 100 + PREP_VERSION_PATCH)
@@ -71,7 +71,7 @@ enum {
 enum { PREP_STACK_BYTES = 160 * 1024 };
 
 /*
- * A constant for each refusal, PREP_TEMPLATE_SIZE to PREP_GRID_NOT_HELD; prep_refusals.def lists
+ * A constant for each refusal, PREP_TEMPLATE_SIZE to PREP_TEMPLATE_OPEN; prep_refusals.def lists
  * them with their numbers and words. PREP_NOT_MET and PREP_GRID_NOT_MET have a card and a shape
  * instead of a place. PREP_INPUT is the sheet printer's; no function here answers it. Later versions
  * may have more, so test `number != 0` for "refused".
@@ -165,15 +165,19 @@ struct prep_judge_answer {
 extern "C" {
 #endif
 
-/* Reads a template. Refusals: 1 to 12. */
+/*
+ * Reads a template. A shape whose first word is 18 is open: it ignores links that start at a card
+ * and are of a kind that it does not name as outgoing. Every other shape is closed: a card with such
+ * a link does not have it. Refusals: 1 to 12, and 64 for 18 as the code of a part.
+ */
 struct prep_template_answer prep_read_template(const uint16_t *template_words, size_t template_length);
 
 /*
  * Whether counts of links fit a shape. There are 2 x kinds counts: for each kind the links that
  * start at a card, then for each kind those that arrive there. A kind that the shape does not name
- * as outgoing has to count 0 in the first half; one that it does not name as incoming is ignored in
- * the second half, whatever it counts. Refusals: the template's, then 42 and 41 at place 0, and 43
- * at the first count over 8,192, in either half.
+ * as outgoing has to count 0 in the first half if the shape is closed, and is ignored if it is open;
+ * one that it does not name as incoming is ignored in the second half, whatever it counts. Refusals:
+ * the template's, then 42 and 41 at place 0, and 43 at the first count over 8,192, in either half.
  */
 struct prep_fit_answer prep_fit_counts(const uint16_t *template_words, size_t template_length, uint16_t shape_number,
                                        const uint16_t *label_counts, size_t counts_length);

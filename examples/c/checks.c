@@ -1,7 +1,7 @@
 /*
  * Checks of the library as a C caller sees it: an answer and a refusal of each function, links that
- * arrive, arrays that a refusal leaves alone, empty arrays given as NULL, refusals in words, and the
- * layout of answers. Builds as C and as C++.
+ * arrive, open shapes, arrays that a refusal leaves alone, empty arrays given as NULL, refusals in
+ * words, and the layout of answers. Builds as C and as C++.
  */
 #include "prep.h"
 
@@ -20,6 +20,7 @@ static const uint16_t unmet_bookings[] = {1, 0, 0};
 static const uint8_t sheet_grid[] = {0, 0, 0, 0, 0, 1};
 static const uint16_t small_template[] = {1, 1, 1, 0};
 static const uint16_t guests_template[] = {1, 2, 4, 256, 1, 1, 65535, 4, 320, 0, 1, 65535};
+static const uint16_t tolerant_template[] = {2, 2, 5, 18, 256, 1, 1, 1, 1, 0};
 static const uint16_t two_cards[] = {2, 0};
 static const uint16_t no_cards[] = {0, 0};
 static const uint16_t no_bookings[] = {0};
@@ -100,6 +101,33 @@ static void check_codes(void)
     CHECK(t.number == PREP_TEMPLATE_KIND_TWICE && t.place == 9);
 }
 
+/* Whether a template is refused by this number at this place; number 0 is for one that is read. */
+static int template_refused(const uint16_t *words, size_t length, uint16_t number, size_t place)
+{
+    struct prep_template_answer t = prep_read_template(words, length);
+    return t.number == number && t.place == place;
+}
+
+/* 18 as the first word of a shape, as another code, and as a count. */
+static void check_open_codes(void)
+{
+    static const uint16_t any_card[] = {1, 1, 2, 18, 0};
+    static const uint16_t alone[] = {1, 1, 1, 18};
+    static const uint16_t twice[] = {1, 1, 3, 18, 18, 0};
+    static const uint16_t inside[] = {1, 1, 5, 17, 2, 0, 18, 0};
+    static const uint16_t count[] = {1, 1, 4, 17, 18, 0, 0};
+    static const uint16_t left_over[] = {1, 1, 6, 18, 256, 0, 1, 1, 0};
+    static const uint16_t code_19[] = {1, 1, 1, 19};
+    CHECK(template_refused(LENT(any_card), PREP_NOT_REFUSED, 0));
+    CHECK(template_refused(LENT(tolerant_template), PREP_NOT_REFUSED, 0));
+    CHECK(template_refused(LENT(alone), PREP_TEMPLATE_MISSING, 4));
+    CHECK(template_refused(LENT(twice), PREP_TEMPLATE_OPEN, 4));
+    CHECK(template_refused(LENT(inside), PREP_TEMPLATE_OPEN, 6));
+    CHECK(template_refused(LENT(count), PREP_TEMPLATE_GROUP_COUNT, 4));
+    CHECK(template_refused(LENT(left_over), PREP_TEMPLATE_LEFT_OVER, 8));
+    CHECK(template_refused(LENT(code_19), PREP_TEMPLATE_CODE, 3));
+}
+
 /* Every number of an answer to prep_fit_counts. */
 static int fitted(struct prep_fit_answer f, uint16_t number, uint16_t fits, size_t place)
 {
@@ -141,6 +169,20 @@ static void check_guest_counts(void)
     CHECK(fitted(prep_fit_counts(LENT(guests_template), 0, LENT(ignored)), 0, 1, 0));
     CHECK(fitted(prep_fit_counts(LENT(guests_template), 0, ignored, 1), PREP_COUNTS_SIZE, 0, 0));
     CHECK(fitted(prep_fit_counts(LENT(guests_template), 0, LENT(over)), PREP_COUNTS_TOO_BIG, 0, 1));
+}
+
+/* An open shape ignores outgoing kinds that it does not name, whatever they count. */
+static void check_open_counts(void)
+{
+    static const uint16_t seven_more[] = {1, 7, 0, 0};
+    static const uint16_t two_named[] = {2, 7, 0, 0};
+    static const uint16_t most[] = {1, PREP_MAX_COUNT, PREP_MAX_COUNT, PREP_MAX_COUNT};
+    static const uint16_t over[] = {1, PREP_MAX_COUNT + 1, 0, 0};
+    CHECK(fitted(prep_fit_counts(LENT(tolerant_template), 0, LENT(seven_more)), 0, 1, 0));
+    CHECK(fitted(prep_fit_counts(LENT(tolerant_template), 0, LENT(two_named)), 0, 0, 0));
+    CHECK(fitted(prep_fit_counts(LENT(tolerant_template), 1, LENT(seven_more)), 0, 0, 0));
+    CHECK(fitted(prep_fit_counts(LENT(tolerant_template), 0, LENT(most)), 0, 1, 0));
+    CHECK(fitted(prep_fit_counts(LENT(tolerant_template), 0, LENT(over)), PREP_COUNTS_TOO_BIG, 0, 1));
 }
 
 /* As many counts as there may be, for a shape that names the last kind as incoming. */
@@ -255,6 +297,24 @@ static void check_guests(void)
     b = prep_both_typings(LENT(guests_template), LENT(lonely_guest), LENT(lonely_booked), LENT(small), LENT(large));
     CHECK(b.number == PREP_NOT_MET && b.card == 2 && b.shape == 1);
     CHECK(b.rounds == 2 && b.struck == 4 && b.bare == 0 && memcmp(large, item_and_guest, 6) == 0);
+}
+
+/* Card 0 has a link that its open shape ignores: the target need not have a shape, and the link is still there. */
+static void check_open(void)
+{
+    static const uint16_t one_more[] = {3, 2, 0, 0, 1, 0, 1, 2};
+    static const uint16_t first_booked[] = {1, 0, 0};
+    static const uint8_t all_kept[] = {1, 0, 0, 1, 0, 1};
+    static const uint8_t needed[] = {1, 0, 0, 1, 0, 0};
+    uint8_t small[6], large[6];
+    struct prep_both_answer b;
+    struct prep_judge_answer j;
+    b = prep_both_typings(LENT(tolerant_template), LENT(one_more), LENT(first_booked), LENT(small), LENT(large));
+    CHECK(b.number == 0 && b.rounds == 2 && b.struck == 3 && b.bare == 0 && b.pairs == 2);
+    CHECK(memcmp(large, all_kept, 6) == 0 && memcmp(small, needed, 6) == 0);
+    j = prep_judge(LENT(tolerant_template), LENT(one_more), LENT(first_booked), LENT(needed));
+    CHECK(j.number == PREP_NOT_REFUSED);
+    CHECK(prep_links_of_card(LENT(tolerant_template), LENT(one_more), 0, NULL, 0) == 6);
 }
 
 /* A link from a card to itself counts both ways. */
@@ -381,14 +441,17 @@ int main(void)
     check_layout();
     check_readings();
     check_codes();
+    check_open_codes();
     check_counts();
     check_guest_counts();
+    check_open_counts();
     check_most_counts();
     check_links();
     check_largest();
     check_smallest();
     check_both();
     check_guests();
+    check_open();
     check_self_link();
     check_judge();
     check_judge_refuses();

@@ -19,6 +19,10 @@ A shape may also name links that arrive. Here an item points at guests, and a gu
 
     template = prep.Template.of(1, [prep.link(0, 1, 1), prep.incoming(0, 0, 1)])
 
+And a shape may be open, so that links of kinds that it does not name may start at its cards:
+
+    template = prep.Template.of(2, [prep.open_shape(prep.link(0, 1, 1, 1)), prep.nothing()])
+
 What the library turns down is a Refused, which says in words what is wrong and where. The library is libprep.so in
 the folder that PREP_LIB_DIR names, or in the lib folder of the package that this file came with, or where the system
 looks. Python 3.8 or later; nothing but the standard library. Other threads run while the library works.
@@ -30,7 +34,7 @@ import os
 from typing import Iterable, List, NamedTuple, Sequence, Tuple
 
 # The versions that this file is for: this major one, with this minor one or a later one.
-MAJOR = 2
+MAJOR = 3
 MINOR = 0
 
 # The refusals that have a card and a shape instead of a place.
@@ -241,6 +245,12 @@ def incoming(kind: int, shape: int, low: int, high: int = 65535) -> Part:
     return [_code(320, kind), shape, low, high]
 
 
+def open_shape(part: Part) -> Part:
+    """A shape with this part that ignores links of kinds that the part does not name, where they start at its cards.
+    Only a whole shape can be open: as a part of another it is refused."""
+    return [18] + part
+
+
 class Typing:
     """Which shapes each card has."""
 
@@ -293,21 +303,21 @@ class Template:
     """A template that was read: shapes, and the links that a card of each must have."""
 
     def __init__(self, words: Iterable[int]):
-        """Reads a template's words. Refusals: 1 to 12."""
+        """Reads a template's words. Refusals: 1 to 12 and 64."""
         self._words = _words(words)
         answer = _accept(_library.prep_read_template(*_lend(self._words)))
         self.words, self.kinds, self.shapes = tuple(self._words), answer.kinds, answer.shapes
 
     @classmethod
     def of(cls, kinds: int, shapes: Sequence[Part]) -> "Template":
-        """A template of so many kinds, and a part for each shape."""
+        """A template of so many kinds, and for each shape its part, or the open shape of it."""
         counted = [word for part in shapes for word in [len(part)] + part]
         return cls([kinds, len(shapes)] + counted)
 
     def fits(self, shape: int, counts: Iterable[int]) -> bool:
         """Whether counts of links fit a shape: for each kind those that start at a card, then for each kind those that
-        arrive there. A kind that the shape does not name has to count 0 as outgoing and is ignored as incoming.
-        Refusals: 42, 41 if there are not two counts for each kind, 43."""
+        arrive there. A kind that the shape does not name has to count 0 as outgoing if the shape is closed, and is
+        ignored otherwise. Refusals: 42, 41 if there are not two counts for each kind, 43."""
         (number,) = _words([shape])
         answer = _library.prep_fit_counts(*_lend(self._words), number, *_lend(_words(counts)))
         return _accept(answer).fits == 1

@@ -10,6 +10,8 @@ TEMPLATE = [2, 2, 10, 17, 2, 256, 1, 1, 1, 257, 0, 0, 1, 1, 0]
 SCRIPT = [3, 3, 0, 0, 2, 0, 1, 1, 1, 0, 0]
 # An item points at guests, and a guest is pointed at by items.
 GUESTS = [1, 2, 4, 256, 1, 1, 65535, 4, 320, 0, 1, 65535]
+# An open shape that wants one link of kind 0 to the other shape, which is nothing.
+TOLERANT = [2, 2, 5, 18, 256, 1, 1, 1, 1, 0]
 
 
 def include() -> pathlib.Path:
@@ -41,6 +43,17 @@ class Words(unittest.TestCase):
         self.refused(5, 3, prep.Template, [64, 1, 4, 384, 0, 0, 1])
         self.assertEqual(prep.Template([1, 1, 10, 17, 2, 256, 0, 0, 1, 320, 0, 0, 1]).shapes, 1)
         self.refused(8, 9, prep.Template, [1, 1, 10, 17, 2, 320, 0, 0, 1, 320, 0, 0, 1])
+
+    def test_open_shapes_are_refused(self):
+        self.assertEqual(prep.Template([1, 1, 2, 18, 0]).shapes, 1)
+        self.refused(4, 4, prep.Template, [1, 1, 1, 18])
+        self.refused(64, 4, prep.Template, [1, 1, 3, 1, 18, 0])
+        self.refused(11, 4, prep.Template, [1, 1, 4, 17, 18, 0, 0])
+        self.refused(12, 8, prep.Template, [1, 1, 6, 18, 256, 0, 1, 1, 0])
+        told = self.refused(64, 4, prep.Template, [1, 1, 3, 18, 18, 0])
+        words = "the code of an open shape is not the first word of a shape"
+        self.assertEqual(str(told), f"{words} (refusal 64, word 4)")
+        self.assertEqual(told.file, "template")
 
     def test_script_is_refused(self):
         template = prep.Template(TEMPLATE)
@@ -164,6 +177,18 @@ class Answers(unittest.TestCase):
             prep.Script(prep.Template(GUESTS), [3, 1, 0, 0, 1]).smallest([(2, 1)])
         self.assertEqual((caught.exception.card, caught.exception.shape), (2, 1))
 
+    def test_open(self):
+        template = prep.Template(TOLERANT)
+        self.assertIs(template.fits(0, [1, 7, 0, 0]), True)
+        self.assertIs(template.fits(0, [2, 7, 0, 0]), False)
+        script = prep.Script(template, [3, 2, 0, 0, 1, 0, 1, 2])
+        both = script.both([(0, 0)])
+        self.assertEqual((both.largest.rounds, both.largest.struck, both.largest.bare), (2, 3, 0))
+        self.assertEqual(both.largest.typing.grid, bytes([1, 0, 0, 1, 0, 1]))
+        self.assertEqual((both.smallest.pairs, both.smallest.typing.grid), (2, bytes([1, 0, 0, 1, 0, 0])))
+        self.assertIsNone(script.judge([(0, 0)], both.smallest.typing.grid))
+        self.assertEqual(len(script.links_of(0)), 2)
+
     def test_judge(self):
         self.assertIsNone(self.script.judge([(2, 1)], [0, 0, 0, 0, 0, 1]))
         self.assertIsNone(self.script.judge([], bytes(6)))
@@ -196,6 +221,11 @@ class Builders(unittest.TestCase):
         self.assertEqual(list(template.words), [2, 2, 2, 3, 0, 9, 16, 2, 1, 256, 0, 2, 65535, 2, 0])
         guests = prep.Template.of(1, [prep.link(0, 1, 1), prep.incoming(0, 0, 1)])
         self.assertEqual(list(guests.words), GUESTS)
+        tolerant = prep.Template.of(2, [prep.open_shape(prep.link(0, 1, 1, 1)), prep.nothing()])
+        self.assertEqual(list(tolerant.words), TOLERANT)
+        with self.assertRaises(prep.Refused) as caught:
+            prep.Template.of(2, [prep.star(prep.open_shape(prep.nothing()))])
+        self.assertEqual((caught.exception.number, caught.exception.place), (64, 4))
 
     def test_no_kinds(self):
         for kind in (-1, 64, 128):

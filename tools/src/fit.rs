@@ -1,5 +1,5 @@
-//! *Fit counts*: are these counts, one for each kind each way, those of a bag of a shape's part? The incoming kinds
-//! that the shape doesn't name are ignored. Refusals: the template's, then 42, 41, 43.
+//! *Fit counts*: are these counts, one for each kind each way, those of a bag of a shape's part? The kinds at which the
+//! shape doesn't look are ignored. Refusals: the template's, then 42, 41, 43.
 
 pub mod bags;
 pub mod intervals;
@@ -9,7 +9,7 @@ pub mod ready;
 use crate::labels::Labelled;
 use crate::numbers::Shape;
 use crate::refusal::Refusal;
-use crate::template::{self, Part, MOST_COUNT};
+use crate::template::{self, Definition, MOST_COUNT};
 
 /// The answer by intervals.
 pub fn fit(template_words: &[u16], shape: u16, counts: &[u16]) -> Result<bool, Refusal> {
@@ -23,7 +23,7 @@ pub fn fit_by_bags(template_words: &[u16], shape: u16, counts: &[u16]) -> Result
 
 /// The refusals, then the answer of one of the two methods.
 fn fit_by(
-    fits: fn(&Part, &Labelled<u16>) -> bool,
+    fits: fn(&Definition, &Labelled<u16>) -> bool,
     template_words: &[u16],
     shape: u16,
     counts: &[u16],
@@ -39,5 +39,5 @@ fn fit_by(
         return Err(Refusal::at(43, place));
     }
     let counts = Labelled::from(counts.to_vec());
-    Ok(fits(template.part(Shape(shape)), &counts))
+    Ok(fits(template.definition(Shape(shape)), &counts))
 }

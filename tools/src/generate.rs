@@ -6,6 +6,7 @@
 //! | `parts`    | random parts and templates, and random bags of a part             |
 //! | `scripts`  | scripts derived from the shapes, and loose ones                   |
 //! | `matched`  | sheets whose shapes are made to fit their links                   |
+//! | `openings` | open shapes of random templates, and links that they ignore       |
 //! | `sparse`   | cards that few links touch or none, with and without a shape      |
 //! | `bookings` | bookings that are met, and others                                 |
 //! | `heavy`    | the sheets that take longest, for timing                          |
@@ -18,6 +19,7 @@
 //! | `edges`    | each limit from both sides, the same in every run                 |
 //! | `blanks`   | blank cards and cards beside them, the same in every run          |
 //! | `arriving` | links that arrive, the same in every run                          |
+//! | `open`     | open shapes, the same in every run                                |
 //! | `judging`  | sheets with grids for *Judge a grid*, fixed and random ones       |
 
 pub mod arriving;
@@ -31,6 +33,8 @@ pub mod judging;
 pub mod knots;
 pub mod layout;
 pub mod matched;
+pub mod open;
+pub mod openings;
 pub mod parts;
 pub mod scripts;
 pub mod sparse;
@@ -123,6 +127,7 @@ fn fixed_cases() -> impl Iterator<Item = Case> {
         edges::edges(),
         blanks::blanks(),
         arriving::arriving(),
+        open::open(),
     ];
     lists.into_iter().flatten()
 }
@@ -203,6 +208,9 @@ fn sheet_with(
     let mut script = make_script(random, &template, scale);
     if random.chance(1, 2) {
         script = sparse::thin(random, &script, template.kinds, scale.links);
+    }
+    if random.chance(1, 2) {
+        script = openings::stray(random, &template, script, scale.links);
     }
     booked(random, &template, script, scale)
 }

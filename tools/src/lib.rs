@@ -6,7 +6,7 @@
 //! | `numbers`  | card, kind and shape numbers: three lists, three types                      |
 //! | `labels`   | kinds with a way, outgoing or incoming, and values for each                 |
 //! | `refusal`  | a refusal's number, place and meaning                                       |
-//! | `template` | *Read a template*, refusals 1 to 12; also writes templates                  |
+//! | `template` | *Read a template*, refusals 1 to 12 and 64; also writes templates           |
 //! | `fit`      | *Fit counts*, refusals 41 to 43; by intervals and by enumeration of bags    |
 //! | `script`   | *Read a script*, refusals 20 to 25; *Links of a card*                       |
 //! | `typing`   | *Largest* (rounds and links) and *Smallest*, refusals 30 to 33, 40 and 50;  |

@@ -52,6 +52,7 @@ impl Refusal {
             61 => "a byte of the grid is over 1",
             62 => "a pair of the grid isn't met under it",
             63 => "a booking isn't held by the grid",
+            64 => "the code of an open shape isn't the first word of a shape",
             _ => "a refusal that isn't known",
         }
     }

@@ -5,9 +5,9 @@ pub mod questions;
 use crate::fit;
 use crate::fit::lines::written;
 use crate::generate::parts::outgoing;
-use crate::labels::Labelled;
+use crate::labels::{Labelled, Way};
 use crate::numbers::Kind;
-use crate::template::{self, Link, Part, Template};
+use crate::template::{self, Definition, Link, Part, Template};
 
 /// One entry of the table: counts under a part of kinds a and b, and whether the page says that they fit.
 #[derive(Clone, Debug)]
@@ -27,16 +27,26 @@ pub struct Sample {
 impl Sample {
     /// A template with two kinds whose only shape is this part.
     pub fn template(&self) -> Vec<u16> {
-        one_shape(2, &self.part)
+        one_shape(2, Definition::closed(self.part.clone()))
     }
 }
 
-/// A template whose only shape is this part.
-fn one_shape(kinds: u16, part: &Part) -> Vec<u16> {
+/// A template with only this shape.
+fn one_shape(kinds: u16, shape: Definition) -> Vec<u16> {
     template::write(&Template {
         kinds,
-        parts: vec![part.clone()],
+        definitions: vec![shape],
     })
+}
+
+/// A name, a shape, and counts that fit it or not.
+pub type Counted = (String, Definition, Labelled<u16>);
+
+/// Adds what isn't in the list yet, by another name or its own.
+fn push_once(list: &mut Vec<Counted>, one: Counted) {
+    if !list.iter().any(|other| (&other.1, &other.2) == (&one.1, &one.2)) {
+        list.push(one);
+    }
 }
 
 /// A row of the table: a label, a part as the page writes it, the part, and counts of a and b with the page's answers.
@@ -98,10 +108,9 @@ fn rows() -> Vec<Row> {
     ]
 }
 
-/// The samples as they are, with kind b arriving, and with both kinds arriving: for each a name, a part and counts.
-/// None stands there twice.
-pub fn turned() -> Vec<(String, Part, Labelled<u16>)> {
-    let mut turned: Vec<(String, Part, Labelled<u16>)> = Vec::new();
+/// The samples as they are, with kind b arriving, and with both kinds arriving. None stands there twice.
+pub fn turned() -> Vec<Counted> {
+    let mut turned = Vec::new();
     for sample in table() {
         let [a, b, ..] = sample.counts;
         let ways: [(&str, &[Kind], [u16; 4]); 3] = [
@@ -118,16 +127,28 @@ pub fn turned() -> Vec<(String, Part, Labelled<u16>)> {
                 ..link
             };
             let name = format!("{}-{a}-{b}-{word}", sample.label);
-            let (part, counts) = (sample.part.with_links(&turn), counts.to_vec().into());
-            if !turned
-                .iter()
-                .any(|(_, other, others)| *other == part && *others == counts)
-            {
-                turned.push((name, part, counts));
-            }
+            let shape = Definition::closed(sample.part.with_links(&turn));
+            push_once(&mut turned, (name, shape, counts.to_vec().into()));
         }
     }
     turned
+}
+
+/// The same as open shapes, and with some links of each outgoing kind that they don't name.
+pub fn opened() -> Vec<Counted> {
+    let mut opened = Vec::new();
+    for (name, Definition { part, .. }, mut counts) in turned() {
+        for (label, far) in part.named(counts.kinds()).iter() {
+            if label.way == Way::Outgoing && far.is_none() {
+                counts[label] = 3 + label.kind.0;
+            }
+        }
+        push_once(
+            &mut opened,
+            (format!("{name}-open"), Definition::open(part), counts),
+        );
+    }
+    opened
 }
 
 /// The table as text, each answer found by both methods. An error says where they or the document differ.

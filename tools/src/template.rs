@@ -1,5 +1,5 @@
-//! *Read a template*: the words of a template become a list of parts, one per shape, or the first fault is told.
-//! Refusals 1 to 12, in the order of docs/FORMAT.md: left to right, shape by shape.
+//! *Read a template*: the words of a template become a list of definitions, one per shape, or the first fault is told.
+//! Refusals 1 to 12 and 64, in the order of docs/FORMAT.md: left to right, shape by shape.
 
 use crate::labels::{Label, Labelled, Way};
 use crate::numbers::{Kind, Shape};
@@ -32,6 +32,8 @@ pub const OPTIONAL: u16 = 3;
 pub const CHOICE: u16 = 16;
 /// The code of all.
 pub const ALL: u16 = 17;
+/// The code that makes a shape open, as its first word.
+pub const OPEN: u16 = 18;
 /// The code of an outgoing link of kind 0.
 pub const OUTGOING: u16 = 256;
 /// The code of an incoming link of kind 0.
@@ -55,13 +57,22 @@ pub fn label_of(code: u16) -> Option<Label> {
     }
 }
 
-/// A template that was read: its count of kinds, and a part for each shape.
+/// A template that was read: its count of kinds, and what each shape is.
 #[derive(Clone, PartialEq, Eq, Debug)]
 pub struct Template {
     /// The count of kinds, L.
     pub kinds: u16,
-    /// The part of each shape; their number is S.
-    pub parts: Vec<Part>,
+    /// What each shape is; their number is S.
+    pub definitions: Vec<Definition>,
+}
+
+/// What a shape is.
+#[derive(Clone, PartialEq, Eq, Debug)]
+pub struct Definition {
+    /// Whether it ignores the links of outgoing kinds that its part doesn't name.
+    pub open: bool,
+    /// Its part.
+    pub part: Part,
 }
 
 /// One part of a shape.
@@ -100,19 +111,69 @@ pub struct Link {
 pub type Named = Labelled<Option<Shape>>;
 
 impl Template {
+    /// A template of closed shapes with these parts.
+    pub fn closed(kinds: u16, parts: Vec<Part>) -> Template {
+        Template {
+            kinds,
+            definitions: parts.into_iter().map(Definition::closed).collect(),
+        }
+    }
+
     /// The count of shapes, S.
     pub fn shapes(&self) -> u16 {
-        self.parts.len() as u16
+        self.definitions.len() as u16
+    }
+
+    /// What a shape that is below S is.
+    pub fn definition(&self, shape: Shape) -> &Definition {
+        &self.definitions[shape.index()]
     }
 
     /// The part of a shape that is below S.
     pub fn part(&self, shape: Shape) -> &Part {
-        &self.parts[shape.index()]
+        &self.definition(shape).part
+    }
+
+    /// The part of each shape.
+    pub fn parts(&self) -> impl Iterator<Item = &Part> {
+        self.definitions.iter().map(|definition| &definition.part)
     }
 
     /// For each shape, what its part names.
     pub fn named(&self) -> Vec<Named> {
-        self.parts.iter().map(|part| part.named(self.kinds)).collect()
+        self.parts().map(|part| part.named(self.kinds)).collect()
+    }
+}
+
+impl Definition {
+    /// A closed shape.
+    pub fn closed(part: Part) -> Definition {
+        Definition { open: false, part }
+    }
+
+    /// An open shape.
+    pub fn open(part: Part) -> Definition {
+        Definition { open: true, part }
+    }
+
+    /// For each label of so many kinds, whether the shape looks at its links: if the part names it, or if it is
+    /// outgoing and the shape is closed. All other links are ignored.
+    pub fn looked_at(&self, kinds: u16) -> Labelled<bool> {
+        let mut looked_at = Labelled::new(kinds, false);
+        for (label, far) in self.part.named(kinds).iter() {
+            looked_at[label] = far.is_some() || (label.way == Way::Outgoing && !self.open);
+        }
+        looked_at
+    }
+
+    /// The words of this shape, without their count.
+    pub fn words(&self) -> Vec<u16> {
+        let mut words = Vec::new();
+        if self.open {
+            words.push(OPEN);
+        }
+        self.part.write(&mut words);
+        words
     }
 }
 
@@ -227,13 +288,13 @@ fn write_group(code: u16, parts: &[Part], words: &mut Vec<u16>) {
     }
 }
 
-/// The words of a template with these kinds and parts; the reverse of `read`.
+/// The words of a template; the reverse of `read`.
 pub fn write(template: &Template) -> Vec<u16> {
     let mut words = vec![template.kinds, template.shapes()];
-    for part in &template.parts {
-        let part_words = part.words();
-        words.push(part_words.len() as u16);
-        words.extend(part_words);
+    for definition in &template.definitions {
+        let shape_words = definition.words();
+        words.push(shape_words.len() as u16);
+        words.extend(shape_words);
     }
     words
 }
@@ -258,14 +319,14 @@ pub fn read(words: &[u16]) -> Result<Template, Refusal> {
         shapes,
         seen: Vec::new(),
     };
-    let mut parts = Vec::new();
+    let mut definitions = Vec::new();
     for _ in 0..shapes {
-        parts.push(reader.shape()?);
+        definitions.push(reader.shape()?);
     }
     if reader.next < words.len() {
         return Err(Refusal::at(12, reader.next));
     }
-    Ok(Template { kinds, parts })
+    Ok(Template { kinds, definitions })
 }
 
 /// Where the reading stands.
@@ -282,8 +343,8 @@ struct Reader<'a> {
 }
 
 impl Reader<'_> {
-    /// A shape: its count of words, then one part that takes exactly those words.
-    fn shape(&mut self) -> Result<Part, Refusal> {
+    /// A shape: its count of words, then 18 if it is open, then one part that takes exactly the other words.
+    fn shape(&mut self) -> Result<Definition, Refusal> {
         let length = self.words.len();
         let count = match self.words.get(self.next) {
             Some(count) => usize::from(*count),
@@ -295,11 +356,13 @@ impl Reader<'_> {
             return Err(Refusal::at(4, length));
         }
         self.seen.clear();
+        let open = self.words[self.next..self.end].first() == Some(&OPEN);
+        self.next += usize::from(open);
         let part = self.part(1)?;
         if self.next < self.end {
             return Err(Refusal::at(12, self.next));
         }
-        Ok(part)
+        Ok(Definition { open, part })
     }
 
     /// The next word of the shape; a word wanted past the shape's end is missing at that end.
@@ -329,6 +392,7 @@ impl Reader<'_> {
             3 => Ok(Part::Optional(Box::new(self.part(depth + 1)?))),
             16 => Ok(Part::Choice(self.group(depth + 1)?)),
             17 => Ok(Part::All(self.group(depth + 1)?)),
+            18 => Err(Refusal::at(64, place)),
             _ => Err(Refusal::at(5, place)),
         }
     }

@@ -111,14 +111,25 @@ pub struct Text {
     pub title: Option<String>,
     /// The kinds; a kind's number is its index.
     pub kinds: Vec<Name>,
-    /// The shapes with their parts; a shape's number is its index.
-    pub shapes: Vec<(Name, Expression)>,
+    /// The shapes; a shape's number is its index.
+    pub shapes: Vec<ShapeLine>,
     /// The cards with their titles; a card's number is its index.
     pub cards: Vec<(Name, Option<String>)>,
     /// The links in the order of the text: from, kind, to.
     pub links: Vec<[Name; 3]>,
     /// The bookings: card, shape.
     pub bookings: Vec<[Name; 2]>,
+}
+
+/// A shape as it is written.
+#[derive(Clone, PartialEq, Eq, Debug)]
+pub struct ShapeLine {
+    /// Where it says `open`; nowhere if the shape is closed.
+    pub open: Option<Spot>,
+    /// Its name.
+    pub name: Name,
+    /// Its part.
+    pub part: Expression,
 }
 
 /// A part as it is written.
@@ -154,5 +165,10 @@ impl Text {
     pub fn card_title(&self, card: usize) -> &str {
         let (name, title) = &self.cards[card];
         title.as_deref().unwrap_or(&name.text)
+    }
+
+    /// The name of a shape.
+    pub fn shape_name(&self, shape: usize) -> &str {
+        &self.shapes[shape].name.text
     }
 }

@@ -160,6 +160,28 @@ fn random_sheets_of_all_sizes_are_sound() {
 }
 
 #[test]
+fn sheets_of_open_shapes_are_sound() {
+    let mut random = Random::new(8);
+    for (cards, links, kinds, shapes) in [
+        (5, 8, 3, 4),
+        (41, 80, 8, 6),
+        (100, 150, 20, 14),
+        (400, 900, 64, 32),
+    ] {
+        let size = Size {
+            cards,
+            links,
+            kinds,
+            shapes,
+        };
+        let source = sheets::random(&mut random, size).replace("\nshape", "\nopen shape");
+        let sheet = sheet(&source);
+        assert!(sheet.setting.template.definitions.iter().all(|shape| shape.open));
+        is_sound(&format!("open, {size:?}"), &sheet);
+    }
+}
+
+#[test]
 fn rows_stars_loose_and_blank_cards_are_sound() {
     for count in [2, 41, 160, 400, 1024] {
         for (name, source) in [
@@ -280,6 +302,53 @@ fn what_arrives_stands_in_the_shapes() {
     let booked = draw(&sheet(&met), Choice::Booked);
     // The other item is asked for by the film.
     assert!(page(&booked).contains(">night<"));
+}
+
+/// An item with an open shape, and a link that it ignores to a card with no shape.
+const OPEN: &str = "\
+kinds: guest note
+open shape Item = guest[1;]@Guest
+shape Guest = nothing
+card quiz
+card ann
+card memo
+link quiz guest ann
+link quiz note memo
+link memo note quiz
+book quiz Item
+";
+
+#[test]
+fn an_open_shape_is_marked_and_what_it_ignores_is_drawn() {
+    let sheet = sheet(OPEN);
+    let drawing = is_sound("open", &sheet);
+    let text = page(&drawing);
+    assert!(text.contains(">Item…<") && text.contains(">Guest<"), "{text}");
+    assert!(!text.contains(">Item<") && !text.contains(">Guest…<"), "{text}");
+    assert!(text.contains(">Item… = guest[1;]@Guest<") && text.contains(">Guest = nothing<"));
+    assert!(text.contains(">an open shape ignores other links<"));
+    let (layout, _) = picture(&drawing);
+    let drawn = |from: usize, to: usize| {
+        let mut routes = layout.routes.iter();
+        routes.any(|route| (route.arrow.from, route.arrow.to) == (from, to))
+    };
+    assert!(drawn(0, 1) && drawn(0, 2) && drawn(2, 0));
+    let closed = draw(&self::sheet(&OPEN.replace("open shape", "shape")), Choice::All);
+    assert!(!page(&closed).contains('…') && !page(&closed).contains("an open shape"));
+}
+
+#[test]
+fn the_chip_of_an_open_shape_ends_so_however_long_its_name_is() {
+    let name = "endless".repeat(20);
+    let source = OPEN.replace("Item", &name);
+    let drawing = is_sound("a long name", &sheet(&source));
+    let texts = drawing.pages.iter().flat_map(|page| &page.texts);
+    let chips: Vec<&str> = texts
+        .map(|words| words.text.as_str())
+        .filter(|text| text.starts_with("endless") && text.ends_with('…'))
+        .collect();
+    assert_eq!(chips.len(), 1, "{chips:?}");
+    assert!(chips[0].len() < name.len());
 }
 
 #[test]

@@ -8,13 +8,13 @@ use prep_tools::numbers::{Kind, Shape};
 use prep_tools::random::Random;
 use prep_tools::refusal::Refusal;
 use prep_tools::samples::{self, questions};
-use prep_tools::template::{self, Part};
+use prep_tools::template::{self, Definition, Part};
 
 #[test]
 fn intervals_and_enumeration_agree_on_random_samples() {
     let mut random = Random::new(11);
     let samples = 20_000;
-    let (mut yes, mut arriving, mut ignoring) = (0, 0, 0);
+    let (mut yes, mut arriving, mut ignoring, mut open) = (0, 0, 0, 0);
     for _ in 0..samples {
         let question = questions::question(&mut random);
         let by_intervals = fit::fit(&question.template, question.shape, &question.counts);
@@ -27,16 +27,21 @@ fn intervals_and_enumeration_agree_on_random_samples() {
         let template = template::read(&question.template).expect("a sample's template is well-formed");
         let named = template.part(Shape(question.shape)).named(template.kinds);
         let counts = Labelled::from(question.counts);
-        let arrives = |is_named: bool| {
+        let has = |way: Way, is_named: bool| {
             let mut labels = counts.iter().filter(|(_, count)| **count > 0);
-            labels.any(|(label, _)| label.way == Way::Incoming && named[label].is_some() == is_named)
+            labels.any(|(label, _)| label.way == way && named[label].is_some() == is_named)
         };
-        arriving += usize::from(arrives(true));
-        ignoring += usize::from(arrives(false));
+        arriving += usize::from(has(Way::Incoming, true));
+        ignoring += usize::from(has(Way::Incoming, false));
+        open += usize::from(has(Way::Outgoing, false));
+        assert!(!has(Way::Outgoing, false) || template.definition(Shape(question.shape)).open);
     }
-    let told = format!("{yes} fit, {arriving} with arriving links, {ignoring} with ignored ones");
+    let told = format!(
+        "{yes} fit, {arriving} with arriving links, {ignoring} with ignored ones, {open} by an open shape"
+    );
     assert!(yes > samples / 4 && yes < samples * 3 / 4, "{told}");
     assert!(arriving > samples / 10 && ignoring > samples / 10, "{told}");
+    assert!(open > samples / 20, "{told}");
 }
 
 #[test]
@@ -59,20 +64,71 @@ fn samples_fit_alike_whichever_way_their_kinds_run() {
     let turned = samples::turned();
     for sample in samples::table() {
         let start = format!("{}-{}-{}-", sample.label, sample.counts[0], sample.counts[1]);
-        for (name, part, counts) in turned.iter().filter(|(name, _, _)| name.starts_with(&start)) {
-            let named = part.named(2);
+        for (name, shape, counts) in turned.iter().filter(|(name, _, _)| name.starts_with(&start)) {
+            let looked_at = shape.looked_at(2);
             // What arrives and isn't named is ignored, so then the sample says nothing.
-            let is_ignored = |label: Label| label.way == Way::Incoming && named[label].is_none();
-            if !counts
+            if counts
                 .iter()
-                .any(|(label, count)| *count > 0 && is_ignored(label))
+                .all(|(label, count)| *count == 0 || looked_at[label])
             {
-                assert_eq!(intervals::fits(part, counts), sample.fits, "{name}");
+                assert_eq!(intervals::fits(shape, counts), sample.fits, "{name}");
             }
-            assert_eq!(intervals::fits(part, counts), bags::fits(part, counts), "{name}");
+            assert_eq!(
+                intervals::fits(shape, counts),
+                bags::fits(shape, counts),
+                "{name}"
+            );
         }
     }
     assert!(turned.len() > 30, "only {} samples", turned.len());
+}
+
+#[test]
+fn open_shapes_fit_by_the_kinds_that_they_name() {
+    let closed = samples::turned();
+    let opened = samples::opened();
+    let mut ignoring = 0;
+    for (name, shape, counts) in &opened {
+        assert!(shape.open, "{name}");
+        assert_eq!(
+            intervals::fits(shape, counts),
+            bags::fits(shape, counts),
+            "{name}"
+        );
+        // The closed twin fits the same counts without those that are ignored.
+        let looked_at = shape.looked_at(2);
+        let mut fewer = counts.clone();
+        for label in Label::all(2).filter(|label| !looked_at[*label]) {
+            fewer[label] = 0;
+        }
+        let twin = Definition::closed(shape.part.clone());
+        assert_eq!(
+            intervals::fits(shape, counts),
+            intervals::fits(&twin, &fewer),
+            "{name}"
+        );
+        let is_ignored = fewer.values()[..2] != counts.values()[..2];
+        assert!(!is_ignored || !intervals::fits(&twin, counts), "{name}");
+        ignoring += usize::from(is_ignored && intervals::fits(shape, counts));
+    }
+    assert!(
+        opened.len() > 25 && opened.len() < closed.len(),
+        "{}",
+        opened.len()
+    );
+    assert!(ignoring > 10, "{ignoring} ignore something and fit");
+}
+
+#[test]
+fn the_open_sample_of_the_page() {
+    for fit in [fit::fit, fit::fit_by_bags] {
+        let template = [2, 1, 5, 18, 256, 0, 1, 1];
+        assert_eq!(fit(&template, 0, &[1, 7, 0, 0]), Ok(true));
+        assert_eq!(fit(&template, 0, &[2, 7, 0, 0]), Ok(false));
+        let closed = [2, 1, 4, 256, 0, 1, 1];
+        assert_eq!(fit(&closed, 0, &[1, 7, 0, 0]), Ok(false));
+        assert_eq!(fit(&[1, 1, 2, 18, 0], 0, &[8192, 8192]), Ok(true));
+    }
 }
 
 #[test]
@@ -94,14 +150,16 @@ fn intervals_and_enumeration_agree_on_all_counts_of_small_parts() {
         [Label::incoming(Kind(0)), Label::incoming(Kind(1))],
     ];
     for labels in labels {
-        for part in small_parts(labels) {
-            let ready = Ready::new(&part, 2);
+        for (number, part) in small_parts(labels).into_iter().enumerate() {
+            let open = number % 4 == 0;
+            let shape = Definition { open, part };
+            let ready = Ready::new(&shape, 2);
             for counts in some_counts(labels) {
-                let answer = bags::fits(&part, &counts);
-                assert_eq!(intervals::fits(&part, &counts), answer, "{part:?} {counts:?}");
+                let answer = bags::fits(&shape, &counts);
+                assert_eq!(intervals::fits(&shape, &counts), answer, "{shape:?} {counts:?}");
                 let present = counts.iter().filter(|(_, count)| **count > 0);
                 let present = present.fold(0, |bits, (label, _)| bits | bit(label));
-                assert_eq!(ready.fits(&counts, present), answer, "{part:?} {counts:?}");
+                assert_eq!(ready.fits(&counts, present), answer, "{shape:?} {counts:?}");
             }
         }
     }
@@ -174,7 +232,7 @@ fn large_counts_fit_by_intervals() {
         let fits = |part: Part, count| {
             let mut counts = Labelled::new(1, 0);
             counts[label] = count;
-            intervals::fits(&part, &counts)
+            intervals::fits(&Definition::closed(part), &counts)
         };
         let one = |low, high, count| fits(link(label, (low, high)), count);
         assert!(one(8192, Some(8192), 8192));

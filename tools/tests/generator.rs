@@ -48,7 +48,7 @@ fn the_limits_are_reached() {
         assert_eq!(files.bookings[0], 1024);
         assert!(sheet::typings(&files.bytes()).is_ok());
         let template = template::read(&files.template).expect("the template is well-formed");
-        let most = template.parts.iter().map(|part| part.links().len()).max();
+        let most = template.parts().map(|part| part.links().len()).max();
         assert_eq!(most, Some(128), "some shape names each kind each way");
     }
 }
@@ -56,7 +56,7 @@ fn the_limits_are_reached() {
 /// The labels that a template names, of each shape.
 fn labels(template: &Template) -> impl Iterator<Item = Vec<Label>> + '_ {
     let of_part = |part: &Part| part.links().iter().map(|link| link.label).collect();
-    template.parts.iter().map(of_part)
+    template.parts().map(of_part)
 }
 
 #[test]
@@ -82,7 +82,7 @@ fn templates_name_links_both_ways() {
             }
             _ => false,
         };
-        wrapped += usize::from(template.parts.iter().any(is_wrapped));
+        wrapped += usize::from(template.parts().any(is_wrapped));
     }
     let told = format!(
         "{ways:?} name both, outgoing, incoming; {together} a kind both ways; {wrapped} in star or plus"
@@ -273,7 +273,7 @@ fn deep_and_wide_parts_come_up() {
     for _ in 0..80 {
         let words = derived(&mut random, FULL).template;
         let read = template::read(&words).expect("a generated template is well-formed");
-        deep += usize::from(read.parts.iter().any(|part| part.depth() == 12));
+        deep += usize::from(read.parts().any(|part| part.depth() == 12));
         wide += usize::from(words.windows(2).any(|two| two == [17, 16]));
         many_words += usize::from(words.len() > 3000);
     }
@@ -322,7 +322,7 @@ type Tally = [usize; 2];
 fn cards_that_few_links_touch_come_up_with_and_without_a_shape() {
     let mut tallies: BTreeMap<&str, Tally> = BTreeMap::new();
     let mut random = Random::new(34);
-    for _ in 0..1200 {
+    for _ in 0..1800 {
         let scale = generate::scale(&mut random);
         let files = generate::any(&mut random, scale);
         let setting =

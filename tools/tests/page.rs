@@ -51,26 +51,28 @@ fn the_page_has_an_example_of_every_refusal() {
         .chain(30..=33)
         .chain(40..=43)
         .chain([50])
-        .chain(60..=63);
+        .chain(60..=64);
     assert_eq!(shown, listed.map(|number: u16| number.to_string()).collect());
 }
 
 #[test]
-fn the_page_shows_links_that_arrive() {
+fn the_page_shows_links_that_arrive_and_open_shapes() {
     let examples = examples::read(&the_page()).expect("the page can be read");
-    let arriving = examples
-        .iter()
-        .filter(|example| example.question.template.contains(&320));
-    let shown: Vec<Operation> = arriving.map(|example| example.question.operation).collect();
-    for operation in [
-        Operation::Template,
-        Operation::Fit,
-        Operation::Sheet,
-        Operation::Closure,
-        Operation::Met,
-        Operation::Judge,
-    ] {
-        assert!(shown.contains(&operation), "{operation:?}");
+    for word in [320, 18] {
+        let with_word = examples
+            .iter()
+            .filter(|example| example.question.template.contains(&word));
+        let shown: Vec<Operation> = with_word.map(|example| example.question.operation).collect();
+        for operation in [
+            Operation::Template,
+            Operation::Fit,
+            Operation::Sheet,
+            Operation::Closure,
+            Operation::Met,
+            Operation::Judge,
+        ] {
+            assert!(shown.contains(&operation), "{word}: {operation:?}");
+        }
     }
 }
 
@@ -83,6 +85,9 @@ fn a_printer_is_shown_counts_both_ways() {
         ("| `1 1 4 320 0 1 2` | 0 | `1 2` | `no` |\n", 0),
         ("| `2 1 4 320 0 1 2` | 0 | `0 0 2 9` | `yes` |\n", 0),
         ("| `64 1 1 0` | 0 | `0*64 1*64` | `yes` |\n", 0),
+        ("| `2 1 5 18 320 0 1 2` | 0 | `3 4 2 9` | `yes` |\n", 0),
+        ("| `2 1 5 18 256 0 1 2` | 0 | `3 4 2 9` | `no` |\n", 0),
+        ("| `2 1 5 18 256 0 1 2` | 0 | `3 4 0 0` | `yes` |\n", 1),
         ("| `1 1 4 320 0 1 2` | 0 | `0 3` | `yes` |\n", 1),
     ] {
         let mut told = Vec::new();

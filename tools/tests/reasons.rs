@@ -7,7 +7,7 @@ use prep_tools::labels::{Label, Labelled, Way};
 use prep_tools::numbers::Kind;
 use prep_tools::random::Random;
 use prep_tools::script::ScriptLink;
-use prep_tools::template::Part;
+use prep_tools::template::Definition;
 use prep_tools::text::check::{run, Sheet};
 use prep_tools::text::load::load_sheet;
 use prep_tools::text::misfit::misfit;
@@ -42,7 +42,7 @@ fn counted(numbers: [u16; 3]) -> Labelled<u16> {
 }
 
 /// How many links must be added or taken away at least, by trying all counts up to `most`.
-fn least_distance(part: &Part, counts: [u16; 3], most: u16) -> Option<u64> {
+fn least_distance(shape: &Definition, counts: [u16; 3], most: u16) -> Option<u64> {
     let base = most + 1;
     let numbers = (0..base.pow(3)).map(|code| [code % base, code / base % base, code / base / base]);
     let distance = |other: [u16; 3]| -> u64 {
@@ -50,7 +50,7 @@ fn least_distance(part: &Part, counts: [u16; 3], most: u16) -> Option<u64> {
         pairs.map(|(one, two)| u64::from(one.abs_diff(two))).sum()
     };
     numbers
-        .filter(|other| fits(part, &counted(*other)))
+        .filter(|other| fits(shape, &counted(*other)))
         .map(distance)
         .min()
 }
@@ -68,21 +68,23 @@ fn a_misfit_is_told_by_the_nearest_counts_that_fit() {
             bounds: small_bounds,
         };
         let part = maker.part(&labels, 4);
+        let open = random.chance(1, 4);
+        let shape = Definition { open, part };
         let numbers = [0; 3].map(|_: u16| random.word(0, 4));
         let counts = counted(numbers);
-        let told = misfit(&part, &counts);
-        assert_eq!(told.is_none(), fits(&part, &counts), "{part:?} {counts:?}");
+        let told = misfit(&shape, &counts);
+        assert_eq!(told.is_none(), fits(&shape, &counts), "{shape:?} {counts:?}");
         let distance = told.as_ref().map_or(0, |misfit| misfit.distance());
         missed += u32::from(distance > 0);
         let lacks = told.map_or(Vec::new(), |misfit| misfit.lacks);
         arriving += u32::from(lacks.iter().any(|lack| lack.label.way == Way::Incoming));
         // Nearer counts than those told lie within this many links of the card's.
         let most = 4 + distance.min(7) as u16;
-        let least = least_distance(&part, numbers, most);
+        let least = least_distance(&shape, numbers, most);
         if distance <= 7 {
-            assert_eq!(Some(distance), least, "{part:?} {counts:?}");
+            assert_eq!(Some(distance), least, "{shape:?} {counts:?}");
         } else {
-            assert!(least.is_none_or(|least| least > 7), "{part:?} {counts:?}");
+            assert!(least.is_none_or(|least| least > 7), "{shape:?} {counts:?}");
         }
     }
     let told = format!("{missed} counts don't fit, {arriving} of them by what arrives");
@@ -120,7 +122,7 @@ fn each_pair_that_is_struck_has_a_root() {
                 at = *next;
             }
             let counts = sheet.setting.script.counts_of(at.0, sheet.setting.template.kinds);
-            assert!(!fits(sheet.setting.template.part(at.1), &counts));
+            assert!(!fits(sheet.setting.template.definition(at.1), &counts));
         }
     }
     assert!(steps.iter().all(|count| *count > 30), "{steps:?}");
@@ -277,6 +279,45 @@ fn a_card_asks_for_the_one_that_points_at_it() {
         told(sheet.not_met().expect("the booking isn't met")),
         "The quiz can't be an Item: 1 film wanted, 0 there"
     );
+}
+
+#[test]
+fn links_that_are_not_named_are_a_reason_for_closed_shapes_only() {
+    let source = "kinds: a b\nshape End = nothing\nopen shape Item = a[3;3]@End\nshape Pair = a[2;2]@End\n\
+                  open shape Any = all(a[4;4]@End, ^b[0;0]@End)\ncard x\ncard y\nlink x b y\nbook x Item\n";
+    let report = run("x.txt", source).expect("the text is a sheet").report("x.txt");
+    for told in [
+        "x.txt:6:6: x can't be an Item: 3 a wanted, 0 there\n",
+        "x.txt:6:6: x has no shape\n  \
+         not an End: no b wanted, 1 there\n  \
+         not an Item: 3 a wanted, 0 there\n  \
+         not an Any: 4 a wanted, 0 there\n  \
+         not Pair: it has links of kinds that aren't wanted there\n",
+    ] {
+        assert!(report.contains(told), "{report}");
+    }
+    assert!(!report.contains("y has no shape"), "{report}");
+}
+
+#[test]
+fn an_open_shape_is_told_by_the_kinds_that_it_names() {
+    let source = "kinds: guest film\nopen shape Item = guest[1;1]@Guest\nshape Guest = nothing\ncard quiz\n\
+                  card ann\ncard f1\nlink quiz guest ann\nlink quiz film f1\nlink ann film f1\n\
+                  link f1 film quiz\nbook quiz Item\n";
+    let sheet = run("x.txt", source).expect("the text is a sheet");
+    let roots = Roots::new(&sheet.setting);
+    let told = cannot(
+        &sheet.text,
+        &reason(&sheet, &roots, sheet.booked[0]).expect("the pair isn't met"),
+    );
+    // The film has no shape either, but it isn't asked for.
+    assert_eq!(
+        told,
+        "quiz can't be an Item: its guest ann can't be a Guest: no film wanted, 1 there"
+    );
+    let met = run("x.txt", &source.replace("link ann film f1\n", "")).expect("the text is a sheet");
+    assert_eq!(met.not_met(), None);
+    assert!(met.bare(2) && !met.bare(0));
 }
 
 fn draft() -> Sheet {

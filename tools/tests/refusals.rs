@@ -87,7 +87,7 @@ fn template_4_a_missing_word() {
 
 #[test]
 fn template_5_an_unknown_code() {
-    for code in [4, 15, 18, 255, 384, 65535] {
+    for code in [4, 15, 19, 255, 384, 65535] {
         refused_part(&[code], 5, 3);
         refused_part(&[17, 2, 0, code], 5, 6);
     }
@@ -207,6 +207,67 @@ fn template_12_words_left() {
 }
 
 #[test]
+fn template_64_the_code_of_an_open_shape() {
+    accepted(&[1, 1, 2, 18, 0]);
+    refused(&[1, 1, 1, 18], 4, 4);
+    refused(&[1, 1, 3, 18, 18, 0], 64, 4);
+    refused(&[1, 1, 3, 1, 18, 0], 64, 4);
+    refused(&[1, 1, 5, 17, 2, 0, 18, 0], 64, 6);
+    refused(&[1, 1, 4, 17, 18, 0, 0], 11, 4);
+    refused(&[1, 1, 6, 18, 256, 0, 1, 1, 0], 12, 8);
+    accepted(&template_of(1, &[&[vec![18], vec![1; 11], vec![0]].concat()]));
+    refused_part(&[vec![18], vec![1; 12], vec![0]].concat(), 6, 16);
+    refused_part(&[vec![1; 12], vec![18]].concat(), 6, 15);
+    // As deep as can be it is refused for itself, and a missing word comes before the depth.
+    refused_part(&[vec![1; 11], vec![18]].concat(), 64, 14);
+    refused_part(&[vec![18], vec![1; 11], vec![18]].concat(), 64, 15);
+    refused_part(&[vec![18], vec![1; 12]].concat(), 4, 16);
+    // The words behind it aren't looked at.
+    refused_part(&[3, 18], 64, 4);
+    refused_part(&[16, 2, 18, 99], 64, 5);
+    refused_part(&[18, 18], 64, 4);
+    refused_part(&[18, 19], 5, 4);
+    // A count that reaches past the end comes first, and a shape may end behind it though the template goes on.
+    refused(&[1, 1, 3, 18, 18], 4, 5);
+    refused(&[1, 2, 1, 18, 1, 0], 4, 4);
+    refused(&[1, 2, 0, 18, 0], 4, 3);
+}
+
+#[test]
+fn open_shapes_are_read_where_they_stand() {
+    let open = |words: &[u16]| {
+        let template = template::read(words).expect("the template is well-formed");
+        let open = template.definitions.iter().map(|shape| shape.open);
+        (open.collect::<Vec<bool>>(), template)
+    };
+    let nothing: &[u16] = &[0];
+    let (found, template) = open(&template_of(1, &[&[18, 0], nothing, &[18, 256, 0, 18, 18]]));
+    assert_eq!(found, [true, false, true]);
+    assert_eq!(template::write(&template).len(), 13);
+    // A shape, a low, a high, a count of words and counts of kinds and shapes are what they are.
+    let mut shapes = vec![nothing; 19];
+    shapes[0] = &[256, 18, 18, 18];
+    assert_eq!(open(&template_of(1, &shapes)).0, [false; 19]);
+    assert_eq!(open(&template_of(18, &[nothing; 18])).0, [false; 18]);
+    assert_eq!(open(&template_of(1, &[&filler(18).words()])).0, [false]);
+    refused(&template_of(1, &shapes[..18]), 9, 4);
+    accepted(&template_of(1, &[&[18, 0][..]; 32]));
+    // The faults of links in open shapes are told where they are.
+    refused_part(&[18, 257, 9, 9999, 0], 7, 4);
+    refused_part(&[18, 17, 2, 256, 0, 0, 0, 256, 9, 9999, 0], 8, 10);
+    refused_part(&[18, 256, 1, 9999, 0], 9, 5);
+    refused_part(&[18, 256, 0, 18, 17], 10, 6);
+    refused_part(&[18, 256, 0, 0], 4, 7);
+    let full = [vec![18], filler(4092).words()].concat();
+    accepted(&template_of(1, &[&full]));
+    refused(
+        &template_of(1, &[&[vec![18], filler(4093).words()].concat()]),
+        1,
+        0,
+    );
+}
+
+#[test]
 fn fit_41_to_43() {
     let template = [2, 1, 4, 256, 0, 0, 8192];
     assert_eq!(fit(&template, 0, &[8192, 0, 0, 0]), Ok(true));
@@ -226,6 +287,12 @@ fn fit_41_to_43() {
     }
     assert_eq!(fit(&template, 1, &[9000]), Err(Refusal::at(42, 0)));
     assert_eq!(fit(&[2, 1], 1, &[0]), Err(Refusal::at(4, 2)));
+    // Counts that an open shape ignores are looked at too.
+    let open = [2, 1, 2, 18, 0];
+    assert_eq!(fit(&open, 0, &[8192; 4]), Ok(true));
+    assert_eq!(fit(&open, 0, &[8192, 8193, 0, 0]), Err(Refusal::at(43, 1)));
+    assert_eq!(fit(&open, 0, &[8192; 2]), Err(Refusal::at(41, 0)));
+    assert_eq!(fit(&[2, 1, 3, 18, 18, 0], 1, &[0]), Err(Refusal::at(64, 4)));
 }
 
 fn script_refused(words: &[u16], number: u16, place: usize) {

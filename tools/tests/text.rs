@@ -2,6 +2,7 @@
 
 use prep_tools::generate;
 use prep_tools::generate::arriving::GUESTS;
+use prep_tools::generate::open::{ONE_MORE, TOLERANT};
 use prep_tools::generate::special::document;
 use prep_tools::random::Random;
 use prep_tools::refusal::Refusal;
@@ -9,7 +10,7 @@ use prep_tools::sheet::{self, Files};
 use prep_tools::text::check;
 use prep_tools::text::compile::compile;
 use prep_tools::text::form::{form, Form};
-use prep_tools::text::load::load_sheet;
+use prep_tools::text::load::{load_sheet, tell_refusal};
 use prep_tools::text::parse::{parse, MOST_HEIGHT};
 use prep_tools::text::{quotations, roles, write};
 use prep_tools::typing::Smallest;
@@ -85,6 +86,77 @@ fn what_arrives_has_its_words() {
     assert_eq!(bytes(&written), files.bytes());
 }
 
+/// The sheet with an open shape of docs/FORMAT.md.
+const OPEN_SHEET: &str = "\
+kinds: a b
+open shape First = a[1;1]@Second
+shape Second = nothing
+card zero
+card one
+card two
+link zero a one
+link zero b two
+book zero First
+";
+
+#[test]
+fn an_open_shape_has_its_words() {
+    let files = Files {
+        template: TOLERANT.to_vec(),
+        script: ONE_MORE.to_vec(),
+        bookings: vec![1, 0, 0],
+    };
+    assert_eq!(bytes(OPEN_SHEET), files.bytes());
+    let written = write::text(&files.bytes()).expect("the words are a sheet");
+    assert!(written.contains("\nopen shape Shape0 = kind0[1;1]@Shape1\nshape Shape1 = nothing\n"));
+    assert_eq!(bytes(&written), files.bytes());
+    // The word may still be a name.
+    let names = OPEN_SHEET
+        .replace("First", "open")
+        .replace("zero", "open")
+        .replace(" a", " open");
+    assert_eq!(bytes(&names), files.bytes());
+    let sheet = check::run("x.txt", OPEN_SHEET).expect("the text is a sheet");
+    assert_eq!(sheet.both.smallest.0, Smallest::Pairs(2));
+    let closed = OPEN_SHEET.replace("open shape", "shape");
+    let sheet = check::run("x.txt", &closed).expect("the text is a sheet");
+    assert!(matches!(sheet.both.smallest.0, Smallest::NotMet(..)));
+}
+
+#[test]
+fn the_word_18_is_told_with_its_role() {
+    let role = roles::template_role(&TOLERANT, 3);
+    assert_eq!(role, "the code that makes shape 0 open");
+    let role = roles::template_role(&TOLERANT, 4);
+    assert_eq!(role, "the code of the link of kind 0 in shape 0, at depth 1");
+    let told = |template: &[u16]| {
+        let files = Files {
+            template: template.to_vec(),
+            script: vec![0, 0],
+            bookings: vec![0],
+        };
+        match load_sheet("x", &files.bytes()) {
+            Ok(_) => panic!("the words aren't a sheet"),
+            Err(trouble) => trouble.to_string(),
+        }
+    };
+    assert_eq!(
+        told(&[1, 1, 3, 1, 18, 0]),
+        "x: refused 64 4: the code of an open shape isn't the first word of a shape\n  \
+         word 4 of the template is 18: the code that makes a shape open, where a part's code is wanted in shape 0, \
+         at depth 2"
+    );
+    assert!(told(&[1, 1, 3, 18, 18, 0]).ends_with("wanted in shape 0, at depth 1"));
+    assert!(told(&[1, 1, 1, 18])
+        .ends_with("the template has no word 4: the code of a part in shape 0, at depth 1"));
+    // A program may refuse the word of a text; it comes from the word `open`.
+    let told = tell_refusal("x.txt", OPEN_SHEET.as_bytes(), Refusal::at(5, 3)).to_string();
+    assert_eq!(
+        told,
+        "x.txt:2:1: refused 5 3: unknown code\n  word 3 of the template is 18: the code that makes shape First open"
+    );
+}
+
 #[test]
 fn the_shapes_of_the_description_are_read() {
     let description = include_str!("../TEXT-FORM.md");
@@ -104,20 +176,37 @@ fn the_shapes_of_the_description_are_read() {
 }
 
 #[test]
+fn the_open_shape_of_the_description_is_read() {
+    let description = include_str!("../TEXT-FORM.md");
+    let (_, after) = description
+        .split_once("unless the shape is open:\n\n")
+        .expect("there is such a shape");
+    let shapes = after.lines().map_while(|line| line.strip_prefix("    "));
+    let shapes: Vec<&str> = shapes.collect();
+    let links = "link quiz guest ann\nlink quiz note memo\nlink memo note memo\nbook quiz Item\n";
+    let source = format!("{}\ncard quiz\ncard ann\ncard memo\n{links}", shapes.join("\n"));
+    let sheet = check::run("x.txt", &source).expect("the shapes are read");
+    assert_eq!(sheet.both.smallest.0, Smallest::Pairs(2));
+    assert!(sheet.bare(2));
+}
+
+#[test]
 fn words_come_back_from_their_text() {
-    let (mut compared, mut arriving) = (0, 0);
-    for case in generate::cases(31, 900) {
+    let (mut compared, mut arriving, mut open) = (0, 0, 0);
+    for case in generate::cases(31, 1100) {
         match write::text(&case.bytes) {
             Ok(text) => {
                 assert_eq!(bytes(&text), case.bytes, "{}", case.name);
                 compared += 1;
                 arriving += usize::from(text.contains('^'));
+                open += usize::from(text.contains("\nopen shape "));
             }
             Err(message) => assert!(message.starts_with("input: refused "), "{message}"),
         }
     }
-    let told = format!("{compared} inputs are well-formed, {arriving} of them with arriving links");
-    assert!(compared > 300 && arriving > 150, "{told}");
+    let told =
+        format!("{compared} inputs are well-formed, {arriving} with arriving links, {open} with open shapes");
+    assert!(compared > 300 && arriving > 150 && open > 150, "{told}");
 }
 
 #[test]
@@ -193,6 +282,22 @@ const FAULTS: &[(&str, &str)] = &[
     (
         "kinds: a\nshape A = a[0;65535]@A",
         "x.txt:2:15: 65535 can't be written",
+    ),
+    (
+        "kinds: a\nopen",
+        "x.txt:2:5: `shape` is wanted here, not the end of the line",
+    ),
+    (
+        "kinds: a\nopen card x",
+        "x.txt:2:6: `shape` is wanted here, not `card`",
+    ),
+    (
+        "kinds: a\nopen open shape A = nothing",
+        "x.txt:2:6: `shape` is wanted here, not `open`",
+    ),
+    (
+        "kinds: a\nshape A = open nothing",
+        "x.txt:2:16: `[` is wanted here, not `nothing`",
     ),
     ("kinds: a a", "x.txt:1:10: the kind `a` is named twice"),
     ("kinds: all", "x.txt:1:8: a kind can't be named `all`"),
@@ -438,6 +543,7 @@ fn a_text_written_out_has_the_same_words_and_names() {
     for source in [
         DOCUMENT,
         GUEST_SHEET,
+        OPEN_SHEET,
         include_str!("../../examples/prep/programme.txt"),
         include_str!("../../examples/prep/draft.txt"),
     ] {
@@ -514,7 +620,7 @@ fn every_number_has_words() {
         .chain(20..=25)
         .chain(30..=33)
         .chain(40..=43)
-        .chain(60..=63);
+        .chain(60..=64);
     for number in numbers {
         assert_ne!(Refusal::at(number, 0).meaning(), "a refusal that isn't known");
     }

@@ -1,16 +1,17 @@
 //! Both typings: rounds against links, choices against the one choice that counts, and what both promise.
 
 use prep_tools::generate::arriving::{BOTH_ENDS, GUESTS};
-use prep_tools::generate::heavy::{densest, densest_both_ways, ring};
+use prep_tools::generate::heavy::{densest, densest_both_ways, densest_open, ring};
+use prep_tools::generate::open::{ONE_MORE, STRICT, TOLERANT};
 use prep_tools::generate::special::{chain, longest};
 use prep_tools::generate::turns::{chain_back, longest_back, zigzag};
 use prep_tools::generate::{self, MIDDLE, SMALL, TINY};
 use prep_tools::labels::{Label, Way};
 use prep_tools::numbers::{Card, Shape};
 use prep_tools::random::Random;
-use prep_tools::script::End;
-use prep_tools::sheet::Files;
-use prep_tools::template::Part;
+use prep_tools::script::{links_of_card, End};
+use prep_tools::sheet::{self, Files};
+use prep_tools::template::{Definition, Part};
 use prep_tools::typing::judge::can_be_tried;
 use prep_tools::typing::met::{chosen_for, holds, lies_below, met, met_by_choices, sound};
 use prep_tools::typing::{bookings, closure, links, rounds, Largest, Pair, Setting, Smallest};
@@ -38,8 +39,16 @@ fn setting(files: &Files) -> Setting {
 
 /// Whether a shape of the template names what arrives.
 fn names_arriving(setting: &Setting) -> bool {
-    let mut links = setting.template.parts.iter().flat_map(Part::links);
+    let mut links = setting.template.parts().flat_map(Part::links);
     links.any(|link| link.label.way == Way::Incoming)
+}
+
+/// Whether the pair's shape is open and ignores a link that starts at its card.
+fn ignores(setting: &Setting, (card, shape): Pair) -> bool {
+    let starts = |end: &&End| end.label.way == Way::Outgoing;
+    let all = setting.script.ends_of(card).iter().filter(starts).count();
+    let looked_at = chosen_for(setting, (card, shape));
+    looked_at.iter().filter(starts).count() < all
 }
 
 #[test]
@@ -66,17 +75,19 @@ fn each_link_has_an_end_at_both_its_cards() {
 
 #[test]
 fn rounds_and_links_find_the_same_largest_typing() {
-    let (mut many_rounds, mut arriving) = (0, 0);
+    let (mut many_rounds, mut arriving, mut open) = (0, 0, 0);
     for (files, setting) in sheets(21, 800) {
         let by_rounds = rounds::largest(&setting);
         assert_eq!(by_rounds, links::largest(&setting), "{files:?}");
         let is_long = by_rounds.0.rounds > 3;
         many_rounds += usize::from(is_long);
         arriving += usize::from(is_long && names_arriving(&setting));
+        open += usize::from(is_long && setting.template.definitions.iter().any(|shape| shape.open));
     }
-    let told =
-        format!("{many_rounds} sheets take more than 3 rounds, {arriving} of them with arriving links");
-    assert!(many_rounds > 80 && arriving > 50, "{told}");
+    let told = format!(
+        "{many_rounds} sheets take more than 3 rounds, {arriving} of them with arriving links, {open} with open shapes"
+    );
+    assert!(many_rounds > 80 && arriving > 50 && open > 30, "{told}");
 }
 
 #[test]
@@ -112,7 +123,8 @@ fn the_largest_is_sound_and_the_smallest_lies_between() {
 #[test]
 fn a_pair_is_met_if_and_only_if_some_choice_of_shapes_is_a_bag() {
     let mut random = Random::new(23);
-    let (mut compared, mut yes, mut arriving, mut arriving_yes) = (0, 0, 0, 0);
+    // How many aren't met and how many are: of all, of those with arriving links, of those that ignore a link.
+    let (mut all, mut arriving, mut ignoring) = ([0, 0], [0, 0], [0, 0]);
     for (files, setting) in sheets(23, 400)
         .into_iter()
         .filter(|(_, setting)| setting.script.cards <= 5)
@@ -126,25 +138,22 @@ fn a_pair_is_met_if_and_only_if_some_choice_of_shapes_is_a_bag() {
                 .filter(|pair| can_be_tried(&setting, &grid, *pair))
             {
                 let answer = met(&setting, &grid, pair);
-                assert_eq!(
-                    answer,
-                    met_by_choices(&setting, &grid, pair),
-                    "{pair:?} {grid:?} {files:?}"
-                );
-                compared += 1;
-                yes += usize::from(answer);
+                let by_choices = met_by_choices(&setting, &grid, pair);
+                assert_eq!(answer, by_choices, "{pair:?} {grid:?} {files:?}");
                 let ends = chosen_for(&setting, pair);
-                if ends.iter().any(|end| end.label.way == Way::Incoming) {
-                    arriving += 1;
-                    arriving_yes += usize::from(answer);
-                }
+                let arrives = ends.iter().any(|end| end.label.way == Way::Incoming);
+                all[usize::from(answer)] += 1;
+                arriving[usize::from(answer)] += usize::from(arrives);
+                ignoring[usize::from(answer)] += usize::from(ignores(&setting, pair));
             }
         }
     }
-    let told = format!("{yes} of {compared} are met, {arriving_yes} of {arriving} with arriving links");
-    assert!(compared > 2000 && yes > 500 && yes < compared - 500, "{told}");
+    let told = format!("{all:?}, {arriving:?} with arriving links, {ignoring:?} ignore a link");
+    for (tally, least) in [(all, 500), (arriving, 50), (ignoring, 100)] {
+        assert!(tally.iter().all(|count| *count > least), "{told}");
+    }
     assert!(
-        arriving > 300 && arriving_yes > 50 && arriving_yes < arriving - 50,
+        all.iter().sum::<usize>() > 2000 && arriving.iter().sum::<usize>() > 300,
         "{told}"
     );
 }
@@ -189,6 +198,56 @@ fn a_link_to_itself_counts_at_both_ends_which_choose_apart() {
         assert_eq!(met(&setting, &grid, pair), is_met, "{grid:?}");
         assert_eq!(met_by_choices(&setting, &grid, pair), is_met, "{grid:?}");
     }
+}
+
+#[test]
+fn an_open_shape_ignores_the_links_that_it_does_not_name() {
+    let setting = Setting::read(&TOLERANT, &ONE_MORE).expect("well-formed");
+    assert_eq!(largest(&setting), (answer(2, 3, 0), vec![1, 0, 0, 1, 0, 1]));
+    let booked = bookings::read(&setting, &[1, 0, 0]).expect("well-formed");
+    let smallest = closure::smallest(&setting, &booked);
+    assert_eq!(smallest, (Smallest::Pairs(2), vec![1, 0, 0, 1, 0, 0]));
+    // Card 2 need not have a shape, card 1 must.
+    let pair = (Card(0), Shape(0));
+    assert_eq!(chosen_for(&setting, pair).len(), 1);
+    for (grid, is_met) in [([1, 0, 0, 1, 0, 0], true), ([1, 0, 0, 0, 0, 1], false)] {
+        assert_eq!(met(&setting, &grid, pair), is_met, "{grid:?}");
+        assert_eq!(met_by_choices(&setting, &grid, pair), is_met, "{grid:?}");
+    }
+    let setting = Setting::read(&STRICT, &ONE_MORE).expect("well-formed");
+    assert_eq!(largest(&setting), (answer(2, 4, 1), vec![0, 0, 0, 1, 0, 1]));
+    let smallest = closure::smallest(&setting, &booked);
+    assert_eq!(smallest, (Smallest::NotMet(Card(0), Shape(0)), vec![0; 6]));
+}
+
+#[test]
+fn an_open_sheet_is_printed_as_its_typings_are() {
+    let print = |template: &[u16]| {
+        let files = Files {
+            template: template.to_vec(),
+            script: ONE_MORE.to_vec(),
+            bookings: vec![1, 0, 0],
+        };
+        sheet::print(&files.bytes())
+    };
+    let largest = "largest 2 3 0\ncard 0: 0\ncard 1: 1\ncard 2: 1\n";
+    let smallest = "smallest 2\ncard 0: 0\ncard 1: 1\ncard 2:\n";
+    assert_eq!(print(&TOLERANT), format!("{largest}{smallest}"));
+    let largest = "largest 2 4 1\ncard 0:\ncard 1: 1\ncard 2: 1\n";
+    assert_eq!(print(&STRICT), format!("{largest}smallest no 0 0\n"));
+}
+
+#[test]
+fn an_ignored_link_is_a_link() {
+    // Card 0 has a link of kind 1 alone, to card 1, which has one of kind 1 to itself: neither is blank, neither fits.
+    let script = [3, 2, 0, 1, 1, 1, 1, 1];
+    let setting = Setting::read(&TOLERANT, &script).expect("well-formed");
+    assert_eq!(largest(&setting), (answer(2, 5, 2), vec![0, 0, 0, 0, 0, 1]));
+    assert_eq!(links_of_card(&TOLERANT, &script, 0), [0, 1, 1]);
+    // Its target has no shape, and a shape that takes every card keeps it.
+    let any = [2, 1, 5, 18, 256, 0, 0, 0];
+    let setting = Setting::read(&any, &[2, 2, 0, 1, 1, 1, 0, 1]).expect("well-formed");
+    assert_eq!(largest(&setting), (answer(2, 1, 1), vec![1, 0]));
 }
 
 #[test]
@@ -299,7 +358,7 @@ fn the_densest_sheets_are_at_every_limit() {
         assert_eq!((files.template[0], files.template[1]), (64, 32));
         assert_eq!((files.script[0], files.script[1]), (1024, 8192));
         let setting = setting(&files);
-        for part in &setting.template.parts {
+        for part in setting.template.parts() {
             let links = part.links();
             assert_eq!(links.len(), 30);
             let incoming = links.iter().filter(|link| link.label.way == Way::Incoming);
@@ -308,6 +367,18 @@ fn the_densest_sheets_are_at_every_limit() {
         let (found, _) = largest(&setting);
         assert!(found.rounds > 2 && found.struck > 16384, "{found:?}");
     }
+}
+
+#[test]
+fn the_densest_sheet_loses_nothing_if_its_shapes_are_open() {
+    let (closed, open) = (densest(), densest_open());
+    assert_eq!((open.template.len(), &open.template[..2]), (4096, &[64, 32][..]));
+    assert_eq!((&open.script, &open.bookings), (&closed.script, &closed.bookings));
+    let setting = setting(&open);
+    let is_dense = |shape: &Definition| shape.open && shape.part.links().len() == 30;
+    assert!(setting.template.definitions.iter().all(is_dense));
+    assert_eq!(links::largest(&setting).0, answer(1, 0, 0));
+    assert!(setting.pairs().any(|pair| ignores(&setting, pair)));
 }
 
 #[test]

@@ -1,6 +1,7 @@
 -- The tests decide.
 --   ok              no label stands twice and every shape is below S; ok-true: so it is where the test is true
---   others-exact    the test `othersZero` is true exactly where the labels that are looked at and not named count 0
+--   others-exact    a shape is open or passes the test `othersZero` exactly where the labels that it looks at and does
+--                   not name count 0
 --   fits-decided    the test `fits` is true exactly where the counts looked at fit; list-decided: for a list of counts
 -- Assumes nothing.
 use Prim.Native.Nat.{ℕ, zero, suc, _≤_, _<_}
@@ -120,27 +121,39 @@ module _ (p : Part) (w : ℕ → ℕ) where
       (eq-eqb (w labels) 0 (h labels (omega arith) (λ m. never-both (names-exact p labels .1 m) e)))))
 
 -- Counts of labels in which the outgoing ones that are no kinds are 0.
-module _ (p : Part) (w : ℕ → ℕ) (kinds : ℕ) (few : kinds ≤ maxKinds)
+module _ (isOpen : Bool) (p : Part) (w : ℕ → ℕ) (kinds : ℕ) (few : kinds ≤ maxKinds)
     (rest : (k : ℕ) → kinds ≤ k → k < maxKinds → w k ≡ 0) where
-  pub others-exact : (othersZero kinds p w ≡ true) ↔ ((k : ℕ) → (Names p k → ⊥) → seen p w k ≡ 0)
-  others-exact = (
-    λ e k n. bool-case (looksAt p k)
-        (λ l. seen-at p w k l ∙ ⊎-elim (λ h. outgoing-zero e k n h) (λ m. absurd (n m)) (looks-cases p k l))
-        (λ l. seen-not p w k l),
-    λ h. zero-others p w kinds (λ k l n. sym (seen-at p w k (looks-outgoing p k (omega arith))) ∙ h k n),
-  )
-    where
-      outgoing-zero : othersZero kinds p w ≡ true → (k : ℕ) → (Names p k → ⊥) → k < maxKinds → w k ≡ 0
-      outgoing-zero e k n h =
-          ⊎-elim (λ l. rest k l h) (λ l. others-zero p w kinds e k l n) (le-or-lt kinds k)
+  outgoing-zero : (isOpen || othersZero kinds p w) ≡ true → isOpen ≡ false → (k : ℕ) → (Names p k → ⊥) → k < maxKinds
+      → w k ≡ 0
+  outgoing-zero e shut k n h = ⊎-elim
+      (λ l. rest k l h)
+      (λ l. ⊎-elim
+      (λ o. never-both o shut) (λ z. others-zero p w kinds z k l n) (or-cases isOpen (othersZero kinds p w) e))
+      (le-or-lt kinds k)
 
-  -- what the part looks at fits exactly where the test is passed
-  pub fits-decided : (S : ℕ) → Single p → ShapesBelow S p → Fits S p (seen p w) ↔ (fits kinds p w ≡ true)
+  unnamed-zero : (isOpen || othersZero kinds p w) ≡ true → (k : ℕ) → (Names p k → ⊥) → seen isOpen p w k ≡ 0
+  unnamed-zero e k n = bool-case (looksAt isOpen p k)
+      (λ l. seen-at isOpen p w k l ∙ ⊎-elim
+      (λ m. absurd (n m)) (λ h. outgoing-zero e (h .0) k n (h .1)) (looks-cases isOpen p k l))
+      (λ l. seen-not isOpen p w k l)
+
+  zero-unnamed : ((k : ℕ) → (Names p k → ⊥) → seen isOpen p w k ≡ 0) → (isOpen || othersZero kinds p w) ≡ true
+  zero-unnamed h = bool-case isOpen
+      (λ o. or-left isOpen (othersZero kinds p w) o)
+      (λ shut. or-right isOpen (othersZero kinds p w)
+      (zero-others p w kinds (λ k l n.
+      sym (seen-at isOpen p w k (looks-outgoing isOpen p k shut (omega arith))) ∙ h k n)))
+
+  pub others-exact : ((isOpen || othersZero kinds p w) ≡ true) ↔ ((k : ℕ) → (Names p k → ⊥) → seen isOpen p w k ≡ 0)
+  others-exact = (unnamed-zero, zero-unnamed)
+
+  -- what the shape looks at fits exactly where the test is passed
+  pub fits-decided : (S : ℕ) → Single p → ShapesBelow S p → Fits S p (seen isOpen p w) ↔ (fits isOpen kinds p w ≡ true)
   fits-decided S one below =
       let fit = inside 1 (interval p w) in
-      let others = othersZero kinds p w in
-      let same = interval-alike (seen p w) w p (λ k n. seen-at p w k (looks-named p k n)) in
-      let by-interval = fits-exact S p (seen p w) one below in
+      let others = isOpen || othersZero kinds p w in
+      let same = interval-alike (seen isOpen p w) w p (λ k n. seen-at isOpen p w k (looks-named isOpen p k n)) in
+      let by-interval = fits-exact S p (seen isOpen p w) one below in
       let by-test = inside-exact 1 (interval p w) in (
         λ f.
             let (h, z) = by-interval .0 f in
@@ -152,7 +165,8 @@ module _ (p : Part) (w : ℕ → ℕ) (kinds : ℕ) (few : kinds ≤ maxKinds)
 
 -- A list with the counts of so many kinds each way.
 pub list-decided :
-    (S : ℕ) (p : Part) (kinds : ℕ) (counts : List ℕ) → kinds ≤ maxKinds → kinds ≤ length counts → Single p →
-    ShapesBelow S p → Fits S p (seen p (listed kinds counts)) ↔ (fits kinds p (listed kinds counts) ≡ true)
-list-decided S p kinds counts few room one below =
-    fits-decided p (listed kinds counts) kinds few (λ k l h. listed-none kinds counts k l h room) S one below
+    (S : ℕ) (isOpen : Bool) (p : Part) (kinds : ℕ) (counts : List ℕ) → kinds ≤ maxKinds → kinds ≤ length counts →
+    Single p → ShapesBelow S p →
+    Fits S p (seen isOpen p (listed kinds counts)) ↔ (fits isOpen kinds p (listed kinds counts) ≡ true)
+list-decided S isOpen p kinds counts few room one below =
+    fits-decided isOpen p (listed kinds counts) kinds few (λ k l h. listed-none kinds counts k l h room) S one below

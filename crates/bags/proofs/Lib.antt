@@ -1,7 +1,7 @@
 -- The laws of the bag language, lowest first.
 -- Powers, Copies, Totals: sums of i bags, of a link's bags, and their counts.
--- Repetitions, Exact: a part's interval, and Fits by it. Looking: what a shape looks at. Decide: the test for Fits.
--- Samples: P1 to P12.
+-- Repetitions, Exact: a part's interval, and Fits by it. Looking: what a shape looks at. Opening: open and closed
+-- shapes. Decide: the test for Fits. Samples: P1 to P12, and an open shape.
 -- Choosing: Met by counts.
 -- Spans: the same operations on two numbers. Adequate: the definitions are those of sections 2.1 and 3.2 of the paper.
 pub mod Powers
@@ -12,6 +12,7 @@ pub mod Intervals
 pub mod Repetitions
 pub mod Exact
 pub mod Looking
+pub mod Opening
 pub mod Decide
 pub mod Samples
 pub mod Choosing

@@ -1,5 +1,5 @@
--- What a shape looks at on a card: every outgoing label, and the incoming ones that it names.
---   looks-outgoing, looks-named, looks-cases   at which labels a part looks
+-- What a shape looks at on a card: every label that its part names, and every outgoing one if it is closed.
+--   looks-outgoing, looks-named, looks-cases   at which labels a shape looks; looks-open: an open one
 --   seen-at, seen-not, seen-alike              the counts that it looks at
 --   looked-exact    a neighbour is looked at exactly if it is one and its label is looked at
 --   looked-count    the count of a label over the neighbours looked at
@@ -7,131 +7,151 @@
 --   interval-alike  the interval of a part goes by the counts of its labels alone
 --   fits-alike      the test of counts goes by those and by those of the outgoing kinds
 -- Assumes nothing.
-use Prim.Native.Nat.{ℕ, zero, suc, _+_, _-_, _*_, _≤_, _<_}
+use Prim.Native.Nat.{ℕ, zero, suc, _+_, _-_, _≤_, _<_}
 use mathlib.Core.Path.{_≡_, refl, sym, _∙_, ap, ap₂, subst, fun-ext}
 use mathlib.Core.Logic.{_⊎_, inl, inr, ⊎-elim, _↔_}
-use mathlib.Core.Bool.{Bool, true, false, _&&_, _||_, cond, true≢false, false≢true}
+use mathlib.Core.Bool.{Bool, true, false, _&&_, _||_, not, cond, true≢false, false≢true}
 use mathlib.Core.List.{List, [], _∷_, List·Memᴰ, List·Memᴰ·head, List·Memᴰ·tail, List·Memᴰ·not-nil}
 use mathlib.Core.List.{List·Memᴰ·cases-cons}
 use native.Mathlib.Omega.{arith}
-use lib.ListN.{length, getD, take, drop, List·getD-eq-default}
+use lib.ListN.{length, getD, take, List·getD-eq-default}
 use lib.Seq.{getD-take, getD-drop, length-take-le}
 use lib.Dec.{eqb, ltb}
-use borrow.Author.Tests.{eqb-true, ne-eqb, lt-ltb, le-ltb, ltb-true, ltb-false}
+use borrow.Author.Tests.{lt-ltb, le-ltb, ltb-true, not-true}
 use Rattle.words.specs.Limits.{maxKinds}
-use Rattle.words.proofs.Bools.{never-both, bool-case, or-cases, or-left, or-right}
+use Rattle.words.proofs.Bools.{never-both, bool-case, and-first, and-second, and-both, or-cases, or-left, or-right}
 use Rattle.bags.specs.Label.{incoming, labelOf}
 use Rattle.bags.specs.Part.{Part, nothing, star, plus, optional, choice, all, link, Parts, none, more, Names}
 use Rattle.bags.specs.Part.{RunNames, names}
-use Rattle.bags.specs.Bag.{when, count}
+use Rattle.bags.specs.Bag.{when}
 use Rattle.bags.specs.Choice.{Neighbour, to}
 use Rattle.bags.specs.Look.{looksAt, seen, lookedAt, listed}
 use Rattle.bags.specs.Proposition.{labelCount}
-use Rattle.bags.specs.Interval.{Interval, add, meet, from, inside, allZero}
+use Rattle.bags.specs.Interval.{add, meet, from, inside, allZero}
 use Rattle.bags.specs.Interval.{starInterval, plusInterval, linkInterval}
 use Rattle.bags.specs.Interval.{runAllZero, interval, addRun, meetRun, othersZero, fits}
 use Rattle.bags.proofs.Totals.{when-no}
 use Rattle.bags.proofs.Naming.{names-exact}
 
 -- ---- labels
-module _ (p : Part) (k : ℕ) where
-  pub looks-outgoing : k < maxKinds → looksAt p k ≡ true
-  unfolding looksAt
-  looks-outgoing l = or-left (ltb k maxKinds) (names p k) (lt-ltb k maxKinds l)
+module _ (isOpen : Bool) (p : Part) (k : ℕ) where
+  -- outgoing, and of a closed shape
+  abbrev outward : Bool
+  outward = ltb k maxKinds && not isOpen
 
-  pub looks-named : Names p k → looksAt p k ≡ true
+  pub looks-outgoing : isOpen ≡ false → k < maxKinds → looksAt isOpen p k ≡ true
   unfolding looksAt
-  looks-named n = or-right (ltb k maxKinds) (names p k) (names-exact p k .1 n)
+  looks-outgoing shut l =
+      or-right (names p k) outward (and-both (ltb k maxKinds) (not isOpen) (lt-ltb k maxKinds l) (ap not shut))
 
-  pub looks-cases : looksAt p k ≡ true → (k < maxKinds) ⊎ Names p k
+  pub looks-named : Names p k → looksAt isOpen p k ≡ true
+  unfolding looksAt
+  looks-named n = or-left (names p k) outward (names-exact p k .1 n)
+
+  pub looks-cases : looksAt isOpen p k ≡ true → Names p k ⊎ ((isOpen ≡ false) × (k < maxKinds))
   unfolding looksAt
   looks-cases e = ⊎-elim
-      (λ l. inl (ltb-true k maxKinds l))
-      (λ n. inr (names-exact p k .0 n))
-      (or-cases (ltb k maxKinds) (names p k) e)
+      (λ n. inl (names-exact p k .0 n))
+      (λ o. inr (
+        not-true isOpen (and-second (ltb k maxKinds) (not isOpen) o),
+        ltb-true k maxKinds (and-first (ltb k maxKinds) (not isOpen) o),
+      ))
+      (or-cases (names p k) outward e)
+
+-- An open shape looks at just the labels that it names.
+pub looks-open : (p : Part) (k : ℕ) → (looksAt true p k ≡ true) ↔ Names p k
+looks-open p k = (
+  λ e. ⊎-elim (λ n. n) (λ o. never-both refl (o .0)) (looks-cases true p k e),
+  looks-named true p k,
+)
 
 -- ---- counts
-pub seen-at : (p : Part) (w : ℕ → ℕ) (k : ℕ) → looksAt p k ≡ true → seen p w k ≡ w k
-seen-at p w k e = ap (λ (b : Bool). when b (w k)) e
+pub seen-at : (isOpen : Bool) (p : Part) (w : ℕ → ℕ) (k : ℕ) → looksAt isOpen p k ≡ true → seen isOpen p w k ≡ w k
+seen-at isOpen p w k e = ap (λ (b : Bool). when b (w k)) e
 
-pub seen-not : (p : Part) (w : ℕ → ℕ) (k : ℕ) → looksAt p k ≡ false → seen p w k ≡ 0
-seen-not p w k e = ap (λ (b : Bool). when b (w k)) e
+pub seen-not : (isOpen : Bool) (p : Part) (w : ℕ → ℕ) (k : ℕ) → looksAt isOpen p k ≡ false → seen isOpen p w k ≡ 0
+seen-not isOpen p w k e = ap (λ (b : Bool). when b (w k)) e
 
--- Counts that agree where a part looks are seen alike.
-pub seen-alike : (p : Part) (w v : ℕ → ℕ) → ((k : ℕ) → looksAt p k ≡ true → w k ≡ v k) → seen p w ≡ seen p v
-seen-alike p w v h = fun-ext (λ k. bool-case (looksAt p k)
-    (λ e. seen-at p w k e ∙ h k e ∙ sym (seen-at p v k e))
-    (λ e. seen-not p w k e ∙ sym (seen-not p v k e)))
+-- Counts that agree where a shape looks are seen alike.
+pub seen-alike : (isOpen : Bool) (p : Part) (w v : ℕ → ℕ) → ((k : ℕ) → looksAt isOpen p k ≡ true → w k ≡ v k)
+    → seen isOpen p w ≡ seen isOpen p v
+seen-alike isOpen p w v h = fun-ext (λ k. bool-case (looksAt isOpen p k)
+    (λ e. seen-at isOpen p w k e ∙ h k e ∙ sym (seen-at isOpen p v k e))
+    (λ e. seen-not isOpen p w k e ∙ sym (seen-not isOpen p v k e)))
 
 -- ---- neighbours
-module _ (p : Part) (label far : ℕ) (ns : List Neighbour) where
-  looked-here : looksAt p label ≡ true → lookedAt p (to label far ∷ ns) ≡ to label far ∷ lookedAt p ns
+module _ (isOpen : Bool) (p : Part) (label far : ℕ) (ns : List Neighbour) where
+  looked-here : looksAt isOpen p label ≡ true
+      → lookedAt isOpen p (to label far ∷ ns) ≡ to label far ∷ lookedAt isOpen p ns
   unfolding lookedAt
-  looked-here e = ap (λ (b : Bool). cond b (to label far ∷ lookedAt p ns) (lookedAt p ns)) e
+  looked-here e = ap (λ (b : Bool). cond b (to label far ∷ lookedAt isOpen p ns) (lookedAt isOpen p ns)) e
 
-  looked-past : looksAt p label ≡ false → lookedAt p (to label far ∷ ns) ≡ lookedAt p ns
+  looked-past : looksAt isOpen p label ≡ false → lookedAt isOpen p (to label far ∷ ns) ≡ lookedAt isOpen p ns
   unfolding lookedAt
-  looked-past e = ap (λ (b : Bool). cond b (to label far ∷ lookedAt p ns) (lookedAt p ns)) e
+  looked-past e = ap (λ (b : Bool). cond b (to label far ∷ lookedAt isOpen p ns) (lookedAt isOpen p ns)) e
 
-module _ (p : Part) (k m : ℕ) where
-  looked-mem : (ns : List Neighbour) → List·Memᴰ (to k m) (lookedAt p ns)
-      → List·Memᴰ (to k m) ns × (looksAt p k ≡ true)
+module _ (isOpen : Bool) (p : Part) (k m : ℕ) where
+  looked-mem : (ns : List Neighbour) → List·Memᴰ (to k m) (lookedAt isOpen p ns)
+      → List·Memᴰ (to k m) ns × (looksAt isOpen p k ≡ true)
   unfolding lookedAt
   looked-mem [] h = absurd (List·Memᴰ·not-nil h)
-  looked-mem (to label far ∷ ns) h = bool-case (looksAt p label)
+  looked-mem (to label far ∷ ns) h = bool-case (looksAt isOpen p label)
       (λ e. ⊎-elim
       (λ q.
       let same : label ≡ k = cc in
-      (List·Memᴰ·head q, subst (λ (x : ℕ). looksAt p x ≡ true) same e))
+      (List·Memᴰ·head q, subst (λ (x : ℕ). looksAt isOpen p x ≡ true) same e))
       (λ d. let (r, l) = looked-mem ns d in (List·Memᴰ·tail r, l))
-      (List·Memᴰ·cases-cons (subst (List·Memᴰ (to k m)) (looked-here p label far ns e) h)))
+      (List·Memᴰ·cases-cons (subst (List·Memᴰ (to k m)) (looked-here isOpen p label far ns e) h)))
       (λ e.
-      let (r, l) = looked-mem ns (subst (List·Memᴰ (to k m)) (looked-past p label far ns e) h) in
+      let (r, l) = looked-mem ns (subst (List·Memᴰ (to k m)) (looked-past isOpen p label far ns e) h) in
       (List·Memᴰ·tail r, l))
 
-  mem-looked : (ns : List Neighbour) → List·Memᴰ (to k m) ns → looksAt p k ≡ true
-      → List·Memᴰ (to k m) (lookedAt p ns)
+  mem-looked : (ns : List Neighbour) → List·Memᴰ (to k m) ns → looksAt isOpen p k ≡ true
+      → List·Memᴰ (to k m) (lookedAt isOpen p ns)
   mem-looked [] h l = absurd (List·Memᴰ·not-nil h)
-  mem-looked (to label far ∷ ns) h l = bool-case (looksAt p label)
-      (λ e. subst (List·Memᴰ (to k m)) (sym (looked-here p label far ns e))
+  mem-looked (to label far ∷ ns) h l = bool-case (looksAt isOpen p label)
+      (λ e. subst (List·Memᴰ (to k m)) (sym (looked-here isOpen p label far ns e))
       (⊎-elim (λ q. List·Memᴰ·head q) (λ d. List·Memᴰ·tail (mem-looked ns d l)) (List·Memᴰ·cases-cons h)))
-      (λ e. subst (List·Memᴰ (to k m)) (sym (looked-past p label far ns e))
+      (λ e. subst (List·Memᴰ (to k m)) (sym (looked-past isOpen p label far ns e))
       (⊎-elim
       (λ q.
       let same : k ≡ label = cc in
-      never-both (subst (λ (x : ℕ). looksAt p x ≡ true) same l) e)
+      never-both (subst (λ (x : ℕ). looksAt isOpen p x ≡ true) same l) e)
       (λ d. mem-looked ns d l)
       (List·Memᴰ·cases-cons h)))
 
   pub looked-exact : (ns : List Neighbour)
-      → List·Memᴰ (to k m) (lookedAt p ns) ↔ (List·Memᴰ (to k m) ns × (looksAt p k ≡ true))
+      → List·Memᴰ (to k m) (lookedAt isOpen p ns) ↔ (List·Memᴰ (to k m) ns × (looksAt isOpen p k ≡ true))
   looked-exact ns = (looked-mem ns, λ h. mem-looked ns (h .0) (h .1))
 
 -- A label counts among the neighbours looked at what it counts among all, if it is looked at, else 0.
-module _ (p : Part) (label far : ℕ) (ns : List Neighbour) (k : ℕ) where
+module _ (isOpen : Bool) (p : Part) (label far : ℕ) (ns : List Neighbour) (k : ℕ) where
   -- one of two labels is looked at and the other is not
-  apart : {a b : Bool} → looksAt p label ≡ a → looksAt p k ≡ b → (a ≡ b → ⊥) → when (eqb k label) 1 ≡ 0
-  apart e l ne = when-no k label 1 (λ q. ne (sym e ∙ ap (looksAt p) (sym q) ∙ l))
+  apart : {a b : Bool} → looksAt isOpen p label ≡ a → looksAt isOpen p k ≡ b → (a ≡ b → ⊥) → when (eqb k label) 1 ≡ 0
+  apart e l ne = when-no k label 1 (λ q. ne (sym e ∙ ap (looksAt isOpen p) (sym q) ∙ l))
 
-  seen-more : labelCount (lookedAt p ns) k ≡ seen p (labelCount ns) k
-      → labelCount (lookedAt p (to label far ∷ ns)) k ≡ seen p (labelCount (to label far ∷ ns)) k
+  seen-more : labelCount (lookedAt isOpen p ns) k ≡ seen isOpen p (labelCount ns) k
+      → labelCount (lookedAt isOpen p (to label far ∷ ns)) k ≡ seen isOpen p (labelCount (to label far ∷ ns)) k
   seen-more rest =
       let more : ℕ → ℕ = labelCount (to label far ∷ ns) in
-      bool-case (looksAt p label)
-      (λ e. ap (λ (xs : List Neighbour). labelCount xs k) (looked-here p label far ns e)
-      ∙ bool-case (looksAt p k)
-      (λ l. omega (arith, rest, seen-at p (labelCount ns) k l, seen-at p more k l))
-      (λ l. omega (arith, rest, seen-not p (labelCount ns) k l, seen-not p more k l, apart e l true≢false)))
-      (λ e. ap (λ (xs : List Neighbour). labelCount xs k) (looked-past p label far ns e)
-      ∙ bool-case (looksAt p k)
-      (λ l. omega (arith, rest, seen-at p (labelCount ns) k l, seen-at p more k l, apart e l false≢true))
-      (λ l. omega (arith, rest, seen-not p (labelCount ns) k l, seen-not p more k l)))
+      let looked = seen-at isOpen p (labelCount ns) k in
+      let passed = seen-not isOpen p (labelCount ns) k in
+      bool-case (looksAt isOpen p label)
+      (λ e. ap (λ (xs : List Neighbour). labelCount xs k) (looked-here isOpen p label far ns e)
+      ∙ bool-case (looksAt isOpen p k)
+      (λ l. omega (arith, rest, looked l, seen-at isOpen p more k l))
+      (λ l. omega (arith, rest, passed l, seen-not isOpen p more k l, apart e l true≢false)))
+      (λ e. ap (λ (xs : List Neighbour). labelCount xs k) (looked-past isOpen p label far ns e)
+      ∙ bool-case (looksAt isOpen p k)
+      (λ l. omega (arith, rest, looked l, seen-at isOpen p more k l, apart e l false≢true))
+      (λ l. omega (arith, rest, passed l, seen-not isOpen p more k l)))
 
-pub looked-count : (p : Part) (ns : List Neighbour) (k : ℕ) → labelCount (lookedAt p ns) k ≡ seen p (labelCount ns) k
+pub looked-count : (isOpen : Bool) (p : Part) (ns : List Neighbour) (k : ℕ)
+    → labelCount (lookedAt isOpen p ns) k ≡ seen isOpen p (labelCount ns) k
 unfolding lookedAt
-looked-count p [] k = bool-case (looksAt p k)
-    (λ e. sym (seen-at p (labelCount []) k e)) (λ e. sym (seen-not p (labelCount []) k e))
-looked-count p (to label far ∷ ns) k = seen-more p label far ns k (looked-count p ns k)
+looked-count isOpen p [] k = bool-case (looksAt isOpen p k)
+    (λ e. sym (seen-at isOpen p (labelCount []) k e)) (λ e. sym (seen-not isOpen p (labelCount []) k e))
+looked-count isOpen p (to label far ∷ ns) k = seen-more isOpen p label far ns k (looked-count isOpen p ns k)
 
 -- ---- a list of counts
 module _ (kinds : ℕ) (counts : List ℕ) where
@@ -197,7 +217,7 @@ module _ (w v : ℕ → ℕ) where
       ap₂ _&&_ (others-alike p kinds (λ k l. h k (omega arith)))
       (ap (λ (n : ℕ). names p kinds || eqb n 0) (h kinds (omega arith)))
 
-  pub fits-alike : (p : Part) (kinds : ℕ) → ((k : ℕ) → k < kinds → w k ≡ v k)
-      → ((k : ℕ) → Names p k → w k ≡ v k) → fits kinds p w ≡ fits kinds p v
-  fits-alike p kinds outward named =
-      ap₂ _&&_ (ap (inside 1) (interval-alike p named)) (others-alike p kinds outward)
+  pub fits-alike : (isOpen : Bool) (p : Part) (kinds : ℕ) → ((k : ℕ) → k < kinds → w k ≡ v k)
+      → ((k : ℕ) → Names p k → w k ≡ v k) → fits isOpen kinds p w ≡ fits isOpen kinds p v
+  fits-alike isOpen p kinds outward named =
+      ap₂ _&&_ (ap (inside 1) (interval-alike p named)) (ap (_||_ isOpen) (others-alike p kinds outward))

@@ -4,8 +4,8 @@
 --   meet, add                the intersection, and the sums of a number of each
 --   linkInterval, starInterval, plusInterval   those of a link, and of a star and a plus over a part's
 --   interval                 the interval of a part for some counts
---   othersZero, fits         whether outgoing labels that a part does not name count 0; whether counts fit it, by its
---                            interval
+--   othersZero, fits         whether outgoing labels that a part does not name count 0; whether counts fit a shape,
+--                            open or closed, by the interval of its part
 -- This is a way to decide whether counts fit, for the evaluator and for tests; the promise is Bag's Fits.
 -- Assumes nothing.
 use Prim.Native.Nat.{ℕ, zero, suc, _+_, _/_, _≤_, min, max}
@@ -138,7 +138,7 @@ abbrev pub othersZero : ℕ → Part → (ℕ → ℕ) → Bool
 othersZero zero p w = true
 othersZero (suc k) p w = othersZero k p w && (names p k || eqb (w k) 0)
 
--- Whether the counts that a part looks at fit it, where outgoing labels that are no kinds count 0: 1 is in its
--- interval, and the outgoing kinds that it does not name count 0.
-abbrev pub fits : ℕ → Part → (ℕ → ℕ) → Bool
-fits kinds p w = inside 1 (interval p w) && othersZero kinds p w
+-- Whether the counts that a shape looks at fit it, where outgoing labels that are no kinds count 0: 1 is in its part's
+-- interval, and it is open or the outgoing kinds that the part does not name count 0.
+abbrev pub fits : Bool → ℕ → Part → (ℕ → ℕ) → Bool
+fits isOpen kinds p w = inside 1 (interval p w) && (isOpen || othersZero kinds p w)

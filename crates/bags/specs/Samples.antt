@@ -1,5 +1,5 @@
--- Samples of counts and whether they fit (docs/FORMAT.md, "Bags and counts"), as one table: P1 to P12.
---   samples     a part, the counts of two kinds, and whether they fit; no links arrive
+-- Samples of counts and whether they fit (docs/FORMAT.md, "Bags and counts"), as one table: P1 to P12, and open shapes.
+--   samples     a shape, the counts of two kinds, and whether they fit; no links arrive
 --   AllHold     each row's answer is that of Fits
 -- Assumes nothing.
 use Prim.Native.Nat.{ℕ}
@@ -9,9 +9,13 @@ use Rattle.bags.specs.Part.{at-most, Part, nothing, star, plus, choice, 
 use Rattle.bags.specs.Bag.{Fits}
 use Rattle.bags.specs.Look.{seen, listed}
 
--- A part, the counts of a and b, and the answer.
+-- Whether the shape is open, its part, the counts of a and b, and the answer.
 pub data Sample : Type 0 where
-  sample : Part → ℕ → ℕ → Bool → Sample
+  row : Bool → Part → ℕ → ℕ → Bool → Sample
+
+-- A row of a closed shape.
+abbrev pub sample : Part → ℕ → ℕ → Bool → Sample
+sample = row false
 
 -- a[low;high].
 abbrev pub a : ℕ → ℕ → Part
@@ -54,6 +58,10 @@ samples =
     -- P12
     ∷ sample (a 0 0) 1 0 false
     ∷ sample (a 0 0) 0 0 true
+    -- an open shape
+    ∷ row true nothing 2 7 true
+    ∷ row true (a 1 1) 1 7 true
+    ∷ row true (a 1 1) 2 7 false
     ∷ []
 
 -- X where the answer is yes, and not X where it is no.
@@ -67,7 +75,7 @@ countsOf x y = x ∷ y ∷ 0 ∷ 0 ∷ []
 
 -- A row is as the bags have it; both shapes of a table's links are 0, so 1 bounds them.
 abbrev pub Holds : Sample → Type 0
-Holds (sample p x y answer) = Says answer (Fits 1 p (seen p (listed 2 (countsOf x y))))
+Holds (row isOpen p x y answer) = Says answer (Fits 1 p (seen isOpen p (listed 2 (countsOf x y))))
 
 -- Every row is.
 abbrev pub AllHold : List Sample → Type 0

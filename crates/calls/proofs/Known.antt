@@ -42,7 +42,7 @@ module _ {template script names : List ℕ} {e : Extent} (k : Known template scr
   counts = countsOf (e .cards) (e .links)
 
   abbrev pub sheet : Sheet
-  sheet = sheetOf shaped counts script
+  sheet = sheetOf template shaped counts script
 
   pub asked : readSheet template script ≡ accepted sheet
   asked = sheet-asked template script shaped counts (k .opened .template-read) (k .opened .script-read)

@@ -19,7 +19,7 @@ use Rattle.words.specs.Sizes.{maxGrid}
 use Rattle.words.specs.Reading.{accepted}
 use Rattle.words.proofs.Places.{card-in, shape-in, place-of}
 use Rattle.board.specs.Machine.{Marks}
-use Rattle.template.specs.Template.{readTemplate}
+use Rattle.template.specs.Template.{opens, readTemplate}
 use Rattle.script.specs.Link.{neighbours}
 use Rattle.sheet.specs.Sheet.{Sheet, size}
 use Rattle.sheet.specs.Opened.{templateAs, Known}
@@ -35,7 +35,7 @@ use Rattle.calls.proofs.Rows.{byte-on}
 pub pairs-tested : {template script names : List ℕ} {e : Extent} {starts first next fitting : List ℕ}
     (k : Known template script names e) → LinksFound script e starts first next
     → ((parts : List Part) → readTemplate template ≡ accepted (templateAs (e .kinds) (e .shapes) parts)
-    → Fitted script e parts fitting)
+    → Fitted template script e parts fitting)
     → PairsTested template script names e starts first next fitting
 pairs-tested {template} {script} {e = e} {fitting = fitting} k links fit = record {
   links = links;
@@ -43,7 +43,7 @@ pairs-tested {template} {script} {e = e} {fitting = fitting} k links fit = recor
     template = template;
     known = k;
     asked = q;
-    fits = subst (λ (x : Sheet). Fitted script e (x .parts) fitting) (same-sheet k s q)
+    fits = subst (λ (x : Sheet). Fitted template script e (x .parts) fitting) (same-sheet k s q)
         (fit (k .opened .parts) (k .opened .template-read));
   };
 }
@@ -85,17 +85,18 @@ module _ {s : Sheet} {script names : List ℕ} {e : Extent} {grid : List ℕ} (t
   pub few : length grid ≤ maxGrid
   few = omega (arith, t .fits .full, few-pairs (t .known))
 
-  fitted : Fitted script e (t .known .opened .parts) grid
+  fitted : Fitted (t .template) script e (t .known .opened .parts) grid
   fitted = rw (ap (λ (x : Sheet). x .parts) same) (t .fits)
 
   pub marks : Marks grid
   marks p l =
       let one = read (t .known) .shapes .shapes-low in
       let inside : p < e .cards * e .shapes = omega (arith, t .fits .full) in
-      let part = getD (s .parts) (p % e .shapes) Part.nothing in
+      let shape = p % e .shapes in
+      let part = getD (s .parts) shape Part.nothing in
       let counts = labelCount (neighbours script (p / e .shapes) (e .links)) in
       subst (λ (x : ℕ). (getD grid x 0 ≡ 0) ⊎ (getD grid x 0 ≡ 1)) (place-of (e .shapes) one p)
-      (byte-one (fits (e .kinds) part counts) (t .fits .each (p / e .shapes) (p % e .shapes)
+      (byte-one (fits (opens (t .template) shape) (e .kinds) part counts) (t .fits .each (p / e .shapes) shape
       (card-in (e .shapes) one (e .cards) p inside) (shape-in (e .shapes) one p)))
 
   fits-right : FitsGrid (sheet (t .known)) grid

@@ -45,7 +45,7 @@ pub record SheetTested (s : Sheet) (script names : List ℕ) (e : Extent) (fitti
   pub template : List ℕ
   pub known : Known template script names e
   pub asked : readSheet template script ≡ accepted s
-  pub fits : Fitted script e (s .parts) fitting
+  pub fits : Fitted template script e (s .parts) fitting
 
 -- Where the links to each card stand, if some shape names an incoming kind.
 abbrev pub Arrivals : List ℕ → Extent → List ℕ → List ℕ → Type 0

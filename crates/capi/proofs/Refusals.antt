@@ -33,7 +33,8 @@ low-plain : (n : ℕ) → 1 ≤ n → n < 50 → Plain n
 low-plain n a b = plain-number n (λ e. absurd (omega arith)) (λ e. absurd (omega arith)) (λ e. absurd (omega arith))
 
 template-number : (n : ℕ) → TemplateNumber n → Plain n
-template-number n h = low-plain n (h .0) (omega (arith, h .1))
+template-number n h =
+    ⊎-elim (λ b. low-plain n (b .0) (omega (arith, b .1))) (λ e. subst Plain (sym e) (refl, refl)) h
 
 script-number : (n : ℕ) → ScriptNumber n → Plain n
 script-number n h = low-plain n (omega (arith, h .0)) (omega (arith, h .1))

@@ -1,7 +1,7 @@
 -- A reading that finds a part finds the one that stands at its place.
 -- Agrees        what a reading found, with its next place, is a placed part; a refusal agrees with any
 -- tree-read     a part that is read is `treeAt`'s
--- shape-tree    the part of an accepted template's shape is `treeAt`'s, after its count of words
+-- shape-tree    the part of an accepted template's shape is `treeAt`'s, where the shape's part starts
 -- Assumes nothing.
 use mathlib.Core.Path.{_≡_, refl, ap, sym}
 use mathlib.Core.Bool.{not}
@@ -18,8 +18,8 @@ use Rattle.words.proofs.Readings.{refuse-case}
 use Rattle.template.specs.declared.Sizes.{Sizes}
 use Rattle.template.specs.Reading.{Code, codeOf, Found, found, into, after, limitsOk, readLink, readRun, readPart}
 use Rattle.template.specs.Reading.{readCode, readGroup}
-use Rattle.template.specs.Template.{Placed, placed, onto, Template, readTemplate, noNames, sizesOf}
-use Rattle.template.specs.Machine.{shapePlace}
+use Rattle.template.specs.Template.{Placed, placed, onto, partAt, Template, readTemplate, noNames, sizesOf}
+use Rattle.template.specs.Template.{shapePlace}
 use Rattle.template.proofs.Accepted.{template-accepted}
 use Rattle.counts.specs.Trees.{linkAt, before, treesAt, treeBy, treeAt}
 
@@ -69,6 +69,7 @@ module _ (words : List ℕ) (end : ℕ) (sizes : Sizes) where
       ((next : ℕ) (row : List ℕ) → Agrees (f next row) (g next)) →
       Agrees (readCode k f words end sizes at row) (treeBy k g words at)
   code-agrees Code.nothing f g at row h = refl
+  code-agrees Code.opening f g at row h = tt
   code-agrees Code.unknown f g at row h = tt
   code-agrees (Code.single w) f g at row h = mapped-agrees w (f (at + 1) row) (g (at + 1)) (h (at + 1) row)
   code-agrees (Code.group w) f g at row h =
@@ -103,10 +104,10 @@ module _ (words : List ℕ) (end : ℕ) (sizes : Sizes) where
       readPart left words end sizes at row ≡ accepted (found p next names) → placed p next ≡ treeAt left words at
   tree-read left at row p next names h e = rw e at (part-agrees left at row h)
 
--- The part of an accepted template's shape is the one after the shape's count of words.
+-- The part of an accepted template's shape is the one where the shape's part starts.
 pub shape-tree :
     (words : List ℕ) (t : Template) (s : ℕ) → readTemplate words ≡ accepted t → s < t .shapes →
-    treeAt maxDepth words (shapePlace words s 2 + 1) .value ≡ getD (t .parts) s Part.nothing
+    treeAt maxDepth words (partAt words (shapePlace words s 2)) .value ≡ getD (t .parts) s Part.nothing
 shape-tree words t s e h =
     let shape = template-accepted words t e .shape s h in
     ap (λ (p : Placed Part). p .value)

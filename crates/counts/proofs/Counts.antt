@@ -1,5 +1,6 @@
 -- Counts of labels, walked from the first on.
--- others-named, others-zero, others-not   whether the labels that a part does not name count 0, one label more
+-- others-named, others-zero, others-not, others-all   whether the labels that a part does not name count 0: the test of
+--                                 each, and of all
 -- over-here, over-next, over-end  where the first count over 8,192 stands, from a place on
 -- over-none                       it stands nowhere if no count is over 8,192
 -- Assumes nothing.
@@ -33,19 +34,22 @@ module _ (p : Part) (w : ℕ → ℕ) where
       (λ b. others-at labels (and-first (othersZero labels p w) (names p labels || eqb (w labels) 0) e) i b)
       (last-or-below l)
 
+  pub others-all : (labels : ℕ) → ((i : ℕ) → i < labels → (names p i || eqb (w i) 0) ≡ true)
+      → othersZero labels p w ≡ true
+  others-all zero each = refl
+  others-all (suc labels) each =
+      and-both (othersZero labels p w) _ (others-all labels (λ i l. each i (omega arith))) (each labels (omega arith))
+
   module _ (i entry : ℕ) (same : entry ≡ named p i) where
     -- the test of label i, by its entry
     named-test : names p i ≡ not (eqb entry 0)
     named-test = named-names p i ∙ ap (λ (x : ℕ). not (eqb x 0)) (sym same)
 
-    more : (names p i || eqb (w i) 0) ≡ true → othersZero i p w ≡ true → othersZero (i + 1) p w ≡ true
-    more e h = rw add-one (and-both (othersZero i p w) _ h e)
+    pub others-named : (entry ≡ 0 → ⊥) → (names p i || eqb (w i) 0) ≡ true
+    others-named ne = or-left (names p i) (eqb (w i) 0) (named-test ∙ ap not (ne-eqb entry 0 ne))
 
-    pub others-named : (entry ≡ 0 → ⊥) → othersZero i p w ≡ true → othersZero (i + 1) p w ≡ true
-    others-named ne = more (or-left (names p i) (eqb (w i) 0) (named-test ∙ ap not (ne-eqb entry 0 ne)))
-
-    pub others-zero : w i ≡ 0 → othersZero i p w ≡ true → othersZero (i + 1) p w ≡ true
-    others-zero z = more (or-right (names p i) (eqb (w i) 0) (eq-eqb (w i) 0 z))
+    pub others-zero : w i ≡ 0 → (names p i || eqb (w i) 0) ≡ true
+    others-zero z = or-right (names p i) (eqb (w i) 0) (eq-eqb (w i) 0 z)
 
     pub others-not : (w i ≡ 0 → ⊥) → entry ≡ 0 → (labels : ℕ) → i < labels → false ≡ othersZero labels p w
     others-not ne none labels l = sym (is-false (λ t. ⊎-elim

@@ -1,18 +1,20 @@
 -- What the evaluator's steps answer for the tree at a place.
 -- evaluates-as, evaluates-from   the same answer for an equal tree, and from a place before
 -- part-small, run-small          a span is small enough to be added
--- fits-one, fits-not             what the interval says of fitting
+-- inside-one                     whether 1 is in the interval of a part
+-- fits-open, fits-closed, fits-not   what that says of fitting, for an open shape and for a closed one
 -- nothing-.., link-.., wrap-.., none-.., join-..   the answer of each leaf, from what its span stands for
 -- Assumes nothing.
 use mathlib.Core.Path.{_≡_, refl, ap, ap₂, sym, _∙_, subst}
-use mathlib.Core.Bool.{Bool, true, false, _&&_}
+use mathlib.Core.Bool.{Bool, true, false, _&&_, _||_}
 use mathlib.Core.List.{List}
 use Prim.Native.Nat.{ℕ, _+_, _-_, _*_, _≤_, _<_}
 use native.Mathlib.Omega.{arith}
 use borrow.Author.Tests.{eq-eqb, ne-eqb}
 use lib.ListN.{length}
 use lib.Dec.{eqb}
-use Rattle.words.specs.Limits.{maxTemplate}
+use Rattle.words.specs.Limits.{maxTemplate, maxDepth}
+use Rattle.words.proofs.Bools.{or-left, or-right}
 use Rattle.bags.specs.Part.{Part, Parts, Limit}
 use Rattle.bags.specs.Interval.{from, add, meet, starInterval, plusInterval, linkInterval, interval, inside}
 use Rattle.bags.specs.Interval.{othersZero, fits}
@@ -21,7 +23,8 @@ use Rattle.bags.specs.declared.Span.{Span}
 use Rattle.bags.proofs.Spans.{span, small-more, small-up}
 use Rattle.template.specs.Reading.{wrapped, gathered}
 use Rattle.counts.specs.declared.Eval.{Eval}
-use Rattle.template.specs.Template.{Placed, placed, onto}
+use Rattle.template.specs.Template.{Placed, placed, onto, openAt, partAt}
+use Rattle.template.proofs.Opening.{part-open, part-closed}
 use Rattle.counts.specs.Trees.{treesAt, treeAt}
 use Rattle.counts.specs.Evaluation.{Evaluates}
 use Rattle.counts.proofs.Sizes.{next-bound, nexts-bound}
@@ -185,18 +188,42 @@ module _ (w : ℕ → ℕ) (at : ℕ) where
                 (small-more _ all (rest .span) (omega arith) (q .small));
           })
 
--- Counts fit if 1 is in the interval, once the outgoing kinds that are not named count 0.
-module _
-    (w : ℕ → ℕ) (kinds at : ℕ) (t : Placed Part) (r : Bool) (others : r ≡ othersZero kinds (t .value) w)
-  where
-    pub fits-one :
-        (e : Eval) (one : Bool) → Evaluates w at t e → one ≡ inside 1 (view (e .span)) → r ≡ true →
-        one ≡ fits kinds (t .value) w
-    fits-one e one v h y =
-        h ∙ ap (inside 1) (v .span) ∙ sym (and-one (inside 1 (interval (t .value) w)))
-        ∙ ap (λ (b : Bool). inside 1 (interval (t .value) w) && b) (sym y ∙ others)
+-- 1 is in the interval that the evaluator found.
+pub inside-one :
+    (w : ℕ → ℕ) (at : ℕ) (t : Placed Part) (e : Eval) (one : Bool) → Evaluates w at t e →
+    one ≡ inside 1 (view (e .span)) → one ≡ inside 1 (interval (t .value) w)
+inside-one w at t e one v h = h ∙ ap (inside 1) (v .span)
 
-    pub fits-not : r ≡ false → false ≡ fits kinds (t .value) w
+-- Counts fit a shape if 1 is in its part's interval, and the shape is open or the outgoing kinds that are not named
+-- count 0.
+module _ (w : ℕ → ℕ) (kinds : ℕ) (words : List ℕ) (at : ℕ) where
+  abbrev tree : ℕ → Part
+  tree start = treeAt maxDepth words start .value
+
+  -- what is tested of the shape
+  abbrev Tested : Bool → Type 0
+  Tested r = r ≡ fits (openAt words at) kinds (tree (partAt words at)) w
+
+  -- the part starts there, and its other kinds pass the test
+  passed :
+      (start : ℕ) (one : Bool) → partAt words at ≡ start → one ≡ inside 1 (interval (tree start) w) →
+      (openAt words at || othersZero kinds (tree start) w) ≡ true → Tested one
+  passed start one q h y =
+      rw (q, y) (h ∙ sym (and-one (inside 1 (interval (tree start) w))))
+
+  pub fits-open :
+      (one : Bool) → openAt words at ≡ true → one ≡ inside 1 (interval (tree (at + 2)) w) → Tested one
+  fits-open one o h = passed (at + 2) one (part-open words at o) h (or-left (openAt words at) _ o)
+
+  module _ (r : Bool) (o : openAt words at ≡ false) (others : r ≡ othersZero kinds (tree (partAt words at)) w) where
+    at-start : r ≡ othersZero kinds (tree (at + 1)) w
+    at-start = rw (part-closed words at o) at others
+
+    pub fits-closed : (one : Bool) → r ≡ true → one ≡ inside 1 (interval (tree (at + 1)) w) → Tested one
+    fits-closed one y h =
+        passed (at + 1) one (part-closed words at o) h
+        (or-right (openAt words at) (othersZero kinds (tree (at + 1)) w) (sym at-start ∙ y))
+
+    pub fits-not : r ≡ false → Tested false
     fits-not n =
-        sym (and-none (inside 1 (interval (t .value) w)))
-        ∙ ap (λ (b : Bool). inside 1 (interval (t .value) w) && b) (sym n ∙ others)
+        rw (o, sym others ∙ n) (sym (and-none (inside 1 (interval (tree (partAt words at)) w))))

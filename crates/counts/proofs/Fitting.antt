@@ -5,6 +5,7 @@
 -- fit-…                               the answer at each return, with what leads there as premises
 -- fit-asked                           nothing is refused
 -- fit-said-unique                     what an answer says tells the answer
+-- yes-exact, no-exact                 yes is said exactly where the counts fit, and no where they do not
 -- answers-alike                       questions that fit alike have one answer
 -- fit-one-answer, fit-answer-unique   two answers that the contract allows are equal
 -- Assumes nothing.
@@ -17,7 +18,7 @@ use native.Mathlib.Omega.{arith}
 use borrow.Author.Tests.{le-leb, lt-leb, le-ltb, lt-ltb, eq-eqb, ne-eqb}
 use lib.ListN.{length, getD, take, drop, length-drop}
 use lib.Seq.{length-take-le, getD-take, getD-drop}
-use Rattle.words.specs.Said.{Said, refusal}
+use Rattle.words.specs.Said.{Said, values, refusal}
 use Rattle.words.specs.Limits.{maxLabels, maxDepth}
 use Rattle.words.specs.Sizes.{tableSize}
 use Rattle.words.specs.Reading.{Reading, accepted, turnedDown}
@@ -27,8 +28,8 @@ use Rattle.bags.specs.Named.{named}
 use Rattle.bags.specs.Bag.{count}
 use Rattle.bags.specs.Interval.{fits}
 use Rattle.bags.proofs.Decide.{list-decided}
-use Rattle.template.specs.Template.{Template, readTemplate, templateSays}
-use Rattle.template.specs.Machine.{Tabled, shapePlace}
+use Rattle.template.specs.Template.{openAt, partAt, shapePlace, Template, opens, readTemplate, templateSays}
+use Rattle.template.specs.Machine.{Tabled}
 use Rattle.template.proofs.Answers.{template-turned}
 use Rattle.template.proofs.Accepted.{template-accepted}
 use Rattle.counts.specs.declared.FitAnswer.{FitAnswer}
@@ -40,11 +41,12 @@ use Rattle.counts.specs.Machine.{Testable, Spread}
 use Rattle.counts.proofs.Agreement.{shape-tree}
 
 -- What is asked of a template that is read, where nothing is refused.
-abbrev pub question : Template → ℕ → List ℕ → Question
-question t shape counts =
+abbrev pub question : List ℕ → Template → ℕ → List ℕ → Question
+question words t shape counts =
     record {
       kinds = t .kinds;
       shapes = t .shapes;
+      isOpen = opens words shape;
       part = getD (t .parts) shape Part.nothing;
       counts = counts;
     }
@@ -55,12 +57,13 @@ module _ (words : List ℕ) (t : Template) (e : readTemplate words ≡ accepted 
   shape-fits :
       (counts labels : List ℕ) (kinds at : ℕ) → kinds ≡ t .kinds → kinds ≤ length counts → Spread counts kinds labels →
       at ≡ shapePlace words s 2 →
-      Fitting (question t s counts) ↔ (fits kinds (treeAt maxDepth words (at + 1) .value) (count labels) ≡ true)
+      Fitting (question words t s counts)
+      ↔ (fits (openAt words at) kinds (treeAt maxDepth words (partAt words at) .value) (count labels) ≡ true)
   shape-fits counts labels kinds at same room spread q =
       let a = template-accepted words t e in
       rw (q, shape-tree words t s e below, fun-ext (spread .exact), same)
-      (list-decided (t .shapes) (getD (t .parts) s Part.nothing) (t .kinds) counts (a .kinds-high) (omega arith)
-      (a .single s below) (a .shapes-below s below))
+      (list-decided (t .shapes) (opens words s) (getD (t .parts) s Part.nothing) (t .kinds) counts (a .kinds-high)
+      (omega arith) (a .single s below) (a .shapes-below s below))
 
   -- What `fits` asks, with the shape's row of the table of names.
   pub fits-asks :
@@ -84,7 +87,7 @@ module _ (words : List ℕ) (t : Template) (e : readTemplate words ≡ accepted 
             getD-take n (drop base names) k 0 i ∙ getD-drop base names k 0
             ∙ ap (λ (m : ℕ). getD names (m + k) 0) b ∙ table s k l j
             ∙ ap (λ (p : Part). named p k) (sym (shape-tree words t s e below))
-            ∙ ap (λ (m : ℕ). named (treeAt maxDepth words (m + 1) .value) k) (sym q);
+            ∙ ap (λ (m : ℕ). named (treeAt maxDepth words (partAt words m) .value) k) (sym q);
       }
 
 module _ (words : List ℕ) (shape : ℕ) (counts : List ℕ) where
@@ -126,7 +129,7 @@ module _ (words : List ℕ) (shape : ℕ) (counts : List ℕ) where
 
       -- Else nothing is refused.
       pub fit-asked :
-          length counts ≤ firstOver counts → fitQuestion words shape counts ≡ accepted (question t shape counts)
+          length counts ≤ firstOver counts → fitQuestion words shape counts ≡ accepted (question words t shape counts)
       unfolding fitQuestion
       fit-asked none =
           rw (
@@ -141,14 +144,15 @@ module _ (words : List ℕ) (shape : ℕ) (counts : List ℕ) where
           (place : ℕ) (first : place ≡ firstOver counts) (small : length counts ≤ place) (labels : List ℕ)
           (kinds at : ℕ) (same : kinds ≡ t .kinds) (spread : Spread counts kinds labels)
           (where-at : at ≡ shapePlace words shape 2) (r : Bool)
-          (test : r ≡ fits kinds (treeAt maxDepth words (at + 1) .value) (count labels))
+          (test : r ≡ fits (openAt words at) kinds (treeAt maxDepth words (partAt words at) .value) (count labels))
         where
-          by-test : Fitting (question t shape counts) ↔ (r ≡ true)
+          by-test : Fitting (question words t shape counts) ↔ (r ≡ true)
           by-test =
               rw test
               (shape-fits words t e shape below counts labels kinds at same (omega arith) spread where-at)
 
-          answered : (said : Said) → Answers (accepted (question t shape counts)) said → FitSays words shape counts said
+          answered :
+              (said : Said) → Answers (accepted (question words t shape counts)) said → FitSays words shape counts said
           answered said a = rw (fit-asked (omega arith)) a
 
           pub fit-yes : r ≡ true → FitSays words shape counts (fitSaid Yes)
@@ -171,6 +175,20 @@ fit-said-unique (Refused n p) (Refused m q) e =
     let i : n ≡ m = cc in
     let j : p ≡ q = cc in
     rw (i, j)
+
+-- Yes is said exactly where the counts fit, and no where they do not.
+module _ (a : Question) (said : Said) where
+  -- one is not both
+  one-word : {A : Type 0} → said ≡ values (1 ∷ []) → said ≡ values (0 ∷ []) → A
+  one-word e f = let z : _≡_ {A = ℕ} 1 0 = cc in absurd (omega arith)
+
+  pub yes-exact : Answers (accepted a) said → (said ≡ values (1 ∷ [])) ↔ Fitting a
+  yes-exact (inl p) = (λ e. p .0, λ f. p .1)
+  yes-exact (inr p) = (λ e. one-word e (p .1), λ f. absurd (p .0 f))
+
+  pub no-exact : Answers (accepted a) said → (said ≡ values (0 ∷ [])) ↔ (Fitting a → ⊥)
+  no-exact (inl p) = (λ e. one-word (p .1) e, λ n. absurd (n (p .0)))
+  no-exact (inr p) = (λ e. p .0, λ n. p .1)
 
 -- Questions that fit alike have one answer.
 pub answers-alike :

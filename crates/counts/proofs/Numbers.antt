@@ -18,8 +18,10 @@ use Rattle.counts.specs.Fit.{firstOver, asked, fitQuestion}
 abbrev pub FitNumber : ℕ → Type 0
 FitNumber n = TemplateNumber n ⊎ ((41 ≤ n) × (n ≤ 43))
 
-asked-numbers : (shape : ℕ) (counts : List ℕ) (t : Template) → Numbered FitNumber (asked shape counts t)
-asked-numbers shape counts t =
+asked-numbers :
+    (template : List ℕ) (shape : ℕ) (counts : List ℕ) (t : Template) →
+    Numbered FitNumber (asked template shape counts t)
+asked-numbers template shape counts t =
     refuse-numbered FitNumber 42 0 (leb (t .shapes) shape) _ (inr (omega arith))
     (refuse-numbered FitNumber 41 0 (not (eqb (length counts) (2 * t .kinds))) _ (inr (omega arith))
     (refuse-numbered FitNumber 43 (firstOver counts) (ltb (firstOver counts) (length counts)) _ (inr (omega arith)) tt))
@@ -29,6 +31,6 @@ pub fit-numbers :
     (template : List ℕ) (shape : ℕ) (counts : List ℕ) → Numbered FitNumber (fitQuestion template shape counts)
 unfolding fitQuestion
 fit-numbers template shape counts =
-    then-numbered FitNumber (readTemplate template) (asked shape counts)
+    then-numbered FitNumber (readTemplate template) (asked template shape counts)
     (numbered-map TemplateNumber FitNumber (readTemplate template) (λ n h. inl h) (template-numbers template))
-    (asked-numbers shape counts)
+    (asked-numbers template shape counts)

@@ -7,7 +7,7 @@ use Prim.Native.Nat.{ℕ, zero, suc, _+_, _-_, _<_}
 use native.Mathlib.Omega.{arith}
 use native.Mathlib.Numerals.{sub-one}
 use lib.ListN.{getD}
-use Rattle.template.specs.Machine.{shapePlace}
+use Rattle.template.specs.Template.{shapePlace}
 
 pub place-done : (words : List ℕ) (n at : ℕ) → n ≡ 0 → at ≡ shapePlace words n at
 unfolding shapePlace

@@ -32,6 +32,7 @@ module _ (words : List ℕ) where
       (inner : ℕ → Placed Part) → ((at : ℕ) → Ends words at (inner at)) → (at : ℕ) → at < length words → (k : Code) →
       Ends words at (treeBy k inner words at)
   code-ends inner h at l Code.nothing = omega arith
+  code-ends inner h at l Code.opening = omega arith
   code-ends inner h at l Code.unknown = omega arith
   code-ends inner h at l (Code.single f) = let a = h (at + 1) in omega arith
   code-ends inner h at l (Code.group f) =

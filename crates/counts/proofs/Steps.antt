@@ -6,12 +6,15 @@ use mathlib.Core.Path.{_≡_, ap, subst}
 use mathlib.Core.List.{List}
 use Prim.Native.Nat.{ℕ, _+_, _-_, _≤_, _<_}
 use native.Mathlib.Omega.{arith}
+use borrow.Author.Tests.{eqb-true, eqb-false}
 use lib.ListN.{length, getD}
+use lib.Dec.{eqb}
+use Rattle.words.proofs.Bools.{bool-case}
 use Rattle.bags.specs.Label.{firstLabel}
 use Rattle.bags.specs.Part.{Part, Parts}
 use Rattle.template.specs.Reading.{Code, codeOf, wrapped, gathered}
-use Rattle.template.proofs.Laws.{code-nothing, code-single, code-low, code-group, code-middle, code-link, code-high}
-use Rattle.template.proofs.Laws.{label-kind}
+use Rattle.template.proofs.Laws.{code-nothing, code-single, code-low, code-group, code-open, code-middle, code-link}
+use Rattle.template.proofs.Laws.{code-high, label-kind}
 use Rattle.counts.specs.declared.Eval.{Eval}
 use Rattle.template.specs.Template.{placed, onto}
 use Rattle.counts.specs.Trees.{linkAt, treesAt, treeBy, treeAt}
@@ -46,7 +49,11 @@ module _ (w : ℕ → ℕ) (words : List ℕ) (left at : ℕ) (e : Eval) where
     pub part-middle :
         18 ≤ getD words at 0 → getD words at 0 ≤ 255 → Evaluates w at (placed Part.nothing (at + 1)) e →
         Evaluates w at (treeAt left words at) e
-    part-middle a b v = by-code Code.unknown (code-middle _ a b) v
+    part-middle a b v = bool-case (eqb (getD words at 0) 18)
+        (λ e. by-code Code.opening (code-open (getD words at 0) (eqb-true (getD words at 0) 18 e)) v)
+        (λ e.
+        let over : 19 ≤ getD words at 0 = omega (arith, eqb-false (getD words at 0) 18 e) in
+        by-code Code.unknown (code-middle _ over b) v)
 
     pub part-high :
         384 ≤ getD words at 0 → Evaluates w at (placed Part.nothing (at + 1)) e →

@@ -16,7 +16,7 @@ use Rattle.bags.specs.Part.{Part}
 use Rattle.bags.specs.Bag.{count}
 use Rattle.bags.specs.Look.{listed}
 use Rattle.bags.specs.Named.{named}
-use Rattle.template.specs.Template.{Template, readTemplate, templateSays}
+use Rattle.template.specs.Template.{partAt, Template, readTemplate, templateSays}
 use Rattle.template.specs.Machine.{Tabled}
 use Rattle.counts.specs.Trees.{treeAt}
 
@@ -24,14 +24,14 @@ use Rattle.counts.specs.Trees.{treeAt}
 abbrev pub RowOf : List ℕ → ℕ → Part → Type 0
 RowOf row labels p = (k : ℕ) → k < labels → getD row k 0 ≡ named p k
 
--- The shape whose count of words stands at `at` is inside the words, and the row has its names for each outgoing kind,
--- which has a count.
+-- The shape whose count of words stands at `at` has a word, and the row has its names for each outgoing kind, which has
+-- a count.
 pub record Testable (words : List ℕ) (at : ℕ) (row counts : List ℕ) (kinds : ℕ) : Type 0 where
   pub words-high : length words ≤ maxTemplate
-  pub at-in : at < length words
+  pub at-in : at + 1 < length words
   pub kinds-in : kinds ≤ length row
   pub counted : kinds ≤ length counts
-  pub row-of : RowOf row kinds (treeAt maxDepth words (at + 1) .value)
+  pub row-of : RowOf row kinds (treeAt maxDepth words (partAt words at) .value)
 
 -- A list with the counts of so many kinds each way, and room for a count of each label, all 0.
 pub record SpreadAsked (counts : List ℕ) (kinds : ℕ) (labels : List ℕ) : Type 0 where

@@ -28,9 +28,10 @@ linkAt words at label =
     (Part.link label (getD words (at + 1) 0) (getD words (at + 2) 0) (limitOf (getD words (at + 3) 0)))
     (at + 4)
 
--- The part that a code starts; an unknown code is taken for nothing.
+-- The part that a code starts; one that starts no part is taken for nothing.
 abbrev pub treeBy : Code → (ℕ → Placed Part) → List ℕ → ℕ → Placed Part
 treeBy Code.nothing inner words at = placed Part.nothing (at + 1)
+treeBy Code.opening inner words at = placed Part.nothing (at + 1)
 treeBy Code.unknown inner words at = placed Part.nothing (at + 1)
 treeBy (Code.single f) inner words at = onto f (inner (at + 1))
 treeBy (Code.group f) inner words at = onto f (treesAt inner (getD words (at + 1) 0) (at + 2))

@@ -1,18 +1,16 @@
 // Whether counts of links fit a shape: the interval of repetitions of its part, from the template's words.
 // `part` evaluates a part and `run` a run of parts, and each calls the other.
 ghost use mathlib.Core.Path.{_≡_};
-ghost use mathlib.Core.Bool.{_&&_, _||_, not};
-ghost use lib.Dec.{eqb};
+ghost use mathlib.Core.Bool.{_&&_};
 ghost use Prim.Native.Nat.{ℕ, _+_, _≤_, _<_};
 ghost use lib.ListN.{length, getD};
 ghost use Rattle.words.specs.Limits.{maxTemplate, maxDepth};
 ghost use Rattle.bags.specs.Part.{Part, Parts};
 ghost use Rattle.bags.specs.Bag.{count};
-ghost use Rattle.bags.specs.Interval.{othersZero, fits as countsFit};
+ghost use Rattle.bags.specs.Interval.{inside, interval, othersZero, fits as countsFit};
 ghost use Rattle.bags.specs.Span.{Addable};
 ghost use Rattle.template.specs.Reading.{gathered};
-ghost use Rattle.template.specs.Template.{placed, onto};
-ghost use Rattle.template.specs.Machine.{shapePlace};
+ghost use Rattle.template.specs.Template.{placed, onto, openAt, partAt, shapePlace};
 ghost use Rattle.counts.specs.Answer.{fitSaid};
 ghost use Rattle.counts.specs.Fit.{firstOver, FitSays};
 ghost use Rattle.counts.specs.Trees.{linkAt, treeAt, treesAt};
@@ -29,6 +27,7 @@ use bags::plus_span;
 use bags::star_span;
 use template::Shape;
 use template::TemplateAnswer;
+use template::open_at;
 use template::read_names;
 use words::MAX_COUNT;
 use words::MAX_DEPTH;
@@ -147,7 +146,7 @@ fn join(code: u16, first: Eval, rest: Eval) -> Eval
     }
 }
 
-// The part at `at`, where `left` levels of parts are still allowed.
+// The part at `at`, where `left` levels of parts are still allowed. Most parts are links: they are looked for first.
 fn part(words: &[u16], counts: &[u16], at: usize, left: usize) -> Eval
     requires { ⌜ length (now words) ≤ maxTemplate ⌝ }
     ensures { λ r. ⌜ Evaluates (count (now (counts .entry))) at (treeAt left (now (words .entry)) at) r ⌝ }
@@ -159,14 +158,17 @@ fn part(words: &[u16], counts: &[u16], at: usize, left: usize) -> Eval
         return nothing(at);
     }
     let code = words[at];
+    if 256 <= code {
+        if 384 <= code {
+            return nothing(at + 1);
+        }
+        return link(words, counts, at, wide(code - 256));
+    }
     match code {
         0 => nothing(at + 1),
         1..=3 => wrap(code, part(words, counts, at + 1, left - 1)),
         4..=15 => nothing(at + 1),
         16..=17 => run(words, counts, at + 2, left - 1, word(words, at + 1), code),
-        18..=255 => nothing(at + 1),
-        256..=319 => link(words, counts, at, wide(code - 256)),
-        320..=383 => link(words, counts, at, wide(code - 256)),
         _ => nothing(at + 1),
     }
 }
@@ -205,12 +207,12 @@ fn others_zero(row: &[u8], counts: &[u16], kinds: usize) -> bool
     ensures { λ r. ⌜ ((p : Part) → RowOf (now (row .entry)) kinds p
         → r ≡ othersZero kinds p (count (now (counts .entry)))) ⌝ }
 {
-    let mut i = 0;
-    while i < kinds {
+    let mut i = kinds;
+    while i > 0 {
+        i -= 1;
         if counts[i] != 0 && row[i] == 0 {
             return false;
         }
-        i += 1;
     }
     true
 }
@@ -229,20 +231,32 @@ fn first_over(counts: &[u16]) -> usize
     i
 }
 
+// Whether the counts of the labels of the part at `at` fit it.
+fn part_fits(words: &[u16], counts: &[u16], at: usize) -> bool
+    requires { ⌜ length (now words) ≤ maxTemplate ⌝ }
+    ensures { λ r. ⌜ r ≡ inside 1 (interval (treeAt maxDepth (now (words .entry)) at .value)
+        (count (now (counts .entry)))) ⌝ }
+{
+    let whole = part(words, counts, at, MAX_DEPTH);
+    let span = whole.span;
+    has_one(span)
+}
+
 // Whether the counts of the labels fit the shape whose count of words stands at `at`.
 // The row is the shape's in the table of names.
 pub fn fits(words: &[u16], at: usize, row: &[u8], counts: &[u16], kinds: usize) -> bool
     requires { ⌜ Testable (now words) at (now row) (now counts) kinds ⌝ }
-    ensures { λ r. ⌜ r ≡ countsFit kinds (treeAt maxDepth (now (words .entry)) (at + 1) .value)
+    ensures { λ r. ⌜ r ≡ countsFit (openAt (now (words .entry)) at) kinds
+        (treeAt maxDepth (now (words .entry)) (partAt (now (words .entry)) at) .value)
         (count (now (counts .entry))) ⌝ }
 {
-    if others_zero(row, counts, kinds) {
-        let whole = part(words, counts, at + 1, MAX_DEPTH);
-        let span = whole.span;
-        has_one(span)
-    } else {
-        false
+    if open_at(words, at) {
+        return part_fits(words, counts, at + 2);
     }
+    if others_zero(row, counts, kinds) {
+        return part_fits(words, counts, at + 1);
+    }
+    false
 }
 
 // Spreads a list of counts, those of the outgoing kinds and then those of the incoming ones, over all labels.

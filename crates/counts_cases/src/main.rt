@@ -1,4 +1,5 @@
-// Fit counts on the samples P1 to P12, at the boundaries of its refusals, and on samples from standard input.
+// Fit counts on the samples P1 to P12, on open shapes, at the boundaries of its refusals, and on samples from standard
+// input.
 // A case's line is its label, if it has one, and `yes`, `no` or `refused NUMBER PLACE`.
 ghost use Prim.Native.Nat.{_≤_, _<_};
 ghost use mathlib.Core.Path.{_≡_};
@@ -114,6 +115,37 @@ fn choices() {
         &[2, 1, 10, 16, 2, 256, 0, 1, 1, 257, 0, 1, 1],
         0,
         0,
+    );
+}
+
+// An open shape: kinds that it does not name may count anything.
+fn tolerant() {
+    two(b"open a[1;1]: 1,7", &[2, 1, 5, 18, 256, 0, 1, 1], 1, 7);
+    two(b"open a[1;1]: 2,7", &[2, 1, 5, 18, 256, 0, 1, 1], 2, 7);
+    two(
+        b"open a[1;1]: 1,8192",
+        &[2, 1, 5, 18, 256, 0, 1, 1],
+        1,
+        8192,
+    );
+    two(
+        b"open a[1;1]: 1,8193",
+        &[2, 1, 5, 18, 256, 0, 1, 1],
+        1,
+        8193,
+    );
+    two(b"open nothing: 5,5", &[2, 1, 2, 18, 0], 5, 5);
+    show(
+        b"open ^a[1;1]: 9 leave, 1 arrives",
+        &[1, 1, 5, 18, 320, 0, 1, 1],
+        0,
+        &[9, 1],
+    );
+    show(
+        b"open ^a[1;1]: none leaves, 2 arrive",
+        &[1, 1, 5, 18, 320, 0, 1, 1],
+        0,
+        &[0, 2],
     );
 }
 
@@ -359,5 +391,6 @@ fn main() {
     guests();
     arriving();
     both_ways();
+    tolerant();
     stored();
 }

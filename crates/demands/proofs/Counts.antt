@@ -2,42 +2,37 @@
 --   counts-fit-exactly   "Fit counts" says 1 exactly where counts belong to the bag language
 --   card-fits-exactly    the counts of a card's own links are those of the neighbours that a shape looks at
 -- Assumes nothing.
-use Prim.Native.Nat.{ℕ, suc, _+_, _-_, _*_, _≤_, _<_}
-use mathlib.Core.Path.{_≡_, refl, sym, ap, _∙_, subst, fun-ext}
-use mathlib.Core.Logic.{_⊎_, inl, inr, ⊎-elim, _↔_}
+use Prim.Native.Nat.{ℕ, _+_, _-_, _*_, _≤_, _<_}
+use mathlib.Core.Path.{_≡_, sym, ap, _∙_, subst, fun-ext}
+use mathlib.Core.Logic.{⊎-elim, _↔_}
 use mathlib.Core.List.{List, [], _∷_}
 use native.Mathlib.Omega.{arith}
 use lib.ListN.{length, getD, List·getD-eq-default}
-use borrow.Author.Tests.{lt-leb, le-ltb, eq-eqb}
 use Rattle.words.specs.Limits.{maxKinds, maxCount}
 use Rattle.words.specs.Said.{Said, values}
 use Rattle.words.specs.Reading.{accepted}
 use Rattle.words.proofs.Bools.{le-or-lt}
-use Rattle.bags.specs.Label.{Way, outgoing, incoming, labelOf}
+use Rattle.bags.specs.Label.{outgoing, incoming, labelOf}
 use Rattle.bags.specs.Part.{Part}
 use Rattle.bags.specs.Bag.{Fits}
 use Rattle.bags.specs.Look.{seen, listed}
 use Rattle.bags.specs.Proposition.{labelCount}
 use Rattle.bags.proofs.Naming.{OfKindBelow, names-kind}
 use Rattle.bags.proofs.Looking.{looks-cases, seen-alike, looked-count, listed-outgoing, listed-none, listed-incoming}
-use Rattle.template.specs.Template.{Template, readTemplate}
+use Rattle.template.specs.Template.{opens, Template, readTemplate}
 use Rattle.script.specs.Link.{neighbours}
 use Rattle.script.specs.Counts.{cardCounts}
 use Rattle.script.proofs.Counts.{way-count, way-count-bound, card-counts-length, card-counts-out, card-counts-in}
-use Rattle.sheet.specs.Sheet.{Sheet, partOf, neighboursOf}
+use Rattle.sheet.specs.Sheet.{Sheet, partOf, opensOf, neighboursOf}
 use Rattle.sheet.proofs.Accepted.{SheetAccepted}
-use Rattle.counts.specs.Fit.{firstOver, fitQuestion, FitSays}
+use Rattle.counts.specs.Fit.{FitSays}
+use Rattle.counts.proofs.Counts.{over-none}
+use Rattle.counts.proofs.Fitting.{question, fit-asked, yes-exact, no-exact}
 use Rattle.typing.proofs.Instance.{countsOf, kind-in, none-past}
 use Rattle.demands.specs.Demands.{Formed}
 use Rattle.demands.proofs.Formed.{formed-template, formed-read}
 
 -- ---- any counts
--- Where no count is over 8,192, the first that is stands past the end.
-none-over : (counts : List ℕ) → ((k : ℕ) → getD counts k 0 ≤ maxCount) → length counts ≤ firstOver counts
-unfolding firstOver
-none-over [] low = omega arith
-none-over (w ∷ ws) low = rw (le-ltb maxCount w (low 0)) (omega (arith, none-over ws (λ k. low (suc k))))
-
 module _ (template : List ℕ) (t : Template) (read : readTemplate template ≡ accepted t)
     (shape : ℕ) (inside : shape < t .shapes)
     (counts : List ℕ) (whole : length counts ≡ 2 * t .kinds) (low : (k : ℕ) → getD counts k 0 ≤ maxCount) where
@@ -45,34 +40,15 @@ module _ (template : List ℕ) (t : Template) (read : readTemplate template ≡ 
   abbrev Fit : Type 0
   Fit =
       let part = getD (t .parts) shape Part.nothing in
-      Fits (t .shapes) part (seen part (listed (t .kinds) counts))
-
-  -- no test of "Fit counts" finds a fault
-  nothing-refused : fitQuestion template shape counts ≡ accepted (record {
-    kinds = t .kinds;
-    shapes = t .shapes;
-    part = getD (t .parts) shape Part.nothing;
-    counts = counts;
-  })
-  unfolding fitQuestion
-  nothing-refused = rw (
-    read,
-    lt-leb (t .shapes) shape inside,
-    eq-eqb (length counts) (2 * t .kinds) whole,
-    le-ltb (firstOver counts) (length counts) (none-over counts low),
-  ) refl
+      Fits (t .shapes) part (seen (opens template shape) part (listed (t .kinds) counts))
 
   pub counts-fit-exactly : (said : Said) → FitSays template shape counts said
       → ((said ≡ values (1 ∷ [])) ↔ Fit) × ((said ≡ values (0 ∷ [])) ↔ (Fit → ⊥))
-  counts-fit-exactly said x = by-answer (rw nothing-refused at x)
-    where
-      not-both : {A : Type 0} → said ≡ values (1 ∷ []) → said ≡ values (0 ∷ []) → A
-      not-both e f = let z : _≡_ {A = ℕ} 1 0 = cc in absurd (omega arith)
-
-      by-answer : (Fit × (said ≡ values (1 ∷ []))) ⊎ ((Fit → ⊥) × (said ≡ values (0 ∷ [])))
-          → ((said ≡ values (1 ∷ [])) ↔ Fit) × ((said ≡ values (0 ∷ [])) ↔ (Fit → ⊥))
-      by-answer (inl (f, e)) = ((λ _. f, λ _. e), (λ d. not-both e d, λ g. absurd (g f)))
-      by-answer (inr (g, e)) = ((λ d. not-both d e, λ f. absurd (g f)), (λ _. g, λ _. e))
+  counts-fit-exactly said x =
+      let small = over-none counts (λ i l. low i) in
+      let answers = rw (fit-asked template shape counts t read inside whole (omega (arith, small))) at x in
+      let asked = question template t shape counts in
+      (yes-exact asked said answers, no-exact asked said answers)
 
 -- ---- those of a card's own links
 module _ {words : List ℕ} {kinds : ℕ} {s : Sheet} (read : SheetAccepted words kinds s) (n : ℕ) where
@@ -109,14 +85,16 @@ module _ {words : List ℕ} {kinds : ℕ} {s : Sheet} (read : SheetAccepted word
       subst (λ (x : ℕ). countsOf s n x ≡ listed kinds counts x) (sym e) (in-listed kind l)
 
   -- so what a shape looks at counts alike
-  looked-listed : (t : ℕ) → t < s .shapes → labelCount (neighboursOf s n t) ≡ seen (partOf s t) (listed kinds counts)
+  looked-listed : (t : ℕ) → t < s .shapes
+      → labelCount (neighboursOf s n t) ≡ seen (opensOf s t) (partOf s t) (listed kinds counts)
   looked-listed t lt =
       let part = partOf s t in
-      fun-ext (looked-count part (neighbours (s .script) n (s .links)))
-      ∙ seen-alike part (countsOf s n) (listed kinds counts) (λ k e. ⊎-elim
-      (low-listed k)
+      let o = opensOf s t in
+      fun-ext (looked-count o part (neighbours (s .script) n (s .links)))
+      ∙ seen-alike o part (countsOf s n) (listed kinds counts) (λ k e. ⊎-elim
       (λ m. named-listed k (names-kind kinds part (read .shapes .kinds-below t lt) k m))
-      (looks-cases part k e))
+      (λ h. low-listed k (h .1))
+      (looks-cases o part k e))
 
   -- no count is over that of the links
   in-low : (k : ℕ) → kinds ≤ k → k < 2 * kinds → getD counts k 0 ≤ maxCount
@@ -147,16 +125,17 @@ module _ {words : List ℕ} {kinds : ℕ} {s : Sheet} (read : SheetAccepted word
 pub card-fits-exactly : (template script : List ℕ) (s : Sheet) (formed : Formed template script s)
     → (n t : ℕ) → n < s .cards → t < s .shapes
     → let counts = cardCounts (s .script) n (s .links) (formed .kinds) in
-    ((k : ℕ) → labelCount (neighboursOf s n t) k ≡ seen (partOf s t) (listed (formed .kinds) counts) k)
+    ((k : ℕ) → labelCount (neighboursOf s n t) k ≡ seen (opensOf s t) (partOf s t) (listed (formed .kinds) counts) k)
     × ((said : Said) → FitSays template t counts said
     → (said ≡ values (1 ∷ [])) ↔ Fits (s .shapes) (partOf s t) (labelCount (neighboursOf s n t)))
 card-fits-exactly template script s formed n t ln lt =
     let kinds = formed .kinds in
     let read = formed-read template script s formed in
-    let same = looked-listed read n t lt in (
-      λ k. ap (λ (w : ℕ → ℕ). w k) same,
+    let counts = cardCounts (s .script) n (s .links) kinds in
+    let same = looked-listed read n t lt
+    ∙ ap (λ (xs : List ℕ). seen (opens xs t) (partOf s t) (listed kinds counts)) (formed .template-words) in (
+      λ k. ap (λ (w : ℕ → ℕ). w k) (looked-listed read n t lt),
       λ said x. subst (λ (w : ℕ → ℕ). (said ≡ values (1 ∷ [])) ↔ Fits (s .shapes) (partOf s t) w) (sym same)
-          (counts-fit-exactly template _ (formed-template template script s formed) t lt
-          (cardCounts (s .script) n (s .links) kinds) (card-counts-length (s .script) n (s .links) kinds)
-          (low-counts read n) said x .0),
+          (counts-fit-exactly template _ (formed-template template script s formed) t lt counts
+          (card-counts-length (s .script) n (s .links) kinds) (low-counts read n) said x .0),
     )

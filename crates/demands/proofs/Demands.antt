@@ -4,31 +4,28 @@
 --   third-demand    the smallest and the largest typing
 --   judge-demand    grids of other makers
 -- Assumes nothing.
-use Prim.Native.Nat.{ℕ, suc, _*_, _≤_, _<_}
+use Prim.Native.Nat.{ℕ}
 use mathlib.Core.Path.{_≡_, refl, sym, ap, _∙_, subst}
 use mathlib.Core.Logic.{_⊎_, inl, inr, ⊎-elim, _↔_}
 use mathlib.Core.List.{List, [], _∷_}
 use native.Mathlib.Omega.{arith}
-use lib.ListN.{length, getD}
-use borrow.Author.Tests.{lt-leb, le-ltb, eq-eqb}
-use Rattle.words.specs.Limits.{maxCount}
+use lib.ListN.{length}
 use Rattle.words.specs.Said.{Said, values, refusal}
 use Rattle.words.specs.Reading.{accepted, turnedDown, saidOf}
 use Rattle.words.proofs.Bools.{never-both, is-false}
 use Rattle.words.proofs.Readings.{accepted-same, numbered-turned}
-use Rattle.template.specs.Template.{Template, readTemplate, templateValues, templateSays}
+use Rattle.template.specs.Template.{readTemplate, templateValues, templateSays}
 use Rattle.template.proofs.Numbers.{template-numbers}
 use Rattle.template.proofs.RoundTrip.{templates-are}
 use Rattle.script.specs.Script.{readWith, scriptValues, scriptSays}
-use Rattle.bags.specs.Part.{Part}
-use Rattle.bags.specs.Bag.{Bag, Bags, Fits}
-use Rattle.bags.specs.Look.{seen, listed}
+use Rattle.bags.specs.Bag.{Bag, Bags}
 use Rattle.bags.proofs.Adequate.{met-is}
 use Rattle.board.specs.Grid.{on, tally}
 use Rattle.board.specs.Board.{Board}
 use Rattle.sheet.specs.Sheet.{Sheet, partOf, neighboursOf, size}
 use Rattle.bookings.specs.Bookings.{cardIndex, Booked}
-use Rattle.counts.specs.Fit.{firstOver, fitQuestion, FitSays}
+use Rattle.counts.specs.Fit.{fitQuestion}
+use Rattle.counts.proofs.Ignoring.{open-fits}
 use Rattle.counts.proofs.Numbers.{fit-numbers}
 use Rattle.input.specs.Input.{readInput}
 use Rattle.input.proofs.Inputs.{input-numbers}
@@ -149,6 +146,9 @@ sound-exactly s grid = (
 pub second-demand : SecondDemand
 second-demand = record {
   counts-fit = λ template t formed. counts-fit-exactly template t (templates-are template t .1 formed);
+  open-fit = λ template t formed shape below isOpen counts whole low said x.
+      open-fits template t (templates-are template t .1 formed) shape below counts
+      (record { each-way = whole; small = λ i l. low i }) said x isOpen;
   card-fits = card-fits-exactly;
   sound-typing = sound-exactly;
 }

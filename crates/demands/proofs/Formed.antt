@@ -4,7 +4,7 @@
 --   largest-taken, smallest-taken, both-taken   what the calls take: these, and grids with a byte for each pair
 -- Assumes nothing.
 use Prim.Native.Nat.{ℕ, zero, suc, _+_, _*_, _≤_, _<_}
-use mathlib.Core.Path.{_≡_, refl, sym, ap, _∙_, subst}
+use mathlib.Core.Path.{_≡_, refl, sym, ap, ap₂, _∙_, subst}
 use mathlib.Core.Logic.{_↔_}
 use mathlib.Core.List.{List}
 use native.Mathlib.Omega.{arith}
@@ -32,8 +32,8 @@ module _ (words list : List ℕ) (s : Sheet) where
   unfolding readSheet
   sheet-formed e =
       let (t, first, rest) = then-accepted (readTemplate words)
-      (λ t. mapped (λ c. sheetOf t c list) (readScript (t .kinds) list)) s e in
-      let (c, second, same) = mapped-accepted (λ c. sheetOf t c list) (readScript (t .kinds) list) s rest in
+      (λ t. mapped (λ c. sheetOf words t c list) (readScript (t .kinds) list)) s e in
+      let (c, second, same) = mapped-accepted (λ c. sheetOf words t c list) (readScript (t .kinds) list) s rest in
       let (formed, written) = templates-are words t .0 first in
       let (links, rising, count, script-written) = scripts-are (t .kinds) list c .0 second in
       subst (Formed words list) same (record {
@@ -44,7 +44,8 @@ module _ (words list : List ℕ) (s : Sheet) where
         script-formed = rising;
         script-written = script-written;
         count = count;
-        words = refl;
+        template-words = refl;
+        script-words = refl;
       })
 
   module _ (f : Formed words list s) where
@@ -60,15 +61,18 @@ module _ (words list : List ℕ) (s : Sheet) where
     formed-script : readScript (f .kinds) list ≡ accepted counts
     formed-script = scripts-are (f .kinds) list counts .1 (f .links, f .script-formed, f .count, f .script-written)
 
+    -- the sheet is the one that is read
+    same-sheet : sheetOf words shaped counts list ≡ s
+    same-sheet =
+        ap₂ (λ (xs ys : List ℕ). sheetOf xs shaped counts ys) (sym (f .template-words)) (sym (f .script-words))
+
     pub formed-sheet : readSheet words list ≡ accepted s
-    formed-sheet =
-        sheet-asked words list shaped counts formed-template formed-script
-        ∙ ap (λ (xs : List ℕ). accepted (sheetOf shaped counts xs)) (sym (f .words))
+    formed-sheet = sheet-asked words list shaped counts formed-template formed-script ∙ ap accepted same-sheet
 
     pub formed-read : SheetAccepted words (f .kinds) s
     formed-read =
-        sheet-made words (s .script) shaped counts formed-template
-        (subst (λ (xs : List ℕ). readScript (f .kinds) xs ≡ accepted counts) (sym (f .words)) formed-script)
+        subst (SheetAccepted words (f .kinds)) same-sheet
+        (sheet-made words list shaped counts formed-template formed-script)
 
   pub sheets-are : (readSheet words list ≡ accepted s) ↔ Formed words list s
   sheets-are = (sheet-formed, formed-sheet)

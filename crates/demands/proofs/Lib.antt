@@ -1,10 +1,12 @@
 -- Worked: the right answers of the worked sheet are allowed; Printed: and its text; Judged: and of grids of it.
--- Refusals: every refusal happens. Refuted: wrong answers are not allowed. Formed, Listed: what is well-formed is read,
--- and what is refused is listed. Counts: counts fit by bags, and those of a card. Demands: the demands.
+-- Refusals: every refusal happens. Refuted, Opening: wrong answers are not allowed, and of open shapes. Formed, Listed:
+-- what is well-formed is read, and what is refused is listed. Counts: counts fit by bags, and those of a card. Demands:
+-- the demands.
 pub mod Worked
 pub mod Judged
 pub mod Refusals
 pub mod Refuted
+pub mod Opening
 pub mod Formed
 pub mod Listed
 pub mod Printed

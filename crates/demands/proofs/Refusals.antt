@@ -8,7 +8,7 @@ use mathlib.Core.List.{[], _∷_}
 use native.Mathlib.Omega.{arith}
 use Rattle.words.specs.Said.{refusal}
 use Rattle.template.specs.Reading.{readLink, readRun, readPart}
-use Rattle.template.specs.Template.{readShape, readShapes, readTemplate, templateSays}
+use Rattle.template.specs.Template.{openAt, partAt, readShape, readShapes, readTemplate, templateSays}
 use Rattle.script.specs.Link.{fromAt, kindAt, toAt, above, greater}
 use Rattle.script.specs.Script.{readLinks, readScript, scriptSays}
 use Rattle.counts.specs.Fit.{firstOver, fitQuestion}
@@ -26,8 +26,8 @@ all-listed = refl
 
 -- The byte of one card and one shape is 2.
 over-alone : JudgeSays plain alone (0 ∷ []) (2 ∷ []) (refusal 61 (0 ∷ []))
-unfolding readSheet readTemplate readShape readShapes readPart readRun readLink readScript readLinks fromAt kindAt toAt
-    above greater readBookings readPairs
+unfolding readSheet readTemplate openAt partAt readShape readShapes readPart readRun readLink readScript readLinks
+    fromAt kindAt toAt above greater readBookings readPairs
 over-alone = record {
   verdict = over 0;
   says = refl;
@@ -35,18 +35,20 @@ over-alone = record {
 }
 
 pub every-number-happens : AllGet refusals
-unfolding readTemplate readShape readShapes readPart readRun readLink templateSays readScript readLinks fromAt kindAt
-    toAt above greater scriptSays firstOver fitQuestion readSheet cardAt shapeAt readPairs readBookings wordAt
-    sectionEnd scriptStart bookingsStart inputEnd readInput
+unfolding readTemplate openAt partAt readShape readShapes readPart readRun readLink templateSays readScript readLinks
+    fromAt kindAt toAt above greater scriptSays firstOver fitQuestion readSheet cardAt shapeAt readPairs readBookings
+    wordAt sectionEnd scriptStart bookingsStart inputEnd readInput
 every-number-happens =
     refl & refl & refl & refl & refl & refl & refl & refl & refl & refl & refl & refl & refl & refl & refl &
     refl & refl & refl & (refl, refl) & (refl, refl) & (refl, refl) & (refl, refl) & (refl, refl) & refl & refl
-    & refl & worked-not-met lastShape refl & refl & over-alone & unmet-sample & unheld-sample & tt
+    & refl & worked-not-met lastShape refl & refl & over-alone & unmet-sample & unheld-sample
+    & refl & tt
 
 pub other-faults-happen : AllGet others
-unfolding readTemplate readShape readShapes readPart readRun readLink templateSays readScript readLinks fromAt kindAt
-    toAt above greater scriptSays firstOver fitQuestion readSheet cardAt shapeAt readPairs readBookings wordAt
-    sectionEnd scriptStart bookingsStart inputEnd readInput
+unfolding readTemplate openAt partAt readShape readShapes readPart readRun readLink templateSays readScript readLinks
+    fromAt kindAt toAt above greater scriptSays firstOver fitQuestion readSheet cardAt shapeAt readPairs readBookings
+    wordAt sectionEnd scriptStart bookingsStart inputEnd readInput
 other-faults-happen =
     refl & refl & refl & refl & refl & refl & refl & refl & refl & refl & refl & refl & refl & refl & refl & refl &
-    (refl, refl) & (refl, refl) & refl & refl & refl & refl & refl & tt
+    refl & refl & refl & refl & refl & refl & (refl, refl) & (refl, refl) & refl & refl & refl & refl & refl & refl
+    & refl & tt

@@ -30,7 +30,7 @@ use Rattle.words.proofs.Said.{values-refusal}
 use Rattle.board.specs.Grid.{on}
 use Rattle.board.proofs.Tally.{tally-none}
 use Rattle.template.specs.Reading.{readLink, readRun, readPart}
-use Rattle.template.specs.Template.{readShape, readShapes, readTemplate, templateSays}
+use Rattle.template.specs.Template.{openAt, partAt, readShape, readShapes, readTemplate, templateSays}
 use Rattle.bookings.specs.Bookings.{readBookings}
 use Rattle.script.specs.Link.{linked}
 use Rattle.script.specs.Script.{linksStart}
@@ -201,6 +201,6 @@ links-elsewhere lent part e x there =
 
 -- A reader that turns everything down turns this template down, which is read.
 pub all-refused : (number : ℕ) (place : List ℕ) → refusal number place ≡ templateSays template → ⊥
-unfolding readTemplate readShape readShapes readPart readRun readLink templateSays
+unfolding readTemplate openAt partAt readShape readShapes readPart readRun readLink templateSays
 all-refused number place e =
     let z : _≡_ {A = ℕ} 0 1 = cc in omega arith

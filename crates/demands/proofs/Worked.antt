@@ -9,7 +9,7 @@
 --   worked-largest, worked-smallest, worked-not-met, worked-both, worked-both-not-met   the right answers are allowed
 -- Assumes nothing.
 use Prim.Native.Nat.{ℕ, zero, suc, _+_, _*_, _/_, _%_, _≤_, _<_}
-use mathlib.Core.Path.{_≡_, refl, sym, ap, ap₂, _∙_, subst, subst₂}
+use mathlib.Core.Path.{_≡_, refl, sym, ap₂, _∙_, subst, subst₂}
 use mathlib.Core.Logic.{_⊎_, inl, inr, ⊎-elim}
 use mathlib.Core.Bool.{Bool, true, false, not, _||_}
 use mathlib.Core.List.{List, [], _∷_}
@@ -29,11 +29,11 @@ use Rattle.bags.specs.Label.{outgoing}
 use Rattle.bags.specs.Look.{listed}
 use Rattle.bags.specs.Interval.{fits}
 use Rattle.template.specs.Reading.{readLink, readRun, readPart}
-use Rattle.template.specs.Template.{readShape, readShapes, readTemplate, templateSays}
+use Rattle.template.specs.Template.{openAt, partAt, readShape, readShapes, shapePlace, readTemplate, templateSays}
 use Rattle.template.specs.Machine.{Tabled}
 use Rattle.script.specs.Link.{fromAt, kindAt, toAt, farAt, above, greater, cardWords, below, neighbours, linked}
 use Rattle.script.specs.Script.{readLinks, readScript, scriptSays, cardLinks, linksStart}
-use Rattle.sheet.specs.Sheet.{Sheet, partOf, place, readSheet}
+use Rattle.sheet.specs.Sheet.{Sheet, partOf, opensOf, place, readSheet}
 use Rattle.sheet.proofs.Accepted.{SheetAccepted, sheet-made}
 use Rattle.counts.specs.Fit.{firstOver, fitQuestion, FitSays}
 use Rattle.bags.proofs.Decide.{list-decided}
@@ -67,28 +67,29 @@ worked = record {
       ∷ Part.nothing ∷ [];
   cards = 3;
   links = 3;
+  template = template;
   script = script;
 }
 
 pub worked-read : readSheet template script ≡ accepted worked
-unfolding readSheet readTemplate readShape readShapes readPart readRun readLink readScript readLinks fromAt kindAt toAt
-    above greater
+unfolding readSheet readTemplate openAt partAt readShape readShapes readPart readRun readLink readScript readLinks
+    fromAt kindAt toAt above greater
 worked-read = refl
 
 read : SheetAccepted template 2 worked
-unfolding readTemplate readShape readShapes readPart readRun readLink readScript readLinks fromAt kindAt toAt
-    above greater
+unfolding readTemplate openAt partAt readShape readShapes readPart readRun readLink readScript readLinks
+    fromAt kindAt toAt above greater
 read = sheet-made template script
     (record { kinds = 2; shapes = 2; parts = worked .parts }) (record { cards = 3; links = 3 }) refl refl
 
 -- ---- the operations that make no typing
 pub worked-template : templateSays template ≡ values (2 ∷ 2 ∷ [])
-unfolding templateSays readTemplate readShape readShapes readPart readRun readLink
+unfolding templateSays readTemplate openAt partAt readShape readShapes readPart readRun readLink
 worked-template = refl
 
 pub worked-script : scriptSays template script ≡ values (3 ∷ 3 ∷ [])
-unfolding scriptSays readTemplate readShape readShapes readPart readRun readLink readScript readLinks fromAt kindAt toAt
-    above greater
+unfolding scriptSays readTemplate openAt partAt readShape readShapes readPart readRun readLink readScript readLinks
+    fromAt kindAt toAt above greater
 worked-script = refl
 
 -- The links of each card, and the word of the script at which they start; there is no card 3.
@@ -100,18 +101,19 @@ pub worked-links : (cardLinks template script 0 ≡ 0 ∷ 0 ∷ 2 ∷ 0 ∷ 1 �
     × (linksStart template script 1 ≡ 8)
     × (linksStart template script 2 ≡ 11)
     × (linksStart template script 3 ≡ 0)
-unfolding cardLinks readTemplate readShape readShapes readPart readRun readLink readScript readLinks fromAt kindAt toAt
-    above greater cardWords below
+unfolding cardLinks readTemplate openAt partAt readShape readShapes readPart readRun readLink readScript readLinks
+    fromAt kindAt toAt above greater cardWords below
 worked-links = (refl, refl, refl, refl, refl, refl, refl, refl)
 
 -- Card 0 has a link of each kind, and one of kind 0 leads to it: these counts fit shape 0.
 pub worked-fit : FitSays template 0 (1 ∷ 1 ∷ 1 ∷ 0 ∷ []) (values (1 ∷ []))
-unfolding fitQuestion readTemplate readShape readShapes readPart readRun readLink firstOver listed
+unfolding fitQuestion readTemplate openAt partAt readShape readShapes readPart readRun readLink shapePlace firstOver
+    listed
 worked-fit =
     let part = partOf worked 0 in
     (inl (
-      list-decided 2 part 2 (1 ∷ 1 ∷ 1 ∷ 0 ∷ []) (omega arith) (omega arith) (read .shapes .single 0 (omega arith))
-          (read .shapes .shapes-below 0 (omega arith)) .1 refl,
+      list-decided 2 (opensOf worked 0) part 2 (1 ∷ 1 ∷ 1 ∷ 0 ∷ []) (omega arith) (omega arith)
+          (read .shapes .single 0 (omega arith)) (read .shapes .shapes-below 0 (omega arith)) .1 refl,
       refl,
     ))
 
@@ -166,10 +168,10 @@ fitting = 1 ∷ 0 ∷ 1 ∷ 0 ∷ 0 ∷ 1 ∷ []
 
 -- The grid of fits has what the test of a card's counts says.
 abbrev FitAt : ℕ → ℕ → Type 0
-FitAt n t = on fitting (place worked n t) ≡ fits 2 (partOf worked t) (countsOf worked n)
+FitAt n t = on fitting (place worked n t) ≡ fits (opensOf worked t) 2 (partOf worked t) (countsOf worked n)
 
 fits-computed : (n t : ℕ) → n < 3 → t < 2 → FitAt n t
-unfolding on neighbours fromAt kindAt toAt
+unfolding on neighbours fromAt kindAt toAt shapePlace openAt
 fits-computed = each-pair FitAt refl refl refl refl refl refl
 
 fits-right : FitsGrid worked fitting

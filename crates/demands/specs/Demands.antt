@@ -11,11 +11,11 @@
 --                         down. readWith is of a script with its template, readSheet of both, the last three of a call
 --   templateSays, scriptSays, FitSays, LargestSays, SmallestSays, BothSays, JudgeSays   what each operation may say and
 --                         write; the judge of grids reads as the call for the smallest does, and writes nothing
---   Template, Sheet       what is read of a template; of a template and a script. partOf: the part of a shape.
---                         neighboursOf: the labels and far cards of a card's links, from either end, that a shape looks
---                         at. size: how many pairs there are
+--   Template, Sheet       what is read of a template; of a template and a script. opens: whether a shape is open.
+--                         partOf: the part of a shape. neighboursOf: the labels and far cards of a card's links, from
+--                         either end, that a shape looks at. size: how many pairs there are
 --   cardCounts            the counts of a card's links: for each kind those from it, then for each kind those to it
---   listed, seen          such a list as counts of labels; of counts those that a part looks at, and 0 else
+--   listed, seen          such a list as counts of labels; of counts those that a shape looks at, and 0 else
 --   Fits                  2.1: some bag of a part has just these counts
 --   Pairs, Has, on        a set of pairs of a card and a shape, by their places in a grid; it has a pair; the set of a
 --                         grid: where its byte is 1. place: the place of a pair
@@ -41,23 +41,23 @@
 use Prim.Native.Nat.{ℕ, _+_, _*_, _≤_, _<_}
 use mathlib.Core.Path.{_≡_}
 use mathlib.Core.Logic.{_⊎_, _↔_}
-use mathlib.Core.Bool.{false}
+use mathlib.Core.Bool.{true, false}
 use mathlib.Core.List.{List, [], _∷_}
 use lib.ListN.{length, getD, replicate}
 use Rattle.words.specs.Limits.{maxCount, maxBookings}
 use Rattle.words.specs.Said.{Said, values, refusal}
 use Rattle.words.specs.Reading.{accepted, turnedDown}
-use Rattle.bags.specs.Part.{Part}
+use Rattle.bags.specs.Part.{Part, Names}
 use Rattle.bags.specs.Bag.{Bag, Bags, total, Fits}
 use Rattle.bags.specs.Look.{seen, listed}
 use Rattle.bags.specs.Proposition.{labelCount}
 use Rattle.bags.proofs.Adequate.{Flattened}
-use Rattle.template.specs.Template.{Template, readTemplate, templateSays}
+use Rattle.template.specs.Template.{opens, Template, readTemplate, templateSays}
 use Rattle.template.specs.Writer as templates
 use Rattle.script.specs.Counts.{cardCounts}
 use Rattle.script.specs.Script.{readWith, scriptSays}
 use Rattle.script.specs.Writer as scripts
-use Rattle.sheet.specs.Sheet.{Sheet, partOf, neighboursOf, place, size, readSheet}
+use Rattle.sheet.specs.Sheet.{Sheet, partOf, opensOf, neighboursOf, place, size, readSheet}
 use Rattle.bookings.specs.Bookings.{cardAt, shapeAt, readBookings, Booked}
 use Rattle.counts.specs.Fit.{fitQuestion, FitSays}
 use Rattle.board.specs.Grid.{on, tally}
@@ -75,8 +75,8 @@ use Rattle.input.specs.Writer.{writeInput, InputFormed, Bytes}
 -- The words are those of this template, and it is within all limits.
 abbrev pub FormedTemplate : List ℕ → Template → Type 0
 FormedTemplate template t =
-    templates.WellFormed (t .kinds) (t .shapes) (t .parts)
-    × (template ≡ templates.writeTemplate (t .kinds) (t .shapes) (t .parts))
+    templates.WellFormed (t .kinds) (t .shapes) (opens template) (t .parts)
+    × (template ≡ templates.writeTemplate (t .kinds) (t .shapes) (opens template) (t .parts))
 
 -- The words are those of a template and a script within all limits of docs/FORMAT.md, and the sheet is theirs. The
 -- limits and layout rules are the fields of the two `WellFormed`; what the words of a template and a script are is
@@ -84,13 +84,14 @@ FormedTemplate template t =
 pub record Formed (template script : List ℕ) (s : Sheet) : Type 0 where
   pub kinds : ℕ
   pub links : List scripts.Link
-  pub template-formed : templates.WellFormed kinds (s .shapes) (s .parts)
-  pub template-written : template ≡ templates.writeTemplate kinds (s .shapes) (s .parts)
+  pub template-formed : templates.WellFormed kinds (s .shapes) (opens template) (s .parts)
+  pub template-written : template ≡ templates.writeTemplate kinds (s .shapes) (opens template) (s .parts)
   pub script-formed : scripts.WellFormed kinds (s .cards) links
   pub script-written : script ≡ scripts.writeScript (s .cards) links
-  -- the sheet keeps the script's words and the number of its links
+  -- the sheet keeps the words of both and the number of the script's links
   pub count : s .links ≡ length links
-  pub words : s .script ≡ script
+  pub template-words : s .template ≡ template
+  pub script-words : s .script ≡ script
 
 -- The words are a list of bookings within all limits: at most 1,024, each of a card and a shape that there are.
 pub record BookingsFormed (cards shapes : ℕ) (bookings : List ℕ) : Type 0 where
@@ -104,9 +105,9 @@ pub record BookingsFormed (cards shapes : ℕ) (bookings : List ℕ) : Type 0 wh
 abbrev pub FromTo : ℕ → ℕ → ℕ → Type 0
 FromTo low high n = (low ≤ n) × (n ≤ high)
 
--- "Read a template": 1 to 12.
+-- "Read a template": 1 to 12, and 64.
 abbrev pub TemplateListed : ℕ → Type 0
-TemplateListed n = FromTo 1 12 n
+TemplateListed n = FromTo 1 12 n ⊎ (n ≡ 64)
 
 -- "Read a script": the template's, and 20 to 25.
 abbrev pub ScriptListed : ℕ → Type 0
@@ -233,11 +234,12 @@ RuleTwo s X = (n t : ℕ) → n < s .cards → t < s .shapes → Has s X n t
     → (b : Bag) × Neighbourhood s X n t b × Bags (partOf s t) b
 
 -- Counts of links belong to the bag language of a shape: some bag of the shape's part has, over all shapes, just so
--- many of each label that the part looks at, and none of the others. `Bags` is the bag language of section 2.1.
-abbrev pub Belong : Template → ℕ → List ℕ → Type 0
-Belong t shape counts =
+-- many of each label that the shape looks at, and none of the others. `Bags` is the bag language of section 2.1.
+abbrev pub Belong : List ℕ → Template → ℕ → List ℕ → Type 0
+Belong template t shape counts =
     let part = getD (t .parts) shape Part.nothing in
-    (b : Bag) × Bags part b × ((k : ℕ) → total (t .shapes) b k ≡ seen part (listed (t .kinds) counts) k)
+    (b : Bag) × Bags part b
+    × ((k : ℕ) → total (t .shapes) b k ≡ seen (opens template shape) part (listed (t .kinds) counts) k)
 
 pub record SecondDemand : Type 0 where
   -- Asked of a shape of a well-formed template, and a count of at most 8,192 for each kind each way, "Fit counts" says
@@ -246,14 +248,22 @@ pub record SecondDemand : Type 0 where
       → (shape : ℕ) → shape < t .shapes
       → (counts : List ℕ) → length counts ≡ 2 * t .kinds → ((k : ℕ) → getD counts k 0 ≤ maxCount)
       → (said : Said) → FitSays template shape counts said
-      → ((said ≡ values (1 ∷ [])) ↔ Belong t shape counts)
-      × ((said ≡ values (0 ∷ [])) ↔ (Belong t shape counts → ⊥))
+      → ((said ≡ values (1 ∷ [])) ↔ Belong template t shape counts)
+      × ((said ≡ values (0 ∷ [])) ↔ (Belong template t shape counts → ⊥))
+  -- Of an open shape it says 1 exactly where some bag of the part has so many of each label that the part names.
+  pub open-fit : (template : List ℕ) (t : Template) → FormedTemplate template t
+      → (shape : ℕ) → shape < t .shapes → opens template shape ≡ true
+      → (counts : List ℕ) → length counts ≡ 2 * t .kinds → ((k : ℕ) → getD counts k 0 ≤ maxCount)
+      → (said : Said) → FitSays template shape counts said
+      → let part = getD (t .parts) shape Part.nothing in
+      (said ≡ values (1 ∷ []))
+      ↔ ((b : Bag) × Bags part b × ((k : ℕ) → Names part k → total (t .shapes) b k ≡ listed (t .kinds) counts k))
   -- Of a card and a shape of a well-formed sheet: the neighbours that the shape looks at count as the card's own counts
   -- do, and "Fit counts" says 1 of these exactly where the neighbours' counts are those of a bag of the shape.
   pub card-fits : (template script : List ℕ) (s : Sheet) (formed : Formed template script s)
       → (n t : ℕ) → n < s .cards → t < s .shapes
       → let counts = cardCounts (s .script) n (s .links) (formed .kinds) in
-      ((k : ℕ) → labelCount (neighboursOf s n t) k ≡ seen (partOf s t) (listed (formed .kinds) counts) k)
+      ((k : ℕ) → labelCount (neighboursOf s n t) k ≡ seen (opensOf s t) (partOf s t) (listed (formed .kinds) counts) k)
       × ((said : Said) → FitSays template t counts said
       → (said ≡ values (1 ∷ [])) ↔ Fits (s .shapes) (partOf s t) (labelCount (neighboursOf s n t)))
   -- A grid is a sound typing exactly where it is a typing that meets rule 2.

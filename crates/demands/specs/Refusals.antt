@@ -137,13 +137,15 @@ refusals =
     ∷ row 62 (1 ∷ 0 ∷ []) (judge worked.template worked.script worked.metBookings unmetGrid)
     -- the worked sheet's booking that is not in the grid
     ∷ row 63 (1 ∷ []) (judge worked.template worked.script worked.unmetBookings worked.lastShape)
+    -- the word of an open shape twice
+    ∷ row 64 (4 ∷ []) (template (1 ∷ 1 ∷ 3 ∷ 18 ∷ 18 ∷ 0 ∷ []))
     ∷ []
 
 -- The numbers of docs/FORMAT.md.
 abbrev pub listed : List ℕ
 listed =
     1 ∷ 2 ∷ 3 ∷ 4 ∷ 5 ∷ 6 ∷ 7 ∷ 8 ∷ 9 ∷ 10 ∷ 11 ∷ 12 ∷ 20 ∷ 21 ∷ 22 ∷ 23 ∷ 24 ∷ 25 ∷ 30 ∷ 31 ∷ 32 ∷ 33
-    ∷ 40 ∷ 41 ∷ 42 ∷ 43 ∷ 50 ∷ 60 ∷ 61 ∷ 62 ∷ 63 ∷ []
+    ∷ 40 ∷ 41 ∷ 42 ∷ 43 ∷ 50 ∷ 60 ∷ 61 ∷ 62 ∷ 63 ∷ 64 ∷ []
 
 -- The numbers of some rows.
 abbrev pub numbersOf : List Row → List ℕ
@@ -167,8 +169,18 @@ others =
     ∷ row 4 (6 ∷ []) (template (1 ∷ 1 ∷ 3 ∷ 256 ∷ 0 ∷ 0 ∷ []))
     -- a group without its count
     ∷ row 4 (4 ∷ []) (template (1 ∷ 1 ∷ 1 ∷ 17 ∷ []))
+    -- an open shape without its part
+    ∷ row 4 (4 ∷ []) (template (1 ∷ 1 ∷ 1 ∷ 18 ∷ []))
+    -- the first code past the open shape's
+    ∷ row 5 (3 ∷ []) (template (1 ∷ 1 ∷ 1 ∷ 19 ∷ []))
     -- the first code past the incoming links
     ∷ row 5 (3 ∷ []) (template (1 ∷ 1 ∷ 4 ∷ 384 ∷ 0 ∷ 0 ∷ 1 ∷ []))
+    -- nothing inside twelve optional parts, in an open shape
+    ∷ row 6 (16 ∷ []) (template
+    (1 ∷ 1 ∷ 14 ∷ 18 ∷ 3 ∷ 3 ∷ 3 ∷ 3 ∷ 3 ∷ 3 ∷ 3 ∷ 3 ∷ 3 ∷ 3 ∷ 3 ∷ 3 ∷ 0 ∷ []))
+    -- the word of an open shape inside twelve optional parts
+    ∷ row 6 (15 ∷ []) (template
+    (1 ∷ 1 ∷ 13 ∷ 3 ∷ 3 ∷ 3 ∷ 3 ∷ 3 ∷ 3 ∷ 3 ∷ 3 ∷ 3 ∷ 3 ∷ 3 ∷ 3 ∷ 18 ∷ []))
     -- an incoming link of kind 1 where there is one kind
     ∷ row 7 (3 ∷ []) (template (1 ∷ 1 ∷ 4 ∷ 321 ∷ 0 ∷ 0 ∷ 1 ∷ []))
     -- kind 0 stands twice as an incoming one
@@ -179,6 +191,10 @@ others =
     ∷ row 10 (5 ∷ []) (template (1 ∷ 1 ∷ 4 ∷ 256 ∷ 0 ∷ 0 ∷ 8193 ∷ []))
     -- a group of 17 parts
     ∷ row 11 (4 ∷ []) (template (1 ∷ 1 ∷ 3 ∷ 16 ∷ 17 ∷ 0 ∷ []))
+    -- a group of 18 parts
+    ∷ row 11 (4 ∷ []) (template (1 ∷ 1 ∷ 4 ∷ 17 ∷ 18 ∷ 0 ∷ 0 ∷ []))
+    -- a word is left after an open shape's part
+    ∷ row 12 (8 ∷ []) (template (1 ∷ 1 ∷ 6 ∷ 18 ∷ 256 ∷ 0 ∷ 1 ∷ 1 ∷ 0 ∷ []))
     -- a word is left after the last shape
     ∷ row 12 (4 ∷ []) (template (1 ∷ 1 ∷ 1 ∷ 0 ∷ 0 ∷ []))
     -- a word too many for its count of links
@@ -199,4 +215,7 @@ others =
     ∷ row 60 (0 ∷ []) (printer (0 ∷ 0 ∷ 0 ∷ 0 ∷ 0 ∷ 0 ∷ 0 ∷ []))
     -- the bookings' last word is missing
     ∷ row 60 (0 ∷ []) (printer (0 ∷ 0 ∷ 0 ∷ 0 ∷ 1 ∷ 0 ∷ []))
+    -- the word of an open shape in a star, and in a group
+    ∷ row 64 (4 ∷ []) (template (1 ∷ 1 ∷ 3 ∷ 1 ∷ 18 ∷ 0 ∷ []))
+    ∷ row 64 (6 ∷ []) (template (1 ∷ 1 ∷ 5 ∷ 17 ∷ 2 ∷ 0 ∷ 18 ∷ 0 ∷ []))
     ∷ []

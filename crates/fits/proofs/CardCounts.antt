@@ -6,9 +6,8 @@
 -- card-fitted       a row that fits such counts has the bytes of the card
 -- Assumes nothing.
 use Prim.Native.Nat.{ℕ, _+_, _≤_, _<_}
-use mathlib.Core.Path.{_≡_, refl, sym, ap, ap₂, subst, subst₂, _∙_}
-use mathlib.Core.Logic.{⊎-elim}
-use mathlib.Core.Bool.{Bool, true, false, cond}
+use mathlib.Core.Path.{_≡_, sym, ap, ap₂, subst, _∙_}
+use mathlib.Core.Bool.{Bool, false, cond}
 use mathlib.Core.List.{List, _++_}
 use native.Mathlib.Omega.{arith}
 use lib.ListN.{length, getD, List·getD-append}
@@ -20,15 +19,13 @@ use Rattle.words.proofs.Cells.{put-before, put-inside}
 use Rattle.bags.specs.Label.{Way, outgoing, incoming, labelOf}
 use Rattle.bags.specs.Part.{Part, Names}
 use Rattle.bags.specs.Bag.{count}
-use Rattle.bags.specs.Named.{named}
 use Rattle.bags.specs.Proposition.{labelCount}
 use Rattle.bags.proofs.Naming.{OfKindBelow, names-kind, named-none}
 use Rattle.bags.proofs.Looking.{fits-alike}
-use Rattle.template.specs.Template.{readTemplate}
+use Rattle.template.specs.Template.{opens, readTemplate}
 use Rattle.template.proofs.Accepted.{template-accepted}
-use Rattle.script.specs.Link.{kindAt, toAt, neighbours, below}
+use Rattle.script.specs.Link.{toAt, neighbours, below}
 use Rattle.script.specs.Script.{countsOf, readScript}
-use Rattle.script.specs.Steps.{Within}
 use Rattle.script.specs.Chain.{Chained}
 use Rattle.script.specs.Index.{kindCount, StartsOf, ArrivalsOf, LeavingAsked, ArrivingAsked}
 use Rattle.script.specs.Counts.{wayCount}
@@ -144,11 +141,12 @@ module _ (template script names : List ℕ) (e : Extent) (known : Known template
         (λ on. c .inward on kind lk ∙ sym (way-is incoming kind lk))
         (λ off. absurd (named-way kind lk (subst (Names part) q named-it) off)))
 
-    pub counts-alike : byteOf (e .kinds) part (count counts) ≡ byteOf (e .kinds) part counted
-    counts-alike =
+    pub counts-alike : (isOpen : Bool)
+        → byteOf isOpen (e .kinds) part (count counts) ≡ byteOf isOpen (e .kinds) part counted
+    counts-alike isOpen =
         let a = template-accepted template (templateAs (e .kinds) (e .shapes) parts) r in
         ap (λ (b : Bool). cond {A = ℕ} b 1 0)
-        (fits-alike (count counts) counted part (e .kinds) outward-alike
+        (fits-alike (count counts) counted isOpen part (e .kinds) outward-alike
         (λ k m. named-alike k m (names-kind (e .kinds) part (a .kinds-below t lt) k m)))
 
   -- A row that fits the counts of a card has the card's bytes.
@@ -156,4 +154,4 @@ module _ (template script names : List ℕ) (e : Extent) (known : Known template
       → RowFitted template kinds shapes counts row → CardFitted template script e n row
   card-fitted kinds shapes row p q f =
       let g : RowFitted template (e .kinds) (e .shapes) counts row = rw (p, q) at f in
-      record { full = g .full; each = λ parts r t l. g .each parts r t l ∙ counts-alike parts r t l }
+      record { full = g .full; each = λ parts r t l. g .each parts r t l ∙ counts-alike parts r t l (opens template t) }

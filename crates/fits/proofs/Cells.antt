@@ -17,7 +17,7 @@ use native.Mathlib.Numerals.{add-one}
 use borrow.Rule.Slice.PartMut.{midOf, putMid, same-len-mid, mid-len}
 use lib.ListN.{length, getD, take, drop}
 use Rattle.bags.specs.Part.{Part}
-use Rattle.template.specs.Template.{readTemplate}
+use Rattle.template.specs.Template.{opens, readTemplate}
 use Rattle.words.specs.Limits.{maxCards, maxShapes}
 use Rattle.words.specs.Sizes.{maxGrid}
 use Rattle.words.specs.Reading.{accepted}
@@ -37,7 +37,7 @@ pub record RowsFitted (template script : List ℕ) (e : Extent) (cards shapes : 
   pub each :
       (c : ℕ) → c < n → (parts : List Part) →
       readTemplate template ≡ accepted (templateAs (e .kinds) (e .shapes) parts) → (t : ℕ) → t < shapes →
-      getD grid (c * shapes + t) 0 ≡ byteAt script e (getD parts t Part.nothing) c
+      getD grid (c * shapes + t) 0 ≡ byteAt script e (opens template t) (getD parts t Part.nothing) c
 
 -- The row of a card c below n ends where that of card n starts, or before.
 rows-apart : (c n shapes : ℕ) → c < n → c * shapes + shapes ≤ n * shapes
@@ -50,7 +50,7 @@ module _ (template script : List ℕ) (e : Extent) (cards shapes : ℕ) (grid : 
   pub rows-end :
       (n : ℕ) → RowsFitted template script e cards shapes grid n → cards ≤ n → cards ≡ e .cards → shapes ≡ e .shapes →
       (parts : List Part) → readTemplate template ≡ accepted (templateAs (e .kinds) (e .shapes) parts) →
-      Fitted script e parts grid
+      Fitted template script e parts grid
   rows-end n f h p q parts r =
       let g : RowsFitted template script e (e .cards) (e .shapes) grid n = rw (p, q) at f in
       record { full = g .size; each = λ c t l i. g .each c (omega arith) parts r t i }
@@ -72,7 +72,7 @@ module _ (template script : List ℕ) (e : Extent) (cards shapes : ℕ) (grid : 
           (c : ℕ) → c < n + 1 → (parts : List Part) →
           readTemplate template ≡ accepted (templateAs (e .kinds) (e .shapes) parts) → (t : ℕ) → t < shapes →
           getD (putMid (n * shapes) (n * shapes + shapes - n * shapes) grid row) (c * shapes + t) 0
-          ≡ byteAt script e (getD parts t Part.nothing) c
+          ≡ byteAt script e (opens template t) (getD parts t Part.nothing) c
       next-each c h parts r t i =
           let top = row-inside in
           let k = n * shapes + shapes - n * shapes in

@@ -9,7 +9,7 @@
 -- fitted-end     after the last shape the row is done
 -- Assumes nothing.
 use Prim.Native.Nat.{ℕ, _+_, _-_, _*_, _≤_, _<_}
-use mathlib.Core.Path.{_≡_, refl, sym, ap, subst, _∙_}
+use mathlib.Core.Path.{_≡_, refl, sym, ap, ap₂, subst, _∙_}
 use mathlib.Core.Logic.{⊎-elim}
 use mathlib.Core.Bool.{Bool, cond}
 use mathlib.Core.List.{List}
@@ -22,11 +22,10 @@ use lib.Seq.{getD-take, getD-drop, getD-set-same, getD-set-other}
 use Rattle.bags.specs.Part.{Part}
 use Rattle.bags.specs.Bag.{count}
 use Rattle.bags.specs.Named.{named}
-use Rattle.template.specs.Template.{readTemplate}
 use Rattle.words.specs.Limits.{maxKinds, maxLabels, maxShapes, maxTemplate, maxDepth}
 use Rattle.words.specs.Sizes.{tableSize}
 use Rattle.words.specs.Reading.{accepted}
-use Rattle.template.specs.Machine.{shapePlace}
+use Rattle.template.specs.Template.{openAt, partAt, shapePlace, opens, readTemplate}
 use Rattle.template.proofs.Accepted.{place-next, template-accepted}
 use Rattle.counts.specs.Trees.{treeAt}
 use Rattle.counts.proofs.Agreement.{shape-tree}
@@ -41,7 +40,7 @@ pub record FittedBelow (template : List ℕ) (kinds shapes : ℕ) (counts row : 
   -- the bytes before t
   pub each :
       (parts : List Part) → readTemplate template ≡ accepted (templateAs kinds shapes parts) →
-      (s : ℕ) → s < t → getD row s 0 ≡ byteOf kinds (getD parts s Part.nothing) (count counts)
+      (s : ℕ) → s < t → getD row s 0 ≡ byteOf (opens template s) kinds (getD parts s Part.nothing) (count counts)
 
 -- A test r that says what b is and that came out as x has b's byte.
 pub byte-is : (r b x : Bool) → r ≡ b → r ≡ x → _≡_ {A = ℕ} (cond x 1 0) (cond b 1 0)
@@ -55,7 +54,7 @@ rowAt names t = take (t * maxLabels + maxLabels - t * maxLabels) (drop (t * maxL
 pub record ShapeWithin (template : List ℕ) (shapes at : ℕ) : Type 0 where
   pub few : shapes ≤ maxShapes
   pub short : length template ≤ maxTemplate
-  pub start : at < length template
+  pub start : at + 1 < length template
   pub stop : at + 1 + getD template at 0 ≤ length template
 
 -- A template that is read has no more kinds than the limit.
@@ -88,7 +87,7 @@ module _ (template : List ℕ) (kinds shapes : ℕ) (counts row : List ℕ) wher
 
     tree-is :
         (parts : List Part) → readTemplate template ≡ accepted (templateAs kinds shapes parts) →
-        treeAt maxDepth template (at + 1) .value ≡ getD parts t Part.nothing
+        treeAt maxDepth template (partAt template at) .value ≡ getD parts t Part.nothing
     tree-is parts e = rw (f .place) (shape-tree template (templateAs kinds shapes parts) t e l)
 
     pub shape-row :
@@ -101,7 +100,7 @@ module _ (template : List ℕ) (kinds shapes : ℕ) (counts row : List ℕ) wher
     pub shape-names :
         (names : List ℕ) → Shaped template kinds shapes → TableOf template names → length names ≡ tableSize →
         (k : ℕ) → k < maxLabels →
-        getD (rowAt names t) k 0 ≡ named (treeAt maxDepth template (at + 1) .value) k
+        getD (rowAt names t) k 0 ≡ named (treeAt maxDepth template (partAt template at) .value) k
     shape-names names s table size k h =
         let w = template-accepted template (templateAs kinds shapes (s .parts)) (s .read) in
         let base = t * maxLabels in
@@ -110,7 +109,9 @@ module _ (template : List ℕ) (kinds shapes : ℕ) (counts row : List ℕ) wher
         ∙ ap (λ (p : Part). named p k) (sym (tree-is (s .parts) (s .read)))
 
     module _
-        (byte size : ℕ) (b : byte ≡ byteOf kinds (treeAt maxDepth template (at + 1) .value) (count counts))
+        (byte size : ℕ)
+        (b : byte
+        ≡ byteOf (openAt template at) kinds (treeAt maxDepth template (partAt template at) .value) (count counts))
         (q : size ≡ getD template at 0) (after : List ℕ) (w : after ≡ set row t byte) where
       next-place : at + 1 + size ≡ shapePlace template (t + 1) 2
       next-place = rw (q, add-one t, f .place) (sym (place-next template t 2))
@@ -118,14 +119,15 @@ module _ (template : List ℕ) (kinds shapes : ℕ) (counts row : List ℕ) wher
       next-each :
           (parts : List Part) → readTemplate template ≡ accepted (templateAs kinds shapes parts) →
           (s : ℕ) → s < t + 1 →
-          getD after s 0 ≡ byteOf kinds (getD parts s Part.nothing) (count counts)
+          getD after s 0 ≡ byteOf (opens template s) kinds (getD parts s Part.nothing) (count counts)
       next-each parts e s h =
           ap (λ (r : List ℕ). getD r s 0) w
           ∙ ⊎-elim
           (λ (i : s ≡ t).
           rw i
           (getD-set-same row t byte 0 (omega (arith, f .size)) ∙ b
-          ∙ ap (λ (p : Part). byteOf kinds p (count counts)) (tree-is parts e)))
+          ∙ ap₂ (λ (o : Bool) (p : Part). byteOf o kinds p (count counts)) (ap (openAt template) (f .place))
+          (tree-is parts e)))
           (λ i. getD-set-other row t s byte 0 (λ j. omega arith) ∙ f .each parts e s i)
           (eq-or-lt-of-le (le-of-suc-le-suc (rw (add-one t) at h)))
 

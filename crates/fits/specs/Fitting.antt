@@ -2,13 +2,13 @@
 -- SheetReady, GridReady, CardReady, CountsReady, RowReady   what testing all cards, one card, counting it, and testing
 --             some counts asks
 -- CardCounted counts are those of a card's links
--- byteOf      the byte of a part for some counts: 1 where they fit it
+-- byteOf      the byte of a shape, open or closed, for some counts: 1 where they fit it
 -- byteAt      the byte of a pair: by the counts of the card's links
 -- Fitted      a grid has that byte for each pair; RowFitted: a row of it for some counts; CardFitted: for a card
 -- Assumes nothing.
 use Prim.Native.Nat.{ℕ, _+_, _*_, _≤_, _<_}
 use mathlib.Core.Path.{_≡_}
-use mathlib.Core.Bool.{true, cond}
+use mathlib.Core.Bool.{Bool, true, cond}
 use mathlib.Core.List.{List}
 use lib.ListN.{length, getD}
 use Rattle.words.specs.Limits.{maxKinds, maxLabels}
@@ -19,7 +19,7 @@ use Rattle.bags.specs.Part.{Part}
 use Rattle.bags.specs.Bag.{count}
 use Rattle.bags.specs.Interval.{fits}
 use Rattle.bags.specs.Proposition.{labelCount}
-use Rattle.template.specs.Template.{readTemplate}
+use Rattle.template.specs.Template.{opens, readTemplate}
 use Rattle.script.specs.Link.{neighbours}
 use Rattle.script.specs.Script.{countsOf, readScript}
 use Rattle.script.specs.Index.{StartsOf, ArrivalsOf}
@@ -70,28 +70,29 @@ pub record RowReady (template names : List ℕ) (kinds shapes : ℕ) (counts row
   pub counted : length counts ≡ maxLabels
   pub size : length row ≡ shapes
 
--- The byte of a part for some counts: 1 where those that it looks at fit it, else 0.
-abbrev pub byteOf : ℕ → Part → (ℕ → ℕ) → ℕ
-byteOf kinds part w = cond (fits kinds part w) 1 0
+-- The byte of a shape for some counts: 1 where those that it looks at fit it, else 0.
+abbrev pub byteOf : Bool → ℕ → Part → (ℕ → ℕ) → ℕ
+byteOf isOpen kinds part w = cond (fits isOpen kinds part w) 1 0
 
--- The byte of card n under a part, by the counts of its links.
-abbrev pub byteAt : List ℕ → Extent → Part → ℕ → ℕ
-byteAt script e part n = byteOf (e .kinds) part (labelCount (neighbours script n (e .links)))
+-- The byte of card n under a shape, by the counts of its links.
+abbrev pub byteAt : List ℕ → Extent → Bool → Part → ℕ → ℕ
+byteAt script e isOpen part n = byteOf isOpen (e .kinds) part (labelCount (neighbours script n (e .links)))
 
 -- A grid of bytes: at n × shapes + t, the byte of card n under the shape t.
-pub record Fitted (script : List ℕ) (e : Extent) (parts : List Part) (grid : List ℕ) : Type 0 where
+pub record Fitted (template script : List ℕ) (e : Extent) (parts : List Part) (grid : List ℕ) : Type 0 where
   pub full : length grid ≡ e .cards * e .shapes
   pub each : (n t : ℕ) → n < e .cards → t < e .shapes
-      → getD grid (n * e .shapes + t) 0 ≡ byteAt script e (getD parts t Part.nothing) n
+      → getD grid (n * e .shapes + t) 0 ≡ byteAt script e (opens template t) (getD parts t Part.nothing) n
 
 -- A row of bytes: 1 at each shape that the counts fit, else 0.
 pub record RowFitted (template : List ℕ) (kinds shapes : ℕ) (counts row : List ℕ) : Type 0 where
   pub full : length row ≡ shapes
   pub each : (parts : List Part) → readTemplate template ≡ accepted (templateAs kinds shapes parts)
-      → (t : ℕ) → t < shapes → getD row t 0 ≡ byteOf kinds (getD parts t Part.nothing) (count counts)
+      → (t : ℕ) → t < shapes
+      → getD row t 0 ≡ byteOf (opens template t) kinds (getD parts t Part.nothing) (count counts)
 
 -- A row of bytes: 1 at each shape that the counts of card n's links fit, else 0.
 pub record CardFitted (template script : List ℕ) (e : Extent) (n : ℕ) (row : List ℕ) : Type 0 where
   pub full : length row ≡ e .shapes
   pub each : (parts : List Part) → readTemplate template ≡ accepted (templateAs (e .kinds) (e .shapes) parts)
-      → (t : ℕ) → t < e .shapes → getD row t 0 ≡ byteAt script e (getD parts t Part.nothing) n
+      → (t : ℕ) → t < e .shapes → getD row t 0 ≡ byteAt script e (opens template t) (getD parts t Part.nothing) n

@@ -109,7 +109,7 @@ pub fn fit_grid(
         (now grid) ⌝ }
     ensures { λ _. ⌜ ((parts : List Part) →
         readTemplate (now (template .entry)) ≡ accepted (templateAs (e .kinds) (e .shapes) parts) →
-        Fitted (now (script .entry)) e parts (now (grid .exit))) ⌝ }
+        Fitted (now (template .entry)) (now (script .entry)) e parts (now (grid .exit))) ⌝ }
 {
     let cards = wide(e.cards);
     let shapes = wide(e.shapes);

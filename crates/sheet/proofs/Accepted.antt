@@ -27,9 +27,10 @@ SheetNumber number = TemplateNumber number ⊎ script.ScriptNumber number
 pub sheet-numbers : (words list : List ℕ) → Numbered SheetNumber (readSheet words list)
 unfolding readSheet
 sheet-numbers words list =
-    then-numbered SheetNumber (readTemplate words) (λ t. mapped (λ c. sheetOf t c list) (readScript (t .kinds) list))
+    then-numbered SheetNumber (readTemplate words)
+    (λ t. mapped (λ c. sheetOf words t c list) (readScript (t .kinds) list))
     (numbered-map TemplateNumber SheetNumber (readTemplate words) (λ n h. inl h) (template-numbers words))
-    (λ t. mapped-numbered SheetNumber (λ c. sheetOf t c list) (readScript (t .kinds) list)
+    (λ t. mapped-numbered SheetNumber (λ c. sheetOf words t c list) (readScript (t .kinds) list)
     (numbered-map script.ScriptNumber SheetNumber (readScript (t .kinds) list) (λ n h. inr h)
     (script.script-numbers (t .kinds) list)))
 
@@ -40,11 +41,11 @@ pub record SheetAccepted (words : List ℕ) (kinds : ℕ) (s : Sheet) : Type 0 w
 
 module _ (words list : List ℕ) (t : Template) (c : ScriptCounts)
     (first : readTemplate words ≡ accepted t) (second : readScript (t .kinds) list ≡ accepted c) where
-  pub sheet-asked : readSheet words list ≡ accepted (sheetOf t c list)
+  pub sheet-asked : readSheet words list ≡ accepted (sheetOf words t c list)
   unfolding readSheet
   sheet-asked = rw (first, second)
 
-  pub sheet-made : SheetAccepted words (t .kinds) (sheetOf t c list)
+  pub sheet-made : SheetAccepted words (t .kinds) (sheetOf words t c list)
   sheet-made = record {
     shapes = template.template-accepted words t first;
     links = script.script-accepted (t .kinds) list c second;
@@ -60,7 +61,7 @@ pub sheet-read : (words list : List ℕ) (s : Sheet) → readSheet words list �
 unfolding readSheet
 sheet-read words list s e =
     let (t, first, rest) = then-accepted (readTemplate words)
-    (λ t. mapped (λ c. sheetOf t c list) (readScript (t .kinds) list)) s e in
-    let (c, second, same) = mapped-accepted (λ c. sheetOf t c list) (readScript (t .kinds) list) s rest in
+    (λ t. mapped (λ c. sheetOf words t c list) (readScript (t .kinds) list)) s e in
+    let (c, second, same) = mapped-accepted (λ c. sheetOf words t c list) (readScript (t .kinds) list) s rest in
     subst (λ (x : Sheet). (k : ℕ) × SheetAccepted words k x × (x .script ≡ list)) same
     (t .kinds, sheet-made words list t c first second, refl)

@@ -24,43 +24,44 @@ use Rattle.words.proofs.Readings.{accepted-same, passed, then-accepted}
 use Rattle.template.specs.declared.Sizes.{Sizes}
 use Rattle.template.specs.Reading.{Found, found, readPart}
 use Rattle.template.specs.Template.{Placed, placed, wholePart, noNames, readShape, readShapes, Template}
-use Rattle.template.specs.Template.{sizesOf, readTemplate}
-use Rattle.template.specs.Machine.{entryAt, Tabled, shapePlace}
+use Rattle.template.specs.Template.{partAt, shapePlace, sizesOf, readTemplate}
+use Rattle.template.specs.Machine.{entryAt, Tabled}
 use Rattle.template.proofs.Laws.{reads-within}
+use Rattle.template.proofs.Opening.{part-near}
 use Rattle.template.proofs.Trees.{LimitsOk, PartRead, reads-part}
 use Rattle.template.proofs.ShapeLaws.{shapes-first, shapes-last, shapes-length, template-shapes-read}
 
 -- A shape that was read, whose count of words stands at `at` and whose part ends at `end`.
 pub record ShapeAccepted (sizes : Sizes) (words : List ℕ) (at : ℕ) (p : Part) (end : ℕ) : Type 0 where
-  -- its words lie inside the template
-  pub start : at < length words
+  -- its words lie inside the template, and there is one
+  pub start : at + 1 < length words
   pub stop : end ≡ at + 1 + getD words at 0
   pub inside : end ≤ length words
   -- they are one part exactly
   pub after : List ℕ
-  pub whole : readPart maxDepth words end sizes (at + 1) noNames ≡ accepted (found p end after)
+  pub whole : readPart maxDepth words end sizes (partAt words at) noNames ≡ accepted (found p end after)
   pub part : PartRead sizes maxDepth noNames p after
 
 module _ (sizes : Sizes) (words : List ℕ) (b : sizes .kinds ≤ maxKinds) where
   whole-accepted :
       (at : ℕ) (f : Found Part) (p : Placed Part) → at < length words →
       getD words at 0 ≤ length words - (at + 1) →
-      readPart maxDepth words (at + 1 + getD words at 0) sizes (at + 1) noNames ≡ accepted f →
+      readPart maxDepth words (at + 1 + getD words at 0) sizes (partAt words at) noNames ≡ accepted f →
       wholePart (at + 1 + getD words at 0) f ≡ accepted p → ShapeAccepted sizes words at (p .value) (p .next)
   whole-accepted at (found q m after) p h i e f =
       let w = passed 12 m (ltb m (at + 1 + getD words at 0)) _ p f in
-      let inside = reads-within maxDepth words (at + 1 + getD words at 0) sizes (at + 1) noNames q m after e in
+      let inside = reads-within maxDepth words (at + 1 + getD words at 0) sizes (partAt words at) noNames q m after e in
       let u : m ≡ at + 1 + getD words at 0 = omega (arith, ltb-false m (at + 1 + getD words at 0) (w .0)) in
-      let v : readPart maxDepth words (at + 1 + getD words at 0) sizes (at + 1) noNames
+      let v : readPart maxDepth words (at + 1 + getD words at 0) sizes (partAt words at) noNames
       ≡ accepted (found q (at + 1 + getD words at 0) after) = rw u at e in
       subst (λ (r : Placed Part). ShapeAccepted sizes words at (r .value) (r .next)) (accepted-same (w .1))
       (record {
-        start = h;
+        start = omega (arith, inside, part-near words at);
         stop = refl;
         inside = omega arith;
         after = after;
         whole = v;
-        part = reads-part sizes words (at + 1 + getD words at 0) maxDepth (at + 1) noNames q
+        part = reads-part sizes words (at + 1 + getD words at 0) maxDepth (partAt words at) noNames q
             (at + 1 + getD words at 0) after (omega arith) v;
       })
 
@@ -72,8 +73,9 @@ module _ (sizes : Sizes) (words : List ℕ) (b : sizes .kinds ≤ maxKinds) wher
   reads-shape at p e =
       let (start, e₁) = passed 4 (length words) (leb (length words) at) _ p e in
       let (room, e₂) = passed 4 (length words) (ltb (length words - (at + 1)) (getD words at 0)) _ p e₁ in
-      let (f, read, whole) = then-accepted (readPart maxDepth words (at + 1 + getD words at 0) sizes (at + 1) noNames)
-      (wholePart (at + 1 + getD words at 0)) p e₂ in
+      let end = at + 1 + getD words at 0 in
+      let (f, read, whole) = then-accepted (readPart maxDepth words end sizes (partAt words at) noNames) (wholePart end)
+      p e₂ in
       whole-accepted at f p (leb-false _ _ start) (ltb-false _ _ room) read whole
 
 -- Where a shape's count of words stands, from the shape before it.

@@ -28,9 +28,9 @@ use Rattle.words.proofs.Readings.{accepted-same, accepted-turned, refuse-case}
 use Rattle.template.specs.declared.Read.{Read}
 use Rattle.template.specs.declared.Read.the-variants.{Next, Refused}
 use Rattle.template.specs.declared.Sizes.{Sizes}
-use Rattle.template.specs.Reading.{Code, nothing, single, group, unknown, link, wrapped, gathered, codeOf}
-use Rattle.template.specs.Reading.{Found, found, into, after, limitsOk, readLink, readRun, readGroup, readCode}
-use Rattle.template.specs.Reading.{readPart}
+use Rattle.template.specs.Reading.{Code, nothing, single, group, opening, unknown, link, wrapped, gathered}
+use Rattle.template.specs.Reading.{codeOf, Found, found, into, after, limitsOk, readLink, readRun, readGroup}
+use Rattle.template.specs.Reading.{readCode, readPart}
 use Rattle.template.specs.Machine.{Step, step, shown, outcome}
 
 -- Codes, by their ranges.
@@ -56,13 +56,28 @@ code-group n a b =
     let g : n < 18 = omega arith in
     simp (ne-eqb _ _ e, le-ltb _ _ f, le-ltb _ _ a, lt-ltb _ _ g)
 
-pub code-middle : (n : ℕ) → 18 ≤ n → n ≤ 255 → codeOf n ≡ unknown
-code-middle n a b =
+-- From 18 on.
+code-over :
+    (n : ℕ) → 18 ≤ n →
+    codeOf n
+    ≡ cond (eqb n 18) opening
+    (cond (ltb n 256) unknown
+    (cond (ltb n 320) (link (firstLabel outgoing) (n - 256))
+    (cond (ltb n 384) (link (firstLabel incoming) (n - 320)) unknown)))
+code-over n a =
     let e : n ≡ 0 → ⊥ = omega arith in
     let f : 4 ≤ n = omega arith in
     let g : 16 ≤ n = omega arith in
-    let h : n < 256 = omega arith in
-    simp (ne-eqb _ _ e, le-ltb _ _ f, le-ltb _ _ g, le-ltb _ _ a, lt-ltb _ _ h)
+    simp (ne-eqb _ _ e, le-ltb _ _ f, le-ltb _ _ g, le-ltb _ _ a)
+
+pub code-open : (n : ℕ) → n ≡ 18 → codeOf n ≡ opening
+code-open n e = code-over n (omega arith) ∙ simp (eq-eqb _ _ e)
+
+pub code-middle : (n : ℕ) → 19 ≤ n → n ≤ 255 → codeOf n ≡ unknown
+code-middle n a b =
+    let e : n ≡ 18 → ⊥ = omega arith in
+    let f : n < 256 = omega arith in
+    code-over n (omega arith) ∙ simp (ne-eqb _ _ e, lt-ltb _ _ f)
 
 -- From 256 on.
 code-top :
@@ -71,11 +86,8 @@ code-top :
     ≡ cond (ltb n 320) (link (firstLabel outgoing) (n - 256))
     (cond (ltb n 384) (link (firstLabel incoming) (n - 320)) unknown)
 code-top n a =
-    let e : n ≡ 0 → ⊥ = omega arith in
-    let f : 4 ≤ n = omega arith in
-    let g : 16 ≤ n = omega arith in
-    let h : 18 ≤ n = omega arith in
-    simp (ne-eqb _ _ e, le-ltb _ _ f, le-ltb _ _ g, le-ltb _ _ h, le-ltb _ _ a)
+    let e : n ≡ 18 → ⊥ = omega arith in
+    code-over n (omega arith) ∙ simp (ne-eqb _ _ e, le-ltb _ _ a)
 
 pub code-link :
     (way : Way) (kind n : ℕ) → kind < maxKinds → n ≡ 256 + labelOf way kind → codeOf n ≡ link (firstLabel way) kind
@@ -98,16 +110,18 @@ code-high n a =
 pub code-case :
     (P : Code → Type 0) (n : ℕ) → (n ≡ 0 → P nothing) → (1 ≤ n → n < 4 → P (single (wrapped n))) →
     (16 ≤ n → n < 18 → P (group (gathered n))) →
-    ((way : Way) (kind : ℕ) → n ≡ 256 + labelOf way kind → P (link (firstLabel way) kind)) → P unknown → P (codeOf n)
-code-case P n none one many linked other =
+    ((way : Way) (kind : ℕ) → n ≡ 256 + labelOf way kind → P (link (firstLabel way) kind)) → P opening → P unknown →
+    P (codeOf n)
+code-case P n none one many linked open-one other =
     cond-case P (eqb n 0) _ _ (λ e. none (eqb-true n 0 e))
     (λ e. cond-case P (ltb n 4) _ _ (λ f. one (omega (arith, eqb-false n 0 e)) (ltb-true n 4 f))
     (λ f. cond-case P (ltb n 16) _ _ (λ g. other)
     (λ g. cond-case P (ltb n 18) _ _ (λ h. many (ltb-false n 16 g) (ltb-true n 18 h))
-    (λ h. cond-case P (ltb n 256) _ _ (λ i. other)
+    (λ h. cond-case P (eqb n 18) _ _ (λ o. open-one)
+    (λ o. cond-case P (ltb n 256) _ _ (λ i. other)
     (λ i. cond-case P (ltb n 320) _ _ (λ j. linked outgoing (n - 256) (omega (arith, ltb-false n 256 i)))
     (λ j. cond-case P (ltb n 384) _ _ (λ k. linked incoming (n - 320) (omega (arith, ltb-false n 320 j)))
-    (λ k. other)))))))
+    (λ k. other))))))))
 
 -- Each label is that of a kind, one way or the other.
 pub label-kind : (label : ℕ) → label < maxLabels → OfKindBelow maxKinds label
@@ -215,8 +229,13 @@ module _
   unfolding shown
   part-low a b = by-code unknown (code-low _ a b)
 
+  pub part-open :
+      getD words at 0 ≡ 18 → shown (Refused 64 at) row ≡ outcome (readPart left words end sizes at row)
+  unfolding shown
+  part-open e = by-code opening (code-open _ e)
+
   pub part-middle :
-      18 ≤ getD words at 0 → getD words at 0 ≤ 255 →
+      19 ≤ getD words at 0 → getD words at 0 ≤ 255 →
       shown (Refused 5 at) row ≡ outcome (readPart left words end sizes at row)
   unfolding shown
   part-middle a b = by-code unknown (code-middle _ a b)
@@ -367,6 +386,7 @@ within-code (group f) inner words end sizes at row h w =
     (λ e₃. within-less (at + 2) (at + 1) end (readRun inner (getD words (at + 1) 0) (at + 2) row) (omega arith)
     (within-run inner end w (getD words (at + 1) 0) (at + 2) row (omega (arith, ltb-false (end - at) 2 e)))))))
 within-code (link first kind) inner words end sizes at row h w = within-link words end sizes at row first kind
+within-code opening inner words end sizes at row h w = tt
 within-code unknown inner words end sizes at row h w = tt
 
 within-part :

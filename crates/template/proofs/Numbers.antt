@@ -1,7 +1,9 @@
--- Which numbers a template is refused with: 1 to 12.
+-- Which numbers a template is refused with: 1 to 12, and 64.
 -- TemplateNumber     a number of a template's refusals
 -- template-numbers   a template that is refused is refused with one of them
 -- Assumes nothing.
+use mathlib.Core.Path.{_≡_, refl}
+use mathlib.Core.Logic.{_⊎_, inl, inr}
 use mathlib.Core.Bool.{Bool, not}
 use mathlib.Core.List.{List, _∷_}
 use Prim.Native.Nat.{ℕ, zero, suc, _+_, _-_, _≤_}
@@ -13,21 +15,21 @@ use Rattle.words.specs.Limits.{maxKinds, maxShapes, maxTemplate, maxDepth, minG
 use Rattle.words.specs.Reading.{Reading, refuse, mapped}
 use Rattle.words.proofs.Readings.{Numbered, refuse-numbered, then-numbered, mapped-numbered}
 use Rattle.template.specs.declared.Sizes.{Sizes}
-use Rattle.template.specs.Reading.{Code, nothing, single, group, unknown, link, codeOf, Found, found, into}
-use Rattle.template.specs.Reading.{after, limitsOk, readLink, readRun, readGroup, readCode, readPart}
-use Rattle.template.specs.Template.{onto, wholePart, noNames, readShape, readShapes, sizesOf, templateOf}
+use Rattle.template.specs.Reading.{Code, nothing, single, group, opening, unknown, link, codeOf, Found, found}
+use Rattle.template.specs.Reading.{into, after, limitsOk, readLink, readRun, readGroup, readCode, readPart}
+use Rattle.template.specs.Template.{onto, wholePart, noNames, partAt, readShape, readShapes, sizesOf, templateOf}
 use Rattle.template.specs.Template.{readTemplate}
 
 -- A number of a template's refusals.
 abbrev pub TemplateNumber : ℕ → Type 0
-TemplateNumber n = (1 ≤ n) × (n ≤ 12)
+TemplateNumber n = ((1 ≤ n) × (n ≤ 12)) ⊎ (n ≡ 64)
 
 -- One test of a decision list.
 module _ {A : Type 0} where
   tested :
       (number place : ℕ) (test : Bool) (rest : Reading A) → 1 ≤ number → number ≤ 12 →
       Numbered TemplateNumber rest → Numbered TemplateNumber (refuse number place test rest)
-  tested number place test rest low high h = refuse-numbered TemplateNumber number place test rest (low, high) h
+  tested number place test rest low high h = refuse-numbered TemplateNumber number place test rest (inl (low, high)) h
 
 after-numbers :
     {A B : Type 0} (rest : A → ℕ → List ℕ → Reading B) (f : Found A) →
@@ -75,12 +77,13 @@ module _ (words : List ℕ) (end : ℕ) (sizes : Sizes) where
       (tested 11 (at + 1) (ltb maxGroup (getD words (at + 1) 0)) _ (omega arith) (omega arith)
       (run-numbers inner h (getD words (at + 1) 0) (at + 2) row))))
   code-numbers (link first kind) inner at row h = link-numbers at row first kind
-  code-numbers unknown inner at row h = (omega arith, omega arith)
+  code-numbers opening inner at row h = inr refl
+  code-numbers unknown inner at row h = inl (omega arith, omega arith)
 
   part-numbers : (left at : ℕ) (row : List ℕ) → Numbered TemplateNumber (readPart left words end sizes at row)
   unfolding readPart
   part-numbers zero at row =
-      tested {A = Found Part} 4 end (leb end at) _ (omega arith) (omega arith) (omega arith, omega arith)
+      tested {A = Found Part} 4 end (leb end at) _ (omega arith) (omega arith) (inl (omega arith, omega arith))
   part-numbers (suc left) at row =
       tested 4 end (leb end at) _ (omega arith) (omega arith)
       (code-numbers (codeOf (getD words at 0)) (readPart left words end sizes) at row (part-numbers left))
@@ -94,9 +97,9 @@ module _ (sizes : Sizes) (words : List ℕ) where
   shape-numbers at =
       tested 4 (length words) (leb (length words) at) _ (omega arith) (omega arith)
       (tested 4 (length words) (ltb (length words - (at + 1)) (getD words at 0)) _ (omega arith) (omega arith)
-      (then-numbered TemplateNumber (readPart maxDepth words (at + 1 + getD words at 0) sizes (at + 1) noNames)
+      (then-numbered TemplateNumber (readPart maxDepth words (at + 1 + getD words at 0) sizes (partAt words at) noNames)
       (wholePart (at + 1 + getD words at 0))
-      (part-numbers words (at + 1 + getD words at 0) sizes maxDepth (at + 1) noNames)
+      (part-numbers words (at + 1 + getD words at 0) sizes maxDepth (partAt words at) noNames)
       (whole-numbers (at + 1 + getD words at 0))))
 
   shapes-numbers : (count at : ℕ) → Numbered TemplateNumber (readShapes sizes words count at)

@@ -1,5 +1,6 @@
 -- Every well-formed template, written, is read as itself; and what is read is the writing of what it is read as.
---   written-is-read   a well-formed template that is written is read as that template
+--   written-is-read   a well-formed template that is written is read as that template; written-opens: with those shapes
+--                     open that are written so
 --   read-is-written   the words of a template that is read are those that are written for it
 --   read-is-formed    and it is well-formed
 --   templates-are     so the words that are read are just the writings of the well-formed templates
@@ -7,6 +8,7 @@
 use Prim.Native.Nat.{ℕ, _≤_, _<_}
 use mathlib.Core.Path.{_≡_, refl, sym, ap, subst, _∙_}
 use mathlib.Core.Logic.{_↔_}
+use mathlib.Core.Bool.{Bool}
 use mathlib.Core.List.{List, _∷_}
 use native.Mathlib.Omega.{arith}
 use borrow.Author.Tests.{le-ltb, ltb-false}
@@ -16,29 +18,39 @@ use Rattle.words.specs.Limits.{maxKinds, maxShapes, maxTemplate}
 use Rattle.words.specs.Reading.{accepted}
 use Rattle.words.proofs.Readings.{passed}
 use Rattle.bags.specs.Part.{Part}
-use Rattle.template.specs.Template.{readShapes, Template, sizesOf, readTemplate}
+use Rattle.template.specs.Template.{readShapes, opens, Template, sizesOf, readTemplate}
 use Rattle.template.specs.Writer.{writeShapes, writeTemplate, WithinLimits, WellFormed}
 use Rattle.template.proofs.ShapeLaws.{template-shapes-read}
 use Rattle.template.proofs.Accepted.{template-accepted}
 use Rattle.template.proofs.WriterPlaces.{Stands, stands-after, stands-all, stands-cons, stands-only}
-use Rattle.template.proofs.RoundTripWritten.{shapes-written}
+use Rattle.template.proofs.RoundTripWritten.{shapes-written, shapes-open}
 use Rattle.template.proofs.RoundTripRead.{Holds, ShapesBack, shapes-back}
 
 -- The template of these counts and parts.
 abbrev pub template : ℕ → ℕ → List Part → Template
 template kinds shapes parts = record { kinds = kinds; shapes = shapes; parts = parts }
 
-pub written-is-read : (kinds shapes : ℕ) (parts : List Part) → WellFormed kinds shapes parts
-    → readTemplate (writeTemplate kinds shapes parts) ≡ accepted (template kinds shapes parts)
+module _ (kinds shapes : ℕ) (isOpen : ℕ → Bool) (parts : List Part) where
+  abbrev written : List ℕ
+  written = writeTemplate kinds shapes isOpen parts
+
+  -- the shapes stand after the two counts
+  shapes-stand : Stands written 2 (writeShapes isOpen parts)
+  shapes-stand =
+      stands-after written 1 shapes (writeShapes isOpen parts)
+      (stands-after written 0 kinds (shapes ∷ writeShapes isOpen parts) (stands-all written))
+
+  pub written-opens : (t : ℕ) → t < length parts → opens written t ≡ isOpen t
+  written-opens t l = shapes-open written isOpen parts 2 shapes-stand t l
+
+pub written-is-read : (kinds shapes : ℕ) (isOpen : ℕ → Bool) (parts : List Part) → WellFormed kinds shapes isOpen parts
+    → readTemplate (writeTemplate kinds shapes isOpen parts) ≡ accepted (template kinds shapes parts)
 unfolding readTemplate
-written-is-read kinds shapes parts w =
-    let words : List ℕ = writeTemplate kinds shapes parts in
+written-is-read kinds shapes isOpen parts w =
+    let words : List ℕ = writeTemplate kinds shapes isOpen parts in
     let two : 2 ≤ length words = omega arith in
-    let rest : Stands words 2 (writeShapes parts) =
-    stands-after words 1 shapes (writeShapes parts)
-    (stands-after words 0 kinds (shapes ∷ writeShapes parts) (stands-all words)) in
-    let read = shapes-written kinds shapes (w .kinds-high) words parts
-    (λ t l. w .formed t (omega (arith, w .each-shape))) 2 rest (omega arith) in
+    let read = shapes-written kinds shapes (w .kinds-high) words isOpen parts
+    (λ t l. w .formed t (omega (arith, w .each-shape))) 2 (shapes-stand kinds shapes isOpen parts) (omega arith) in
     let read′ : readShapes (sizesOf kinds shapes) words shapes 2
     ≡ accepted (record { value = parts; next = length words }) = rw (w .each-shape) at read in
     simp (
@@ -55,7 +67,7 @@ written-is-read kinds shapes parts w =
 -- What is known of the words of a template that is read, and of its parts.
 abbrev Back : List ℕ → Template → Type 0
 Back words t =
-    (words ≡ writeTemplate (t .kinds) (t .shapes) (t .parts))
+    (words ≡ writeTemplate (t .kinds) (t .shapes) (opens words) (t .parts))
     × ((n : ℕ) → n < t .shapes → WithinLimits (getD (t .parts) n Part.nothing))
 
 template-back : (words : List ℕ) (t : Template) → readTemplate words ≡ accepted t → Back words t
@@ -75,20 +87,20 @@ template-back words t e =
     subst (Holds (ShapesBack words (sizesOf kinds shapes) shapes 2)) q
     (shapes-back words (sizesOf kinds shapes) shapes 2 two) in
     let (s, size, count, limits) = found in
+    let xs : List ℕ = writeShapes (opens words) (read .value) in
     subst (Back words) (sym same) (
-      stands-only words (kinds ∷ shapes ∷ writeShapes (read .value))
-          (stands-cons words 0 kinds (shapes ∷ writeShapes (read .value)) refl
-          (stands-cons words 1 shapes (writeShapes (read .value)) refl s))
+      stands-only words (kinds ∷ shapes ∷ xs)
+          (stands-cons words 0 kinds (shapes ∷ xs) refl (stands-cons words 1 shapes xs refl s))
           (omega arith),
       limits,
     )
 
 pub read-is-written : (words : List ℕ) (t : Template) → readTemplate words ≡ accepted t
-    → words ≡ writeTemplate (t .kinds) (t .shapes) (t .parts)
+    → words ≡ writeTemplate (t .kinds) (t .shapes) (opens words) (t .parts)
 read-is-written words t e = template-back words t e .0
 
 pub read-is-formed : (words : List ℕ) (t : Template) → readTemplate words ≡ accepted t
-    → WellFormed (t .kinds) (t .shapes) (t .parts)
+    → WellFormed (t .kinds) (t .shapes) (opens words) (t .parts)
 read-is-formed words t e =
     let a = template-accepted words t e in
     let (written, limits) = template-back words t e in
@@ -110,10 +122,11 @@ read-is-formed words t e =
 
 -- A list of words is read as a template exactly if the template is well-formed and the words are those written for it.
 pub templates-are : (words : List ℕ) (t : Template) → (readTemplate words ≡ accepted t)
-    ↔ (WellFormed (t .kinds) (t .shapes) (t .parts) × (words ≡ writeTemplate (t .kinds) (t .shapes) (t .parts)))
+    ↔ (WellFormed (t .kinds) (t .shapes) (opens words) (t .parts)
+    × (words ≡ writeTemplate (t .kinds) (t .shapes) (opens words) (t .parts)))
 templates-are words t = (
   λ e. (read-is-formed words t e, read-is-written words t e),
   λ h.
       let (w, e) = h in
-      ap readTemplate e ∙ written-is-read (t .kinds) (t .shapes) (t .parts) w,
+      ap readTemplate e ∙ written-is-read (t .kinds) (t .shapes) (opens words) (t .parts) w,
 )

@@ -14,18 +14,21 @@ use lib.ListN.{length, getD, length-append}
 use lib.Dec.{ltb, leb, eqb}
 use Rattle.words.specs.Limits.{minGroup, maxGroup, maxCount, maxDepth, noLimit}
 use Rattle.words.specs.Reading.{Reading, accepted, turnedDown, then, mapped}
-use Rattle.words.proofs.Bools.{cond-case, never-both, is-true, not-of-false}
+use Rattle.words.proofs.Bools.{cond-case, bool-case, never-both, is-true, not-of-false}
 use Rattle.words.proofs.Readings.{refuse-case}
 use Rattle.bags.specs.Label.{firstLabel}
 use Rattle.bags.specs.Part.{Part, Parts, limitUnless, limitOf}
 use Rattle.template.specs.declared.Sizes.{Sizes}
 use Rattle.template.specs.Reading.{Code, wrapped, gathered, codeOf, Found, found, into, after, limitsOk}
 use Rattle.template.specs.Reading.{readLink, readRun, readGroup, readCode, readPart}
-use Rattle.template.specs.Template.{Placed, onto, noNames, wholePart, readShape, readShapes}
-use Rattle.template.specs.Writer.{writeLimit, runLength, writePart, writeRun, writeShapes, LimitsIn}
-use Rattle.template.specs.Writer.{WithinLimits, RunWithinLimits}
+use Rattle.template.specs.Template.{Placed, onto, noNames, wholePart, openAt, partAt, readShape, readShapes}
+use Rattle.template.specs.Template.{shapePlace}
+use Rattle.template.specs.Writer.{writeLimit, runLength, writePart, writeRun, writeShape, writeShapes}
+use Rattle.template.specs.Writer.{LimitsIn, WithinLimits, RunWithinLimits}
 use Rattle.template.proofs.Laws.{code-case}
-use Rattle.template.proofs.WriterPlaces.{Stands, stands-nil, stands-cons, stands-four, stands-append}
+use Rattle.template.proofs.Opening.{open-word, part-open, part-closed}
+use Rattle.template.proofs.WriterPlaces.{Stands, stands-here, stands-nil, stands-cons, stands-four}
+use Rattle.template.proofs.WriterPlaces.{stands-append}
 
 -- ---- readings
 -- What is accepted has the property.
@@ -205,6 +208,7 @@ module _ (words : List ℕ) (end : ℕ) where
       (λ a b. group-back inner h n at row here a b)
       (λ way kind e. link-back sizes at row (firstLabel way) kind (here ∙ e))
       tt
+      tt
 
   pub part-back : (sizes : Sizes) (left at : ℕ) (row : List ℕ)
       → Holds (PartBack at) (readPart left words end sizes at row)
@@ -217,23 +221,42 @@ module _ (words : List ℕ) (end : ℕ) where
 
 -- ---- shapes
 module _ (words : List ℕ) (sizes : Sizes) where
+  -- A shape's words stand after its count, where its part stands where it starts, and end with it.
+  shape-stands : (at : ℕ) (p : Part) → Stands words (partAt words at) (writePart p)
+      → Stands words (at + 1) (writeShape (openAt words at) p)
+      × (at + 1 + length (writeShape (openAt words at) p) ≡ partAt words at + length (writePart p))
+  shape-stands at p s = bool-case (openAt words at)
+      (λ e.
+      let start = part-open words at e in
+      let next : partAt words at ≡ at + 1 + 1 = omega (arith, start) in
+      rw e (
+        stands-cons words (at + 1) 18 (writePart p) (open-word words at e)
+            (subst (λ (k : ℕ). Stands words k (writePart p)) next s),
+        omega (arith, start),
+      ))
+      (λ e.
+      let start = part-closed words at e in
+      rw e (subst (λ (k : ℕ). Stands words k (writePart p)) start s, omega (arith, start)))
+
   -- The shape's count of words and its words stand there, up to the next place.
   abbrev ShapeBack : ℕ → Placed Part → Type 0
   ShapeBack at read =
-      Stands words at (length (writePart (read .value)) ∷ writePart (read .value))
-      × (read .next ≡ at + suc (length (writePart (read .value)))) × (read .next ≤ length words)
+      let xs = writeShape (openAt words at) (read .value) in
+      Stands words at (length xs ∷ xs) × (read .next ≡ at + suc (length xs)) × (read .next ≤ length words)
       × WithinLimits (read .value)
 
   whole-back : (at : ℕ) → at < length words → getD words at 0 ≤ length words - (at + 1)
-      → (f : Found Part) → PartBack words (at + 1 + getD words at 0) (at + 1) f
+      → (f : Found Part) → PartBack words (at + 1 + getD words at 0) (partAt words at) f
       → Holds (ShapeBack at) (wholePart (at + 1 + getD words at 0) f)
   whole-back at l room (found p next row) w =
       let (s, e, b, limits) = w in
       let end : ℕ = at + 1 + getD words at 0 in
+      let xs : List ℕ = writeShape (openAt words at) p in
+      let (stand, size) = shape-stands at p s in
       refuse-case 12 next (Holds (ShapeBack at)) (ltb next end) _ (λ f. tt)
       (λ f.
       let last : end ≤ next = ltb-false next end f in (
-        stands-cons words at (length (writePart p)) (writePart p) (omega arith) s,
+        stands-cons words at (length xs) xs (omega arith) stand,
         omega arith,
         omega arith,
         limits,
@@ -243,29 +266,48 @@ module _ (words : List ℕ) (sizes : Sizes) where
   unfolding readShape
   shape-back at =
       let end : ℕ = at + 1 + getD words at 0 in
+      let start : ℕ = partAt words at in
       refuse-case 4 (length words) (Holds (ShapeBack at)) (leb (length words) at) _ (λ e. tt)
       (λ e. refuse-case 4 (length words) (Holds (ShapeBack at)) (ltb (length words - (at + 1)) (getD words at 0)) _
       (λ f. tt)
-      (λ f. then-holds (PartBack words end (at + 1)) (ShapeBack at) (readPart maxDepth words end sizes (at + 1) noNames)
-      (wholePart end) (part-back words end sizes maxDepth (at + 1) noNames)
+      (λ f. then-holds (PartBack words end start) (ShapeBack at) (readPart maxDepth words end sizes start noNames)
+      (wholePart end) (part-back words end sizes maxDepth start noNames)
       (whole-back at (leb-false (length words) at e) (ltb-false _ _ f))))
+
+  -- Which shapes are open, from the one whose count of words stands at a place.
+  abbrev opensFrom : ℕ → ℕ → Bool
+  opensFrom at t = openAt words (shapePlace words t at)
 
   -- The words of so many shapes stand there, up to the template's end.
   abbrev pub ShapesBack : ℕ → ℕ → Placed (List Part) → Type 0
   ShapesBack count at read =
-      Stands words at (writeShapes (read .value)) × (length words ≡ at + length (writeShapes (read .value)))
-      × (length (read .value) ≡ count)
+      let xs = writeShapes (opensFrom at) (read .value) in
+      Stands words at xs × (length words ≡ at + length xs) × (length (read .value) ≡ count)
       × ((t : ℕ) → t < count → WithinLimits (getD (read .value) t Part.nothing))
+
+  -- The shapes after the first are those from its end on.
+  opens-after : (at next : ℕ) (xs : List ℕ) → Stands words at (length xs ∷ xs) → next ≡ at + suc (length xs)
+      → (λ (t : ℕ). opensFrom at (suc t)) ≡ opensFrom next
+  unfolding shapePlace
+  opens-after at next xs s e =
+      let here = stands-here words at (length xs) xs s in
+      let same : at + 1 + getD words at 0 ≡ next = omega (arith, here) in
+      ap opensFrom same
 
   first-back : (n at : ℕ) (first : Placed Part) → ShapeBack at first → (others : Placed (List Part))
       → ShapesBack n (first .next) others → ShapesBack (suc n) at (onto (_∷_ (first .value)) others)
+  unfolding shapePlace
   first-back n at first v others w =
       let (s, e, b, limits) = v in
-      let (r, f, c, more) = w in
-      let xs : List ℕ = length (writePart (first .value)) ∷ writePart (first .value) in
-      let count = length-append xs (writeShapes (others .value)) in (
-        stands-append words at xs (writeShapes (others .value)) s
-            (subst (λ (k : ℕ). Stands words k (writeShapes (others .value))) e r),
+      let xs : List ℕ = writeShape (openAt words at) (first .value) in
+      let same = opens-after at (first .next) xs s e in
+      let rest : List ℕ = writeShapes (λ t. opensFrom at (suc t)) (others .value) in
+      let (r, f, c, more) =
+      subst (λ (o : ℕ → Bool). Stands words (first .next) (writeShapes o (others .value))
+      × (length words ≡ first .next + length (writeShapes o (others .value))) × (length (others .value) ≡ n)
+      × ((t : ℕ) → t < n → WithinLimits (getD (others .value) t Part.nothing))) (sym same) w in
+      let count = length-append (length xs ∷ xs) rest in (
+        stands-append words at (length xs ∷ xs) rest s (subst (λ (k : ℕ). Stands words k rest) e r),
         omega arith,
         ap suc c,
         each limits more,

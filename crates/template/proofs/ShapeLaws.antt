@@ -22,10 +22,11 @@ use Rattle.template.specs.declared.Read.{Read}
 use Rattle.template.specs.declared.Read.the-variants.{Next, Refused}
 use Rattle.template.specs.declared.Sizes.{Sizes}
 use Rattle.template.specs.Reading.{Found, found, readPart}
-use Rattle.template.specs.Template.{Placed, placed, onto, wholePart, noNames, readShape, readShapes, Template}
-use Rattle.template.specs.Template.{sizesOf, templateOf, readTemplate, templateValues, templateSays}
+use Rattle.template.specs.Template.{Placed, placed, onto, wholePart, noNames, partAt, readShape, readShapes}
+use Rattle.template.specs.Template.{Template, sizesOf, templateOf, readTemplate, templateValues, templateSays}
 use Rattle.template.specs.Machine.{Step, shown, outcome, readOf, RowNames}
 use Rattle.template.proofs.Trees.{reads-names}
+use Rattle.template.proofs.Opening.{part-near}
 
 -- An answer tells whether something was read.
 pub refused-read :
@@ -100,22 +101,31 @@ module _ (sizes : Sizes) (words : List ℕ) (at : ℕ) where
   module _
       (count : ℕ) (h : at < length words) (e : count ≡ getD words at 0) (i : count ≤ length words - (at + 1)) where
     shape-by :
-        then (readPart maxDepth words (at + 1 + count) sizes (at + 1) noNames) (wholePart (at + 1 + count))
+        then (readPart maxDepth words (at + 1 + count) sizes (partAt words at) noNames) (wholePart (at + 1 + count))
         ≡ readShape sizes words at
     unfolding readShape
     shape-by =
         let j : getD words at 0 ≤ length words - (at + 1) = omega arith in
         simp (lt-leb _ _ h, le-ltb _ _ j)
         (ap
-        (λ (n : ℕ). then (readPart maxDepth words (at + 1 + n) sizes (at + 1) noNames) (wholePart (at + 1 + n))) e)
+        (λ (n : ℕ).
+        then (readPart maxDepth words (at + 1 + n) sizes (partAt words at) noNames) (wholePart (at + 1 + n))) e)
+
+    -- A shape of no words has no part, wherever it would start.
+    pub shape-empty : (P : Placed Part → Type 0) → count ≡ 0 → ShapeRead sizes words at (Refused 4 (at + 1)) P
+    unfolding readPart
+    shape-empty P none =
+        let end : at + 1 + count ≡ at + 1 = omega arith in
+        let past : at + 1 ≤ partAt words at = part-near words at .0 in
+        no-shape 4 (at + 1) P (ap readOf (simp (end, le-leb _ _ past) at shape-by))
 
     module _
-        (row : List ℕ) (r : Read) (after : List ℕ) (b : row ≡ noNames)
-        (q : shown r after ≡ outcome (readPart maxDepth words (at + 1 + count) sizes (at + 1) row)) where
+        (row : List ℕ) (start : ℕ) (r : Read) (after : List ℕ) (b : row ≡ noNames) (f : start ≡ partAt words at)
+        (q : shown r after ≡ outcome (readPart maxDepth words (at + 1 + count) sizes start row)) where
       shape-finished : finished (at + 1 + count) (shown r after) ≡ readOf (readShape sizes words at)
       shape-finished =
-          ap (finished (at + 1 + count)) (rw b at q)
-          ∙ finished-whole (at + 1 + count) (readPart maxDepth words (at + 1 + count) sizes (at + 1) noNames)
+          ap (finished (at + 1 + count)) (rw (b, f) at q)
+          ∙ finished-whole (at + 1 + count) (readPart maxDepth words (at + 1 + count) sizes (partAt words at) noNames)
           ∙ ap readOf shape-by
 
       pub shape-left :
@@ -132,9 +142,9 @@ module _ (sizes : Sizes) (words : List ℕ) (at : ℕ) where
       -- The row has the names of the part that was read.
       shape-names : (n : ℕ) → sizes .kinds ≤ maxKinds → r ≡ Next n → RowNames (readShape sizes words at) after
       shape-names n l o p s =
-          whole-names (at + 1 + count) (readPart maxDepth words (at + 1 + count) sizes (at + 1) noNames) n after p
-          (rw (b, o) at q) (shape-by ∙ s)
-          (λ t m row' f. reads-names sizes words (at + 1 + count) maxDepth (at + 1) t m row' l f)
+          whole-names (at + 1 + count) (readPart maxDepth words (at + 1 + count) sizes (partAt words at) noNames) n
+          after p (rw (b, f, o) at q) (shape-by ∙ s)
+          (λ t m row' g. reads-names sizes words (at + 1 + count) maxDepth (partAt words at) t m row' l g)
 
       pub shape-done :
           (n : ℕ) → sizes .kinds ≤ maxKinds → r ≡ Next n → at + 1 + count ≤ n →

@@ -330,6 +330,7 @@ module _ (sizes : Sizes) where
         (readGroup (readPart left words end sizes) words end at row) (group-reads left at row b h))
         (λ way kind e. link-reads left at row way kind b)
         tt
+        tt
 
     part-reads :
         (left at : ℕ) (row : List ℕ) → Room (sizes .kinds) row →

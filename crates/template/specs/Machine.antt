@@ -1,13 +1,12 @@
--- What the inner functions of the reader go by, and where shapes stand; no part of a promise.
+-- What the inner functions of the reader go by; no part of a promise.
 -- Step, shown, outcome   what the code shows of a part that is read: the next place and the row, or the refusal
 -- readOf                 what it shows of a shape, or of all shapes
 -- Inside, LinkAsked      what the readers of a part, and of a link, ask
 -- Ready, RowNames        what the readers of a shape ask, and the names that they leave in its row
 -- entryAt, Tabled        an entry of the table of names; the table has the shapes that each shape names
 -- Empty, Filled          what filling the table of names asks, and what it leaves there
--- shapePlace             where a shape's count of words stands
 -- Assumes nothing.
-use Prim.Native.Nat.{ℕ, zero, suc, _+_, _*_, _≤_, _<_}
+use Prim.Native.Nat.{ℕ, _+_, _*_, _≤_, _<_}
 use mathlib.Core.Path.{_≡_}
 use mathlib.Core.List.{List}
 use lib.ListN.{length, getD, replicate}
@@ -88,8 +87,3 @@ Tabled parts names =
 -- A table has the names of all shapes that were read.
 abbrev pub Filled : Reading (Placed (List Part)) → List ℕ → Type 0
 Filled reading names = (p : Placed (List Part)) → reading ≡ accepted p → Tabled (p .value) names
-
--- Where the count of words of the shape stands that is n shapes after the one whose count is at `at`.
-unfoldable pub shapePlace : List ℕ → ℕ → ℕ → ℕ
-shapePlace words zero at = at
-shapePlace words (suc n) at = shapePlace words n (at + 1 + getD words at 0)

@@ -17,13 +17,14 @@ use Rattle.bags.specs.Label.{outgoing, incoming, firstLabel}
 use Rattle.bags.specs.Part.{Part, Parts, limitOf}
 use Rattle.template.specs.declared.Sizes.{Sizes}
 
--- What a code starts: nothing, one part that is wrapped, a group of parts, a link, or nothing known.
+-- What a code starts: nothing, one part that is wrapped, a group of parts, a link, an open shape, or nothing known.
 pub data Code : Type 0 where
   nothing : Code
   single : (Part → Part) → Code
   group : (Parts → Part) → Code
   -- where the labels of its way start, and its kind
   link : ℕ → ℕ → Code
+  opening : Code
   unknown : Code
 
 -- 1: star, 2: plus, 3: optional.
@@ -34,17 +35,18 @@ wrapped n p = cond (eqb n 1) (Part.star p) (cond (eqb n 2) (Part.plus p) (Part.o
 abbrev pub gathered : ℕ → Parts → Part
 gathered n ps = cond (eqb n 16) (Part.choice ps) (Part.all ps)
 
--- 0; 1 to 3; 16 and 17; 256 to 319, outgoing links; 320 to 383, incoming ones; 4 to 15, 18 to 255 and 384 and above are
--- unknown.
+-- 0; 1 to 3; 16 and 17; 18; 256 to 319, outgoing links; 320 to 383, incoming ones; 4 to 15, 19 to 255 and 384 and above
+-- are unknown.
 abbrev pub codeOf : ℕ → Code
 codeOf n =
     cond (eqb n 0) nothing
     (cond (ltb n 4) (single (wrapped n))
     (cond (ltb n 16) unknown
     (cond (ltb n 18) (group (gathered n))
+    (cond (eqb n 18) opening
     (cond (ltb n 256) unknown
     (cond (ltb n 320) (link (firstLabel outgoing) (n - 256))
-    (cond (ltb n 384) (link (firstLabel incoming) (n - 320)) unknown))))))
+    (cond (ltb n 384) (link (firstLabel incoming) (n - 320)) unknown)))))))
 
 -- What was read, the next place and the row.
 pub data Found (A : Type 0) : Type 0 where
@@ -92,13 +94,14 @@ readGroup inner words end at row =
     (refuse 11 (at + 1) (ltb maxGroup (getD words (at + 1) 0))
     (readRun inner (getD words (at + 1) 0) (at + 2) row)))
 
--- The part that a code starts. 5: the code is unknown.
+-- The part that a code starts. 64: it is the code of an open shape, which starts no part. 5: the code is unknown.
 abbrev pub readCode :
     Code → (ℕ → List ℕ → Reading (Found Part)) → List ℕ → ℕ → Sizes → ℕ → List ℕ → Reading (Found Part)
 readCode nothing inner words end sizes at row = accepted (found Part.nothing (at + 1) row)
 readCode (single f) inner words end sizes at row = mapped (into f) (inner (at + 1) row)
 readCode (group f) inner words end sizes at row = mapped (into f) (readGroup inner words end at row)
 readCode (link first kind) inner words end sizes at row = readLink words end sizes at row first kind
+readCode opening inner words end sizes at row = turnedDown 64 at
 readCode unknown inner words end sizes at row = turnedDown 5 at
 
 -- The part at a place below the shape's end, where `left` levels are still allowed. 4: the code is missing. 6: the part

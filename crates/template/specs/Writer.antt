@@ -1,11 +1,12 @@
 -- Writing a template: the words of its parts, and which templates are well-formed (docs/FORMAT.md, "Templates"). Used
 -- only by theorems; no part of a promise of a call.
--- writePart, writeTemplate   the words of a part, and of a template
+-- writePart, writeShape, writeTemplate   the words of a part, of a shape that is open or closed, and of a template
 -- WithinLimits               every link's low and high, and every group's count, are within the limits
 -- PartFormed, WellFormed     what a shape's part must be, and what a template must be
 -- Assumes nothing.
 use Prim.Native.Nat.{ℕ, suc, _+_, _≤_, _<_}
 use mathlib.Core.Path.{_≡_}
+use mathlib.Core.Bool.{Bool, true, false}
 use mathlib.Core.List.{List, [], _∷_, _++_}
 use lib.ListN.{length, getD}
 use Rattle.words.specs.Limits.{maxKinds, maxShapes, maxTemplate, maxDepth, minGroup, maxGroup, maxCount, noLimit}
@@ -36,14 +37,20 @@ abbrev mutual
   writeRun Parts.none = []
   writeRun (Parts.more p ps) = writePart p ++ writeRun ps
 
--- The shapes one after the other, each with the count of its words before them.
-abbrev pub writeShapes : List Part → List ℕ
-writeShapes [] = []
-writeShapes (p ∷ ps) = (length (writePart p) ∷ writePart p) ++ writeShapes ps
+-- A shape's words: 18 if it is open, and then those of its part.
+abbrev pub writeShape : Bool → Part → List ℕ
+writeShape true p = 18 ∷ writePart p
+writeShape false p = writePart p
+
+-- The shapes one after the other, each with the count of its words before them. `isOpen t`: the shape t is open.
+abbrev pub writeShapes : (ℕ → Bool) → List Part → List ℕ
+writeShapes isOpen [] = []
+writeShapes isOpen (p ∷ ps) =
+    (length (writeShape (isOpen 0) p) ∷ writeShape (isOpen 0) p) ++ writeShapes (λ t. isOpen (suc t)) ps
 
 -- The counts of kinds and of shapes, and then the shapes.
-abbrev pub writeTemplate : ℕ → ℕ → List Part → List ℕ
-writeTemplate kinds shapes parts = kinds ∷ shapes ∷ writeShapes parts
+abbrev pub writeTemplate : ℕ → ℕ → (ℕ → Bool) → List Part → List ℕ
+writeTemplate kinds shapes isOpen parts = kinds ∷ shapes ∷ writeShapes isOpen parts
 
 -- A link's low is at most 8,192, and its high is from low to 8,192 or no limit.
 abbrev pub LimitsIn : ℕ → Limit → Type 0
@@ -76,8 +83,8 @@ pub record PartFormed (kinds shapes : ℕ) (p : Part) : Type 0 where
   pub deep : depth p ≤ maxDepth
   pub limits : WithinLimits p
 
--- What a template of so many kinds and shapes with these parts must be.
-pub record WellFormed (kinds shapes : ℕ) (parts : List Part) : Type 0 where
+-- What a template of so many kinds and shapes, these of them open, with these parts must be.
+pub record WellFormed (kinds shapes : ℕ) (isOpen : ℕ → Bool) (parts : List Part) : Type 0 where
   pub kinds-low : 1 ≤ kinds
   pub kinds-high : kinds ≤ maxKinds
   pub shapes-low : 1 ≤ shapes
@@ -86,4 +93,4 @@ pub record WellFormed (kinds shapes : ℕ) (parts : List Part) : Type 0 where
   pub each-shape : length parts ≡ shapes
   pub formed : (t : ℕ) → t < shapes → PartFormed kinds shapes (getD parts t Part.nothing)
   -- its words are not too many
-  pub short : length (writeTemplate kinds shapes parts) ≤ maxTemplate
+  pub short : length (writeTemplate kinds shapes isOpen parts) ≤ maxTemplate

@@ -2,13 +2,14 @@
 // run of parts, and each calls the other. The same reading fills the table of names.
 ghost use mathlib.Core.Path.{_≡_};
 ghost use Prim.Native.Nat.{_+_, _<_};
-ghost use lib.ListN.{replicate};
+ghost use lib.ListN.{length, replicate};
 ghost use Rattle.words.specs.Limits.{maxShapes};
 ghost use Rattle.words.specs.Sizes.{tableSize};
 ghost use Rattle.words.specs.Reading.{accepted};
 ghost use Rattle.template.specs.Answer.{templateSaid};
 ghost use Rattle.template.specs.Reading.{limitsOk, readLink, readPart, readRun};
-ghost use Rattle.template.specs.Template.{readShape, readShapes, Template, readTemplate, templateSays};
+ghost use Rattle.template.specs.Template.{openAt, partAt, readShape, readShapes, Template, readTemplate};
+ghost use Rattle.template.specs.Template.{templateSays};
 ghost use Rattle.template.specs.Machine.{Tabled};
 ghost use Rattle.template.specs.Machine.{shown, outcome, readOf, Inside, LinkAsked, Ready, RowNames, Empty};
 ghost use Rattle.template.specs.Machine.{Filled};
@@ -145,7 +146,8 @@ fn part(words: &[u16], at: usize, end: usize, sizes: Sizes, left: usize, row: &m
             }
             run(words, at + 2, end, sizes, left - 1, row, count)
         }
-        18..=255 => Read::Refused(5, at),
+        18 => Read::Refused(64, at),
+        19..=255 => Read::Refused(5, at),
         256..=319 => link(words, at, end, sizes, row, 0, Kind(code - 256)),
         320..=383 => link(words, at, end, sizes, row, MAX_KINDS, Kind(code - 320)),
         _ => Read::Refused(5, at),
@@ -176,6 +178,22 @@ fn run(
     }
 }
 
+// Whether the shape whose count of words stands at `at` is open: the word after the count is 18.
+pub fn open_at(words: &[u16], at: usize) -> bool
+    requires { ⌜ at + 1 < length (now words) ⌝ }
+    ensures { λ r. ⌜ r ≡ openAt (now (words .entry)) at ⌝ }
+{
+    words[at + 1] == 18
+}
+
+// Where the part of that shape starts.
+fn part_at(words: &[u16], at: usize) -> usize
+    requires { ⌜ at + 1 < length (now words) ⌝ }
+    ensures { λ r. ⌜ r ≡ partAt (now (words .entry)) at ⌝ }
+{
+    if open_at(words, at) { at + 2 } else { at + 1 }
+}
+
 // The shape whose count of words stands at `at`. The row then has the shape that it names for each label.
 fn shape_at(words: &[u16], at: usize, sizes: Sizes, row: &mut [u8]) -> Read
     requires { ⌜ Ready sizes (now row) ⌝ }
@@ -190,8 +208,12 @@ fn shape_at(words: &[u16], at: usize, sizes: Sizes, row: &mut [u8]) -> Read
     if words.len() - start < count {
         return Read::Refused(4, words.len());
     }
+    if count == 0 {
+        return Read::Refused(4, start);
+    }
     let end = start + count;
-    let whole = part(words, start, end, sizes, MAX_DEPTH, row);
+    let first = part_at(words, at);
+    let whole = part(words, first, end, sizes, MAX_DEPTH, row);
     match whole {
         Read::Next(next) => {
             if next < end {

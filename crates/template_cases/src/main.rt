@@ -1,4 +1,5 @@
-// Reading templates at the boundaries of the format: each refusal from 1 to 12 on both sides, and the first fault.
+// Reading templates at the boundaries of the format: each refusal from 1 to 12, and 64, on both sides, and the first
+// fault.
 // A case's line is its label, and `counts KINDS SHAPES` or `refused NUMBER PLACE`.
 use libc::STDOUT_FILENO;
 use template::TemplateAnswer;
@@ -80,7 +81,7 @@ fn codes() {
     show(b"code-15", &[1, 1, 4, 15, 2, 0, 0]);
     show(b"code-16", &[1, 1, 4, 16, 2, 0, 0]);
     show(b"code-17", &[1, 1, 4, 17, 2, 0, 0]);
-    show(b"code-18", &[1, 1, 4, 18, 2, 0, 0]);
+    show(b"code-19", &[1, 1, 4, 19, 2, 0, 0]);
 }
 
 // The codes of links.
@@ -92,6 +93,48 @@ fn link_codes() {
     show(b"code-383", &[64, 1, 4, 383, 0, 0, 0]);
     show(b"code-384", &[64, 1, 4, 384, 0, 0, 0]);
     show(b"code-65535", &[64, 1, 4, 65535, 0, 0, 0]);
+}
+
+// 64, and what else is amiss with the word of an open shape.
+fn open_words() {
+    show(b"open-nothing", &[1, 1, 2, 18, 0]);
+    show(b"open-alone", &[1, 1, 1, 18]);
+    show(b"open-twice", &[1, 1, 3, 18, 18, 0]);
+    show(b"open-in-a-star", &[1, 1, 3, 1, 18, 0]);
+    show(b"open-in-a-group", &[1, 1, 5, 17, 2, 0, 18, 0]);
+    show(b"open-group-of-18", &[1, 1, 5, 18, 17, 18, 0, 0]);
+    show(b"word-after-an-open-part", &[1, 1, 6, 18, 256, 0, 1, 1, 0]);
+}
+
+// Open shapes among others, and the word where it is no code.
+fn open_shapes() {
+    show(b"open-first-shape", &[1, 2, 2, 18, 0, 1, 0]);
+    show(b"open-last-shape", &[1, 2, 1, 0, 2, 18, 0]);
+    show(b"open-alone-before-a-shape", &[1, 2, 1, 18, 1, 0]);
+    show(b"open-past-the-end", &[1, 1, 3, 18, 0]);
+    show(b"open-before-code-19", &[1, 1, 2, 18, 19]);
+    show(b"eighteen-as-limits", &[1, 1, 4, 256, 0, 18, 18]);
+    show(b"eighteen-after-no-words", &[1, 2, 0, 18, 0]);
+}
+
+// The word of an open shape takes no depth.
+fn open_depths() {
+    show(
+        b"open-depth-12",
+        &[1, 1, 13, 18, 1, 1, 1, 1, 1, 1, 1, 1, 1, 1, 1, 0],
+    );
+    show(
+        b"open-depth-13",
+        &[1, 1, 14, 18, 1, 1, 1, 1, 1, 1, 1, 1, 1, 1, 1, 1, 0],
+    );
+    show(
+        b"open-at-depth-12",
+        &[1, 1, 12, 1, 1, 1, 1, 1, 1, 1, 1, 1, 1, 1, 18],
+    );
+    show(
+        b"open-at-depth-13",
+        &[1, 1, 13, 1, 1, 1, 1, 1, 1, 1, 1, 1, 1, 1, 1, 18],
+    );
 }
 
 // 11: the count of a group.
@@ -384,6 +427,9 @@ fn main() {
     words_left();
     codes();
     link_codes();
+    open_words();
+    open_shapes();
+    open_depths();
     group_counts();
     group_words();
     kinds();

@@ -26,7 +26,7 @@ use Rattle.words.proofs.Places.{place-in, card-of, shape-of}
 use Rattle.typing.specs.declared.LargestAnswer.{LargestAnswer}
 use Rattle.typing.specs.declared.SmallestAnswer.{SmallestAnswer}
 use Rattle.typing.specs.declared.BothAnswer.{BothAnswer}
-use Rattle.sheet.specs.Sheet.{Sheet, partOf, place, size, readSheet}
+use Rattle.sheet.specs.Sheet.{Sheet, partOf, opensOf, place, size, readSheet}
 use Rattle.words.specs.Said.{Said}
 use Rattle.typing.specs.Answer.{BothSaid, largestSaid, smallestSaid, bothSaid}
 use Rattle.typing.specs.Calls.{Grids, LargestSays, SmallestSays, BothSays}
@@ -62,10 +62,13 @@ on-bit grid p b e = ⊎-elim
 namesOf : Sheet → List ℕ
 namesOf s = listOf (λ p. named (partOf s (p / maxLabels)) (p % maxLabels)) (s .shapes * maxLabels)
 
+-- Whether card n fits shape t by counts, as a byte.
+abbrev fitBit : Sheet → ℕ → ℕ → ℕ → ℕ
+fitBit s kinds n t = bit (fits (opensOf s t) kinds (partOf s t) (countsOf s n))
+
 -- The grid of which pairs fit by counts.
 fitsOf : Sheet → ℕ → List ℕ
-fitsOf s kinds =
-    listOf (λ p. bit (fits kinds (partOf s (p % s .shapes)) (countsOf s (p / s .shapes)))) (size s)
+fitsOf s kinds = listOf (λ p. fitBit s kinds (p / s .shapes) (p % s .shapes)) (size s)
 
 module _ {words : List ℕ} {kinds : ℕ} {s : Sheet} (read : SheetAccepted words kinds s) where
   names-tabled : Tabled (s .parts) (namesOf s)
@@ -86,10 +89,10 @@ module _ {words : List ℕ} {kinds : ℕ} {s : Sheet} (read : SheetAccepted word
   fits-right : FitsGrid s (fitsOf s kinds)
   unfolding fitsOf
   fits-right = fits-grid read (fitsOf s kinds) (λ n t ln lt.
-      on-bit (fitsOf s kinds) (place s n t) (fits kinds (partOf s t) (countsOf s n))
-      (list-at (λ p. bit (fits kinds (partOf s (p % s .shapes)) (countsOf s (p / s .shapes)))) (size s) (place s n t)
+      on-bit (fitsOf s kinds) (place s n t) (fits (opensOf s t) kinds (partOf s t) (countsOf s n))
+      (list-at (λ p. fitBit s kinds (p / s .shapes) (p % s .shapes)) (size s) (place s n t)
       (place-in (s .cards) (s .shapes) n t ln lt)
-      ∙ ap₂ (λ (x y : ℕ). bit (fits kinds (partOf s y) (countsOf s x)))
+      ∙ ap₂ (fitBit s kinds)
       (card-of (s .shapes) (read .shapes .shapes-low) n t lt)
       (shape-of (s .shapes) (read .shapes .shapes-low) n t lt)))
 

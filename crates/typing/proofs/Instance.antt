@@ -8,7 +8,7 @@
 -- Assumes nothing.
 use Prim.Native.Nat.{ℕ, zero, suc, _*_, _≤_, _<_}
 use mathlib.Core.Path.{_≡_, refl, sym, ap, _∙_, subst, fun-ext}
-use mathlib.Core.Logic.{⊎-elim, _↔_}
+use mathlib.Core.Logic.{_↔_}
 use mathlib.Core.Bool.{true}
 use mathlib.Core.List.{List, List·Memᴰ}
 use native.Mathlib.Omega.{arith}
@@ -36,7 +36,7 @@ use Rattle.board.specs.Board.{Lawful}
 use Rattle.typing.specs.Needs.{Needs, metTest, boardOf, Ready}
 use Rattle.words.proofs.Places.{card-of, shape-of}
 use Rattle.typing.proofs.Boards.{board-lawful}
-use Rattle.sheet.specs.Sheet.{Sheet, partOf, neighboursOf, place}
+use Rattle.sheet.specs.Sheet.{Sheet, partOf, opensOf, neighboursOf, place}
 use Rattle.typing.specs.Typing.{Pairs, Has, Met}
 use Rattle.sheet.proofs.Accepted.{SheetAccepted}
 use Rattle.typing.proofs.Represents.{Follows, Represents}
@@ -65,20 +65,21 @@ module _ {words : List ℕ} {kinds : ℕ} {s : Sheet} (read : SheetAccepted word
       (λ i l e. omega (arith, read .links .kind-below i l, e))
 
   fits-counted : (n t : ℕ) → t < s .shapes
-      → (fits kinds (partOf s t) (countsOf s n) ≡ true)
+      → (fits (opensOf s t) kinds (partOf s t) (countsOf s n) ≡ true)
       ↔ Fits (s .shapes) (partOf s t) (labelCount (neighboursOf s n t))
   fits-counted n t lt =
       let p = partOf s t in
-      let same : labelCount (neighboursOf s n t) ≡ seen p (countsOf s n) =
-      fun-ext (looked-count p (neighbours (s .script) n (s .links))) in
-      let decided = fits-decided p (countsOf s n) kinds (read .shapes .kinds-high) (none-past n) (s .shapes)
+      let o = opensOf s t in
+      let same : labelCount (neighboursOf s n t) ≡ seen o p (countsOf s n) =
+      fun-ext (looked-count o p (neighbours (s .script) n (s .links))) in
+      let decided = fits-decided o p (countsOf s n) kinds (read .shapes .kinds-high) (none-past n) (s .shapes)
       (read .shapes .single t lt) (read .shapes .shapes-below t lt) in (
         λ e. subst (λ (w : ℕ → ℕ). Fits (s .shapes) p w) (sym same) (decided .1 e),
         λ f. decided .0 (subst (λ (w : ℕ → ℕ). Fits (s .shapes) p w) same f),
       )
 
   pub fits-grid : (grid : List ℕ) → ((n t : ℕ) → n < s .cards → t < s .shapes
-      → on grid (place s n t) ≡ fits kinds (partOf s t) (countsOf s n))
+      → on grid (place s n t) ≡ fits (opensOf s t) kinds (partOf s t) (countsOf s n))
       → FitsGrid s grid
   fits-grid grid tested n t ln lt =
       let here = tested n t ln lt in
@@ -190,8 +191,8 @@ module _ {words : List ℕ} {kinds : ℕ} {s : Sheet} (read : SheetAccepted word
             f,
             targets-of (Has s X) (partOf s t) (neighboursOf s n t) (λ name card m.
                 let (u, d) = neighbour-declared n t name card lt f m in
-                let seen-one = looked-exact (partOf s t) name card (neighbours (s .script) n (s .links)) .0 m in
-                let l = neighbours-exact (s .script) n name card (s .links) .0 (seen-one .0) in (
+                let looked = looked-exact (opensOf s t) (partOf s t) name card (neighbours (s .script) n (s .links)) in
+                let l = neighbours-exact (s .script) n name card (s .links) .0 (looked .0 m .0) in (
                   u,
                   d,
                   law .met-dep X (place s n t) (place s card u) e (follows-needs n t (place s card u) lt (record {
@@ -224,9 +225,10 @@ module _ {words : List ℕ} {kinds : ℕ} {s : Sheet} (read : SheetAccepted word
             label-is = refl;
             far-is = refl;
           }) in
-          let named = looks-named (partOf s t) k (declares-names (partOf s t) k (w .shape) (w .declares)) in
+          let named = looks-named (opensOf s t) (partOf s t) k
+          (declares-names (partOf s t) k (w .shape) (w .declares)) in
           let (u, declares, has) = targets-at (Has s X) (partOf s t) (neighboursOf s n t) targets k there
-          (looked-exact (partOf s t) k there all .1 (led, named)) in
+          (looked-exact (opensOf s t) (partOf s t) k there all .1 (led, named)) in
           let same = declares-unique (partOf s t) (read .shapes .single t lt) k u (w .shape) declares (w .declares) in
           subst (λ (x : ℕ). X x ≡ true) (ap (λ (x : ℕ). place s there x) same ∙ sym (w .leads)) has)
 

@@ -1,11 +1,11 @@
 -- The theory of the two typings, lowest first.
 -- Boards: the board of a script and a table of names. Represents: a board stands for a sheet. Rounds: a sheet's rounds
 -- are the board's. Largest, Smallest: the two typings. Demand: both together. Booked: bookings of a list that is read.
--- Unique: two answers to one call are the same. Neighbours, Instance: the board of a template and a script. Existence:
--- every sheet has one, so no contract leaves a choice. Numbers: which numbers the calls refuse with. Adequate: met is
--- decided, and a round strikes nothing exactly if its set is sound. Apart: the two calls made apart. Verdicts: a grid
--- that is judged has one right verdict. Values: values are said of a sheet that is read. Judging: the judge and the two
--- typings.
+-- Unique: two answers to one call are the same. Neighbours, Instance: the board of a template and a script. Opening:
+-- open shapes. Existence: every sheet has a board, so no contract leaves a choice. Numbers: which numbers the calls
+-- refuse with. Adequate: met is decided, and a round strikes nothing exactly if its set is sound. Apart: the two calls
+-- made apart. Verdicts: a grid that is judged has one right verdict. Values: values are said of a sheet that is read.
+-- Judging: the judge and the two typings.
 pub mod Boards
 pub mod Represents
 pub mod Rounds
@@ -16,6 +16,7 @@ pub mod Booked
 pub mod Unique
 pub mod Neighbours
 pub mod Instance
+pub mod Opening
 pub mod Existence
 pub mod Numbers
 pub mod Adequate

@@ -42,7 +42,8 @@ impl From<RangeFrom<u16>> for Bounds {
     }
 }
 
-/// A part of a shape: which links a card has. Links that arrive count only if the shape names their kind as incoming.
+/// A part of a shape: which links a card has. Links that arrive count only if the shape names their kind as incoming;
+/// links that start at the card count anyway, unless the shape is open.
 #[derive(Clone, Debug, PartialEq, Eq)]
 pub enum Part {
     /// No links.

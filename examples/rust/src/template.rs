@@ -14,7 +14,7 @@ pub struct Template {
 }
 
 impl Template {
-    /// Reads a template's words, or tells the first fault: refusals 1 to 12.
+    /// Reads a template's words, or tells the first fault: refusals 1 to 12 and 64.
     pub fn read(words: Vec<u16>) -> Result<Template, Refusal> {
         let answer = raw::read_template(&words);
         refused(answer.number, answer.place)?;
@@ -37,8 +37,8 @@ impl Template {
     }
 
     /// Whether counts of links fit a shape: for each kind those that start at a card, then for each kind those that
-    /// arrive there. A kind that the shape does not name has to count 0 as outgoing and is ignored as incoming.
-    /// Refusals: 42, 41 if there are not two counts for each kind, 43.
+    /// arrive there. A kind that the shape does not name has to count 0 as outgoing if the shape is closed, and is
+    /// ignored otherwise. Refusals: 42, 41 if there are not two counts for each kind, 43.
     pub fn fits(&self, shape: u16, counts: &[u16]) -> Result<bool, Refusal> {
         let answer = raw::fit_counts(&self.words, shape, counts);
         refused(answer.number, answer.place)?;
@@ -46,11 +46,15 @@ impl Template {
     }
 }
 
+/// The word before the part of an open shape.
+const OPEN: u16 = 18;
+
 /// A template that is being built: kinds and shapes first, so that parts can name them, then what each shape is.
 #[derive(Clone, Debug, Default)]
 pub struct TemplateBuilder {
     kinds: usize,
-    shapes: Vec<Part>,
+    /// The part of each shape, and whether the shape is open.
+    shapes: Vec<(Part, bool)>,
 }
 
 impl TemplateBuilder {
@@ -67,25 +71,35 @@ impl TemplateBuilder {
 
     /// Adds a shape and returns its number. No link starts at its cards until it is defined.
     pub fn shape(&mut self) -> u16 {
-        self.shapes.push(Part::Nothing);
+        self.shapes.push((Part::Nothing, false));
         word(self.shapes.len() - 1)
     }
 
-    /// Says what a shape is.
+    /// Says what a closed shape is: only links that the part names start at its cards.
     ///
     /// # Panics
     ///
     /// If `shape` gave no such number.
     pub fn define(&mut self, shape: u16, part: Part) {
-        self.shapes[usize::from(shape)] = part;
+        self.shapes[usize::from(shape)] = (part, false);
+    }
+
+    /// Says what an open shape is: links that start at its cards and that the part does not name are ignored.
+    ///
+    /// # Panics
+    ///
+    /// If `shape` gave no such number.
+    pub fn define_open(&mut self, shape: u16, part: Part) {
+        self.shapes[usize::from(shape)] = (part, true);
     }
 
     /// The template's words.
     pub fn words(&self) -> Vec<u16> {
         let mut words = vec![word(self.kinds), word(self.shapes.len())];
-        for part in &self.shapes {
+        for (part, open) in &self.shapes {
             let count = words.len();
             words.push(0);
+            words.extend(open.then_some(OPEN));
             part.write(&mut words);
             words[count] = word(words.len() - count - 1);
         }

@@ -13,6 +13,11 @@ fn guests() -> Template {
     Template::read(vec![1, 2, 4, 256, 1, 1, 65535, 4, 320, 0, 1, 65535]).unwrap()
 }
 
+/// An open shape that wants one link of kind 0 to the other shape, which is nothing.
+fn tolerant() -> Template {
+    Template::read(vec![2, 2, 5, 18, 256, 1, 1, 1, 1, 0]).unwrap()
+}
+
 fn word(number: u16, place: usize) -> Refusal {
     Refusal { number, place: Place::Word(place) }
 }
@@ -41,6 +46,19 @@ fn codes_of_both_ways_are_read() {
     assert_eq!(read(&[64, 1, 4, 384, 0, 0, 1]), Err(word(5, 3)));
     assert_eq!(read(&[1, 1, 10, 17, 2, 256, 0, 0, 1, 320, 0, 0, 1]), Ok(1));
     assert_eq!(read(&[1, 1, 10, 17, 2, 320, 0, 0, 1, 320, 0, 0, 1]), Err(word(8, 9)));
+}
+
+#[test]
+fn the_code_of_an_open_shape_is_read_as_its_first_word() {
+    let read = |words: &[u16]| Template::read(words.to_vec()).map(|template| template.shapes());
+    assert_eq!(read(&[1, 1, 2, 18, 0]), Ok(1));
+    assert_eq!(read(&[1, 1, 1, 18]), Err(word(4, 4)));
+    assert_eq!(read(&[1, 1, 3, 18, 18, 0]), Err(word(refusals::TEMPLATE_OPEN, 4)));
+    assert_eq!(read(&[1, 1, 3, 1, 18, 0]), Err(word(64, 4)));
+    assert_eq!(read(&[1, 1, 5, 17, 2, 0, 18, 0]), Err(word(64, 6)));
+    assert_eq!(read(&[1, 1, 4, 17, 18, 0, 0]), Err(word(11, 4)));
+    assert_eq!(read(&[1, 1, 6, 18, 256, 0, 1, 1, 0]), Err(word(12, 8)));
+    assert_eq!(read(&[1, 1, 1, 19]), Err(word(5, 3)));
 }
 
 #[test]
@@ -83,6 +101,23 @@ fn a_booking_reaches_against_a_link() {
     // Nobody points at card 2.
     let script = Script::read(&guests(), vec![3, 1, 0, 0, 1]).unwrap();
     assert_eq!(script.smallest(&[(2, 1)]), Err(unmet(50, 2)));
+}
+
+#[test]
+fn an_open_shape_ignores_what_it_does_not_name() {
+    let template = tolerant();
+    assert_eq!(template.fits(0, &[1, 7, 0, 0]), Ok(true));
+    assert_eq!(template.fits(0, &[2, 7, 0, 0]), Ok(false));
+    assert_eq!(template.fits(1, &[0, 7, 0, 0]), Ok(false));
+    assert_eq!(template.fits(0, &[1, 8193, 0, 0]), Err(word(43, 1)));
+    let script = Script::read(&template, vec![3, 2, 0, 0, 1, 0, 1, 2]).unwrap();
+    let both = script.both(&[(0, 0)]).unwrap();
+    assert_eq!((both.largest.rounds, both.largest.struck, both.largest.bare), (2, 3, 0));
+    let smallest = both.smallest.unwrap();
+    assert_eq!((smallest.pairs, smallest.typing.grid()), (2, &[1, 0, 0, 1, 0, 0][..]));
+    // The ignored link is a link of card 0, and its target need not have a shape.
+    assert_eq!(script.links_of(0).len(), 2);
+    assert_eq!(script.judge_typing(&[(0, 0)], &smallest.typing), Ok(()));
 }
 
 #[test]
@@ -216,6 +251,9 @@ fn a_refusal_says_what_and_where() {
     let message = "a part of the template has an unknown code (refusal 5, word 3)";
     assert_eq!(word(refusals::TEMPLATE_CODE, 3).to_string(), message);
     assert_eq!(word(refusals::SCRIPT_ORDER, 5).file(), File::Script);
+    let message = "the code of an open shape is not the first word of a shape (refusal 64, word 4)";
+    assert_eq!(word(refusals::TEMPLATE_OPEN, 4).to_string(), message);
+    assert_eq!(word(refusals::TEMPLATE_OPEN, 4).file(), File::Template);
     let message = "a byte of the grid is over 1 (refusal 61, byte 5)";
     assert_eq!(word(refusals::GRID_BYTE, 5).to_string(), message);
     let message = "a booked pair is not in the grid (refusal 63, word 3)";
@@ -272,6 +310,19 @@ fn what_arrives_is_built_from_parts() {
     builder.define(item, Part::link(guest, person, 1..));
     builder.define(person, Part::incoming(guest, item, 1..));
     assert_eq!(builder.read(), Ok(guests()));
+}
+
+#[test]
+fn an_open_shape_is_built_from_its_part() {
+    let mut builder = TemplateBuilder::new();
+    let (kind, _) = (builder.kind(), builder.kind());
+    let (first, second) = (builder.shape(), builder.shape());
+    builder.define_open(first, Part::link(kind, second, 1));
+    assert_eq!(builder.read(), Ok(tolerant()));
+    builder.define_open(second, Part::Nothing);
+    assert_eq!(builder.words(), [2, 2, 5, 18, 256, 1, 1, 1, 2, 18, 0]);
+    builder.define(first, Part::Nothing);
+    assert_eq!(builder.words(), [2, 2, 1, 0, 2, 18, 0]);
 }
 
 #[test]

@@ -30,19 +30,24 @@ pub fn all() -> Result<Vec<Input>, String> {
     ])
 }
 
-/// A sheet of all limits on which no pair is struck, so that as many pairs are judged as there can be: the shapes of
-/// the densest sheet, and links of kinds that each of them takes in any number.
-pub fn kept() -> Input {
+/// Sheets of all limits on which no pair is struck, so that as many pairs are judged as there can be: the shapes of the
+/// densest sheet, closed and open, and links of kinds that each of them takes in any number.
+pub fn kept() -> [Input; 2] {
     let each = MOST_LINKS / MOST_CARDS;
     let link = |card, kind| [card, kind, (card * each + kind) % MOST_CARDS];
     let links = (0..MOST_CARDS).flat_map(|card| (0..each).flat_map(move |kind| link(card, kind)));
-    Input {
-        name: "(f) all limits, no pair struck",
+    let script: Vec<u16> = [MOST_CARDS, MOST_LINKS].into_iter().chain(links).collect();
+    let input = |name, template| Input {
+        name,
         files: Files {
-            template: heavy::densest().template,
-            script: [MOST_CARDS, MOST_LINKS].into_iter().chain(links).collect(),
+            template,
+            script: script.clone(),
             bookings: vec![0],
         },
         naive: false,
-    }
+    };
+    [
+        input("(f) all limits, no pair struck", heavy::densest().template),
+        input("(g) the same, all shapes open", heavy::densest_open().template),
+    ]
 }

@@ -52,11 +52,11 @@ fn main() -> ExitCode {
     ExitCode::SUCCESS
 }
 
-/// Times the judge on these sheets and on the one with the most pairs to judge; how many it did not accept.
+/// Times the judge on these sheets and on those with the most pairs to judge; how many it did not accept.
 fn time_judging(inputs: &[Input]) -> usize {
     judging::print_head();
     let kept = inputs::kept();
-    let all = inputs.iter().chain([&kept]);
+    let all = inputs.iter().chain(&kept);
     all.filter(|input| !judging::time(input)).count()
 }
 

@@ -2,6 +2,7 @@
 //! face, so that they fit whichever face is there.
 
 use super::lists::Line;
+use super::shapes::{is_open, shape_title};
 use super::wrap::{cut_off, wrap, Face};
 use crate::numbers::{Card, Shape};
 use crate::text::check::Sheet;
@@ -81,6 +82,8 @@ pub struct Chip {
     pub booked: bool,
     /// The shapes that it names.
     pub shapes: Vec<usize>,
+    /// Whether it names one shape and that is open.
+    pub open: bool,
     /// Its text.
     pub text: String,
     /// Its left end.
@@ -161,6 +164,7 @@ pub fn chips(sheet: &Sheet, card: usize, card_width: f64) -> Vec<Chip> {
         chips.push(Chip {
             mark,
             booked,
+            open: matches!(shapes[..], [shape] if is_open(sheet, shape)),
             shapes,
             text,
             x,
@@ -197,7 +201,7 @@ type Shown = (Mark, bool, Vec<usize>, String);
 fn shapes(sheet: &Sheet, card: usize) -> Vec<Shown> {
     let card = Card(card as u16);
     let mut shown: Vec<Shown> = Vec::new();
-    for (shape, (name, _)) in (0..).map(Shape).zip(&sheet.text.shapes) {
+    for shape in (0..sheet.both.shapes).map(Shape) {
         let pair = (card, shape);
         let booked = sheet.booked.contains(&pair);
         let mark = if sheet.not_met() == Some(pair) {
@@ -211,7 +215,8 @@ fn shapes(sheet: &Sheet, card: usize) -> Vec<Shown> {
         } else {
             continue;
         };
-        shown.push((mark, booked, vec![shape.index()], name.text.clone()));
+        let title = shape_title(sheet, shape.index());
+        shown.push((mark, booked, vec![shape.index()], title));
     }
     if sheet.bare(card.index()) {
         shown.push((Mark::None, false, Vec::new(), "no shape".to_string()));

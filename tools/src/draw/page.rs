@@ -211,7 +211,7 @@ fn smallest(sheet: &Sheet) -> (String, &'static str) {
         Smallest::NotMet(card, shape) => {
             let (card, shape) = (
                 sheet.text.card_title(card.index()),
-                &sheet.text.shapes[shape.index()].0.text,
+                sheet.text.shape_name(shape.index()),
             );
             (
                 format!("No smallest typing: “{card}” can't be {shape} (50)."),

@@ -17,6 +17,8 @@ const MEANING: f64 = 34.0;
 pub enum Sign {
     /// A chip, and what a card with it looks like.
     Chip(Mark, bool, &'static str),
+    /// The end of an open shape's chip.
+    Open,
     /// A blank card.
     Blank,
     /// The broad line below arrows.
@@ -46,12 +48,23 @@ pub fn signs(contents: &[Content], blames: bool) -> Vec<Sign> {
     let mut signs: Vec<Sign> = chips
         .map(|(mark, booked, meaning)| Sign::Chip(*mark, *booked, meaning))
         .collect();
+    let mut chips = contents.iter().flat_map(|content| &content.chips);
+    if chips.any(|chip| chip.open) {
+        signs.push(Sign::Open);
+    }
     if contents.iter().any(|content| content.blank) {
         signs.push(Sign::Blank);
     }
     if blames {
         signs.push(Sign::Blame);
     }
+    signs.extend(line_signs(contents));
+    signs
+}
+
+/// The signs of the lines that a page has below its cards.
+fn line_signs(contents: &[Content]) -> Vec<Sign> {
+    let mut signs = Vec::new();
     let lines: Vec<&Line> = contents.iter().flat_map(|content| &content.lines).collect();
     if lines.iter().any(|line| line.kind.is_some()) {
         let has_page = |line: &&Line| line.kind.is_some() && line.text.contains("p.\u{a0}");
@@ -79,6 +92,7 @@ impl Sign {
     fn meaning(&self) -> &'static str {
         match self {
             Sign::Chip(_, _, meaning) | Sign::Line(_, meaning) => meaning,
+            Sign::Open => "an open shape ignores other links",
             Sign::Blank => "a blank card, no shape",
             Sign::Blame => "how a booking asks for it",
         }
@@ -92,7 +106,8 @@ impl Sign {
     /// Draws the sign and its meaning.
     pub fn draw(&self, svg: &mut Svg, (x, y): (f64, f64)) {
         match self {
-            Sign::Chip(mark, booked, _) => chip(svg, *mark, *booked, (x, y)),
+            Sign::Chip(mark, booked, _) => marked(svg, *mark, *booked, (x, y)),
+            Sign::Open => chip(svg, (Mark::Largest, false), ("Shape…", 14.8), (x, y)),
             Sign::Blank => {
                 let mark = CardMark {
                     blank: true,
@@ -110,29 +125,35 @@ impl Sign {
     }
 }
 
-/// A chip, and before it a small card.
-fn chip(svg: &mut Svg, mark: Mark, booked: bool, (x, y): (f64, f64)) {
-    let (text, letters) = match mark {
+/// A chip with a mark, and before it a small card.
+fn marked(svg: &mut Svg, mark: Mark, booked: bool, place: (f64, f64)) {
+    let text = match mark {
         Mark::None => ("no shape", 15.0),
         _ => ("Shape", 12.2),
     };
-    let chip = Chip {
-        mark,
-        booked,
-        shapes: Vec::new(),
-        text: text.to_string(),
-        x: 0.0,
-        y: 0.0,
-        width: letters + sign_width(mark, booked),
-    };
-    chip_at(svg, &chip, (x + 13.0, y - 1.9));
+    chip(svg, (mark, booked), text, place);
     let mark = CardMark {
         bare: mark == Mark::None,
         blank: false,
         not_met: mark == Mark::NotMet,
         needed: mark == Mark::Smallest,
     };
-    small_card(svg, mark, (x, y));
+    small_card(svg, mark, place);
+}
+
+/// A chip with this text, which has this width.
+fn chip(svg: &mut Svg, (mark, booked): (Mark, bool), (text, letters): (&str, f64), (x, y): (f64, f64)) {
+    let chip = Chip {
+        mark,
+        booked,
+        shapes: Vec::new(),
+        open: false,
+        text: text.to_string(),
+        x: 0.0,
+        y: 0.0,
+        width: letters + sign_width(mark, booked),
+    };
+    chip_at(svg, &chip, (x + 13.0, y - 1.9));
 }
 
 /// A small card whose left side has its middle here.

@@ -4,9 +4,9 @@
 //! A set may be infinite, so each bag that passes the counts of some label is left out. Nothing that matters is
 //! lost: bags are only ever added to, so a bag that is too large stays too large.
 
-use crate::labels::{Label, Labelled, Way};
+use crate::labels::{Label, Labelled};
 use crate::numbers::Shape;
-use crate::template::{Link, Part};
+use crate::template::{Definition, Link, Part};
 use std::collections::{BTreeMap, BTreeSet};
 
 /// How many copies of each (label, shape); those with no copy aren't in the map.
@@ -15,16 +15,15 @@ pub type Bag = BTreeMap<(Label, Shape), u16>;
 /// A set of bags.
 pub type Bags = BTreeSet<Bag>;
 
-/// Whether the counts are those of a bag of the part, but for the incoming kinds that the part doesn't name.
-pub fn fits(part: &Part, counts: &Labelled<u16>) -> bool {
-    let named = part.named(counts.kinds());
-    let is_ignored = |label: Label| label.way == Way::Incoming && named[label].is_none();
+/// Whether the shape's part has a bag with these counts of all labels at which the shape looks.
+pub fn fits(definition: &Definition, counts: &Labelled<u16>) -> bool {
+    let looked_at = definition.looked_at(counts.kinds());
     let has_counts = |bag: &Bag| {
         let of_bag = label_counts(bag, counts.kinds());
         let mut numbers = of_bag.iter();
-        numbers.all(|(label, number)| *number == counts[label] || is_ignored(label))
+        numbers.all(|(label, number)| *number == counts[label] || !looked_at[label])
     };
-    bags(part, counts).iter().any(has_counts)
+    bags(&definition.part, counts).iter().any(has_counts)
 }
 
 /// The bags of a part that don't pass the counts of any label.

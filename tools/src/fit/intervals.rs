@@ -1,8 +1,9 @@
 //! The way of section 8.2: the interval of repetitions i for which the counts of a part's labels are a sum of
-//! i of its bags. The counts fit the part if 1 is inside, and if no other outgoing kind counts anything.
+//! i of its bags. The counts fit a shape if 1 is inside the interval of its part and, if the shape is closed, no other
+//! outgoing kind counts anything.
 
 use crate::labels::{Labelled, Way};
-use crate::template::{Link, Part};
+use crate::template::{Definition, Link, Part};
 
 /// An interval of repetitions that isn't empty: `low` up to `high`, or up without end.
 #[derive(Clone, Copy, PartialEq, Eq, Debug)]
@@ -22,12 +23,13 @@ pub struct Verdict {
     pub all_zero: bool,
 }
 
-/// Whether the counts fit the whole part of a shape.
-pub fn fits(part: &Part, counts: &Labelled<u16>) -> bool {
+/// Whether the counts fit a shape.
+pub fn fits(definition: &Definition, counts: &Labelled<u16>) -> bool {
+    let part = &definition.part;
     let one_is_inside = verdict(part, counts)
         .interval
         .is_some_and(|interval| interval.has(1));
-    one_is_inside && others_are_zero(part, counts)
+    one_is_inside && (definition.open || others_are_zero(part, counts))
 }
 
 /// Whether each outgoing kind that the part doesn't name counts 0; such incoming kinds are ignored.

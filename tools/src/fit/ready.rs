@@ -1,13 +1,21 @@
-//! Parts made ready for many counts: each knows the labels within it and its interval if they all count 0. So only
-//! the parts with a label that counts something are looked into, and a group ends at its first empty interval.
+//! Shapes made ready for many counts: each part knows the labels within it and its interval if they all count 0. So
+//! only the parts with a label that counts something are looked into, and a group ends at its first empty interval.
 
 use super::intervals::{link_interval, verdict, Interval};
 use crate::labels::{Label, Labelled, Way};
-use crate::template::{Link, Part, MOST_KINDS};
+use crate::template::{Definition, Link, Part, MOST_KINDS};
+
+/// A shape made ready.
+#[derive(Clone, Debug)]
+pub struct Ready {
+    part: ReadyPart,
+    /// The labels that have to count 0 because the part doesn't name them, a bit each.
+    barred: u128,
+}
 
 /// A part made ready.
 #[derive(Clone, Debug)]
-pub struct Ready {
+struct ReadyPart {
     /// The labels within it, a bit each.
     labels: u128,
     /// Its interval if these all count 0.
@@ -19,11 +27,11 @@ pub struct Ready {
 enum Node {
     Nothing,
     Link(Link),
-    Star(Box<Ready>),
-    Plus(Box<Ready>),
-    Optional(Box<Ready>),
-    Choice(Vec<Ready>),
-    All(Vec<Ready>),
+    Star(Box<ReadyPart>),
+    Plus(Box<ReadyPart>),
+    Optional(Box<ReadyPart>),
+    Choice(Vec<ReadyPart>),
+    All(Vec<ReadyPart>),
 }
 
 /// The bits of all outgoing kinds; those of the incoming ones lie above them.
@@ -38,10 +46,30 @@ pub fn bit(label: Label) -> u128 {
 }
 
 impl Ready {
-    /// Makes a part of a template with this many kinds ready.
-    pub fn new(part: &Part, kinds: u16) -> Ready {
-        let inner = |part: &Part| Box::new(Ready::new(part, kinds));
-        let all = |parts: &[Part]| parts.iter().map(|part| Ready::new(part, kinds)).collect();
+    /// Makes a shape of a template with this many kinds ready.
+    pub fn new(definition: &Definition, kinds: u16) -> Ready {
+        let part = ReadyPart::new(&definition.part, kinds);
+        let barred = match definition.open {
+            true => 0,
+            false => OUTGOING & !part.labels,
+        };
+        Ready { part, barred }
+    }
+
+    /// Whether the counts fit the shape; `present` has the labels that count something.
+    pub fn fits(&self, counts: &Labelled<u16>, present: u128) -> bool {
+        present & self.barred == 0
+            && self
+                .part
+                .interval(counts, present)
+                .is_some_and(|interval| interval.has(1))
+    }
+}
+
+impl ReadyPart {
+    fn new(part: &Part, kinds: u16) -> ReadyPart {
+        let inner = |part: &Part| Box::new(ReadyPart::new(part, kinds));
+        let all = |parts: &[Part]| parts.iter().map(|part| ReadyPart::new(part, kinds)).collect();
         let node = match part {
             Part::Nothing => Node::Nothing,
             Part::Link(link) => Node::Link(*link),
@@ -51,19 +79,11 @@ impl Ready {
             Part::Choice(parts) => Node::Choice(all(parts)),
             Part::All(parts) => Node::All(all(parts)),
         };
-        Ready {
+        ReadyPart {
             labels: part.links().iter().fold(0, |bits, link| bits | bit(link.label)),
             at_zero: verdict(part, &Labelled::new(kinds, 0)).interval,
             node,
         }
-    }
-
-    /// Whether the counts fit the whole part of a shape; `present` has the labels that count something.
-    pub fn fits(&self, counts: &Labelled<u16>, present: u128) -> bool {
-        present & OUTGOING & !self.labels == 0
-            && self
-                .interval(counts, present)
-                .is_some_and(|interval| interval.has(1))
     }
 
     /// The interval of repetitions; none if it is empty.

@@ -9,7 +9,7 @@ use crate::numbers::Shape;
 use crate::samples;
 use crate::script::MOST_CARDS;
 use crate::sheet::Files;
-use crate::template::{self, Part, Template, MOST_KINDS};
+use crate::template::{self, Definition, Part, Template, MOST_KINDS};
 
 /// Items, which point at guests, and guests, at which items point (docs/FORMAT.md).
 pub const GUESTS: [u16; 12] = [1, 2, 4, 256, 1, 1, 65535, 4, 320, 0, 1, 65535];
@@ -18,10 +18,12 @@ pub const BOTH_ENDS: [u16; 13] = [1, 1, 10, 17, 2, 256, 0, 1, 1, 320, 0, 1, 1];
 
 /// All of these sheets.
 pub fn arriving() -> Vec<Case> {
-    [guests(), itself(), ignored(), counts(), in_turn(), all_labels()].concat()
+    let labels = all_labels("labels", Definition::closed);
+    [guests(), itself(), ignored(), counts(), in_turn(), labels].concat()
 }
 
-fn case(name: String, template: &[u16], script: &[u16], bookings: &[u16]) -> Case {
+/// A sheet of these words.
+pub fn case(name: String, template: &[u16], script: &[u16], bookings: &[u16]) -> Case {
     let files = Files {
         template: template.to_vec(),
         script: script.to_vec(),
@@ -119,10 +121,10 @@ fn ignored() -> Vec<Case> {
 
 /// The count samples of docs/FORMAT.md, and the same with kind b or both kinds arriving.
 fn counts() -> Vec<Case> {
-    let sheets = samples::turned().into_iter().filter_map(|(name, part, counts)| {
+    let sheets = samples::turned().into_iter().filter_map(|(name, shape, counts)| {
         Some(Case {
             name: format!("counts-{name}"),
-            bytes: counted::sheet(&part, &counts)?.bytes(),
+            bytes: counted::sheet(&shape, &counts)?.bytes(),
         })
     });
     sheets.collect()
@@ -150,11 +152,12 @@ fn in_turn() -> Vec<Case> {
 
 /// A shape that names each kind each way and wants one link of each: two cards with all of them, with all but one, and
 /// a card with all of them to itself.
-fn all_labels() -> Vec<Case> {
+pub fn all_labels(start: &str, shape: fn(Part) -> Definition) -> Vec<Case> {
     let one_each = Label::all(MOST_KINDS).map(|label| Part::link(label, Shape(1), 1, Some(1)));
+    let parts = [Part::all_of(one_each.collect()), any_outgoing(MOST_KINDS, 0)];
     let template = template::write(&Template {
         kinds: MOST_KINDS,
-        parts: vec![Part::all_of(one_each.collect()), any_outgoing(MOST_KINDS, 0)],
+        definitions: parts.map(shape).into(),
     });
     let kinds = 0..MOST_KINDS;
     let both: Links = kinds
@@ -168,7 +171,7 @@ fn all_labels() -> Vec<Case> {
         .iter()
         .map(|(name, links)| {
             let script = scripts::words(2, links);
-            case(format!("labels-{name}"), &template, &script, &[1, 0, 0])
+            case(format!("{start}-{name}"), &template, &script, &[1, 0, 0])
         })
         .collect()
 }

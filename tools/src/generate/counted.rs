@@ -7,12 +7,12 @@ use crate::labels::{Labelled, Way};
 use crate::numbers::{Card, Shape};
 use crate::script::{MOST_CARDS, MOST_LINKS};
 use crate::sheet::Files;
-use crate::template::{self, Link, Part, Template};
+use crate::template::{self, Definition, Link, Template};
 
-/// A sheet whose bookings are met exactly if the counts fit the part. Card 0 has that many links with each label, and
-/// is booked for shape 0, which is the part. At their far ends are cards with shape 1, which takes any links to card 0
-/// and is what the part asks for. None if there are too many links.
-pub fn sheet(part: &Part, counts: &Labelled<u16>) -> Option<Files> {
+/// A sheet whose bookings are met exactly if the counts fit the shape. Card 0 has that many links with each label, and
+/// is booked for shape 0, which is the one asked about. At their far ends are cards with shape 1, which takes any links
+/// to card 0 and is what shape 0 asks for. None if there are too many links.
+pub fn sheet(asked: &Definition, counts: &Labelled<u16>) -> Option<Files> {
     let mut links = Links::new();
     for (label, count) in counts.iter() {
         let kind = label.kind.0;
@@ -29,9 +29,14 @@ pub fn sheet(part: &Part, counts: &Labelled<u16>) -> Option<Files> {
         shape: Shape(1),
         ..link
     };
+    let first = Definition {
+        part: asked.part.with_links(&to_second),
+        ..*asked
+    };
+    let second = Definition::closed(any_outgoing(counts.kinds(), 0));
     let template = Template {
         kinds: counts.kinds(),
-        parts: vec![part.with_links(&to_second), any_outgoing(counts.kinds(), 0)],
+        definitions: vec![first, second],
     };
     Some(Files {
         template: template::write(&template),

@@ -8,19 +8,19 @@ use crate::numbers::Kind;
 use crate::random::Random;
 use crate::sheet::{Files, MOST_BYTES};
 use crate::template::{
-    code_of, label_of, ALL, CHOICE, MOST_COUNT, MOST_DEPTH, MOST_KINDS, MOST_WORDS, NO_LIMIT,
+    code_of, label_of, ALL, CHOICE, MOST_COUNT, MOST_DEPTH, MOST_KINDS, MOST_WORDS, NO_LIMIT, OPEN,
 };
 use crate::typing::Setting;
 
 /// The refusals that a sheet can be aimed at.
-pub const AIMS: [u16; 24] = [
-    1, 2, 3, 4, 5, 6, 7, 8, 9, 10, 11, 12, 20, 21, 22, 23, 24, 25, 30, 31, 32, 33, 50, 60,
+pub const AIMS: [u16; 25] = [
+    1, 2, 3, 4, 5, 6, 7, 8, 9, 10, 11, 12, 20, 21, 22, 23, 24, 25, 30, 31, 32, 33, 50, 60, 64,
 ];
 
 /// Puts one fault into a whole sheet, aimed at this refusal (any of `AIMS` but 60).
 pub fn aimed(random: &mut Random, files: &mut Files, number: u16) {
     match number {
-        1..=12 => {
+        1..=12 | 64 => {
             let layout = layout(&files.template);
             of_template(random, &mut files.template, &layout, number);
         }
@@ -62,7 +62,7 @@ pub fn several(random: &mut Random, files: &mut Files, count: usize) {
                 let number = if random.chance(1, 10) {
                     random.word(1, 3)
                 } else {
-                    random.word(4, 12)
+                    random.pick(&[4, 5, 6, 7, 8, 9, 10, 11, 12, 64])
                 };
                 of_template(random, words, &layout, number);
             }
@@ -86,7 +86,7 @@ fn noise(random: &mut Random, words: &mut Vec<u16>) {
     }
     let place = random.below(words.len());
     let word = random.pick(&[
-        0, 1, 2, 3, 4, 16, 17, 64, 255, 256, 257, 319, 320, 321, 383, 384, 8192, 8193, 65534, 65535,
+        0, 1, 2, 3, 4, 16, 17, 18, 64, 255, 256, 257, 319, 320, 321, 383, 384, 8192, 8193, 65534, 65535,
     ]);
     match random.below(4) {
         0 => words.insert(place, word),
@@ -136,7 +136,7 @@ fn of_template(random: &mut Random, words: &mut Vec<u16>, layout: &Layout, numbe
         3 => put(words, 1, random.pick(&[0, 33, 34, 65535])),
         4 => too_short(random, words, layout),
         5 => {
-            let code = random.pick(&[4, 5, 15, 18, 19, 100, 255, 384, 385, 5000, 65535]);
+            let code = random.pick(&[4, 5, 15, 19, 20, 100, 255, 384, 385, 5000, 65535]);
             put(words, part.place, code);
         }
         6 => {
@@ -148,6 +148,7 @@ fn of_template(random: &mut Random, words: &mut Vec<u16>, layout: &Layout, numbe
         7..=10 if layout.links.is_empty() => wrong_link(random, words, layout),
         7..=10 => of_link(random, words, layout, number),
         11 => wrong_group(random, words, layout, part),
+        64 => wrong_opening(random, words, part),
         _ => left_over(random, words, layout),
     }
 }
@@ -264,6 +265,16 @@ fn wrong_group(random: &mut Random, words: &mut Vec<u16>, layout: &Layout, part:
     } else {
         let group = random.pick(&layout.groups);
         put(words, group.place + 1, wrong);
+    }
+}
+
+/// The code of an open shape instead of a part's code, or once or twice before it. Once is no fault before the part of
+/// a closed shape.
+fn wrong_opening(random: &mut Random, words: &mut Vec<u16>, part: Spot) {
+    match random.below(4) {
+        0 => put(words, part.place, OPEN),
+        1 => put_in(words, part, &[OPEN]),
+        _ => put_in(words, part, &[OPEN, OPEN]),
     }
 }
 

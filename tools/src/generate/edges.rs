@@ -1,5 +1,7 @@
 //! The edges of the format's limits, each from both sides, and faults that meet at one place. These inputs come
-//! first in every run, so that a limit that is off by one is found whatever the seed.
+//! first in every run, so that a limit that is off by one is found whatever the seed. `open` has those of code 18.
+
+pub mod open;
 
 use super::parts::filler;
 use super::special::{document, DOCUMENT_SCRIPT, DOCUMENT_TEMPLATE};
@@ -9,51 +11,49 @@ use crate::template::{INCOMING, MOST_WORDS, OUTGOING};
 
 /// All edges.
 pub fn edges() -> Vec<Case> {
-    let mut cases = Vec::new();
-    let templates = [template_counts(), template_parts(), template_links()].concat();
-    for (number, template) in templates.into_iter().enumerate() {
-        let files = Files {
-            template,
-            script: vec![1, 0],
-            bookings: vec![0],
-        };
-        cases.push(Case {
-            name: format!("edge-template-{number}"),
-            bytes: files.bytes(),
-        });
-    }
-    for (number, script) in scripts().into_iter().enumerate() {
-        let files = Files {
-            template: DOCUMENT_TEMPLATE.to_vec(),
-            script,
-            bookings: vec![0],
-        };
-        cases.push(Case {
-            name: format!("edge-script-{number}"),
-            bytes: files.bytes(),
-        });
-    }
-    for (number, bookings) in booking_lists().into_iter().enumerate() {
-        cases.push(Case {
-            name: format!("edge-bookings-{number}"),
-            bytes: document(&bookings).bytes(),
-        });
-    }
-    for (number, bytes) in inputs().into_iter().enumerate() {
-        cases.push(Case {
-            name: format!("edge-input-{number}"),
-            bytes,
-        });
-    }
-    cases
+    let templates = [
+        template_counts(),
+        template_parts(),
+        template_links(),
+        open::templates(),
+    ];
+    let of_template = |template| Files {
+        template,
+        script: vec![1, 0],
+        bookings: vec![0],
+    };
+    let of_script = |script| Files {
+        template: DOCUMENT_TEMPLATE.to_vec(),
+        script,
+        bookings: vec![0],
+    };
+    let templates = templates.concat().into_iter().map(of_template);
+    let scripts = scripts().into_iter().map(of_script);
+    let bookings = booking_lists().into_iter().map(|list| document(&list));
+    [
+        numbered("template", templates.map(|files| files.bytes())),
+        numbered("script", scripts.map(|files| files.bytes())),
+        numbered("bookings", bookings.map(|files| files.bytes())),
+        numbered("input", inputs().into_iter()),
+    ]
+    .concat()
 }
 
-/// A template with L kinds and these parts.
-fn template(kinds: u16, parts: &[&[u16]]) -> Vec<u16> {
-    let mut words = vec![kinds, parts.len() as u16];
-    for part in parts {
-        words.push(part.len() as u16);
-        words.extend(*part);
+/// These inputs, by the name of what is at its edge and their numbers.
+fn numbered(what: &str, inputs: impl Iterator<Item = Vec<u8>>) -> Vec<Case> {
+    let case = |(number, bytes)| Case {
+        name: format!("edge-{what}-{number}"),
+        bytes,
+    };
+    inputs.enumerate().map(case).collect()
+}
+
+/// A template with L kinds and the words of these shapes.
+fn template(kinds: u16, shapes: &[&[u16]]) -> Vec<u16> {
+    let mut words = vec![kinds, shapes.len() as u16];
+    for shape in shapes {
+        words.push(shape.len() as u16);
+        words.extend(*shape);
     }
     words
 }
@@ -87,7 +87,7 @@ fn template_counts() -> Vec<Vec<u16>> {
 /// Codes, groups and depths.
 fn template_parts() -> Vec<Vec<u16>> {
     let mut templates = Vec::new();
-    for code in [4, 15, 18, 255, 384, 65535] {
+    for code in [4, 15, 19, 255, 384, 65535] {
         templates.push(template(1, &[&[code]]));
     }
     // The first and the last code of each way, and what stands beside them.

@@ -7,7 +7,7 @@ use crate::numbers::{Card, Kind, Shape};
 use crate::random::Random;
 use crate::script::{MOST_CARDS, MOST_LINKS};
 use crate::sheet::Files;
-use crate::template::{self, Part, Template, MOST_KINDS, MOST_SHAPES, MOST_WORDS};
+use crate::template::{self, Definition, Part, Template, MOST_KINDS, MOST_SHAPES, MOST_WORDS};
 use crate::typing::bookings::MOST_BOOKINGS;
 
 /// The labels that every shape of the densest sheet names.
@@ -29,10 +29,7 @@ pub fn ring() -> Files {
             Part::Choice(vec![onwards, outgoing(1, shape + 1, 1, Some(1))])
         }
     });
-    let template = Template {
-        kinds: 2,
-        parts: parts.collect(),
-    };
+    let template = Template::closed(2, parts.collect());
     let mut links: scripts::Links = (1..MOST_CARDS).map(|to| (to - 1, 0, to)).collect();
     links.insert((MOST_CARDS - 1, 1, 0));
     Files {
@@ -46,12 +43,17 @@ pub fn ring() -> Files {
 /// 1,024 bookings. Each shape names 30 kinds, most of them common to all. A few links of other kinds start the
 /// strikes, and these reach every pair.
 pub fn densest() -> Files {
-    dense(&[Way::Outgoing])
+    dense(&[Way::Outgoing], dense_template(&[Way::Outgoing]))
 }
 
 /// The same with half of the labels incoming: each shape names 15 kinds both ways.
 pub fn densest_both_ways() -> Files {
-    dense(&Way::BOTH)
+    dense(&Way::BOTH, dense_template(&Way::BOTH))
+}
+
+/// The densest sheet with every shape open, so that the few links of other kinds are ignored and strike nothing.
+pub fn densest_open() -> Files {
+    dense(&[Way::Outgoing], dense_open_template())
 }
 
 /// How many kinds every shape of a dense template names, in each of these ways: those with the lowest numbers.
@@ -59,9 +61,9 @@ pub fn common_kinds(ways: &[Way]) -> u16 {
     COMMON / ways.len() as u16
 }
 
-fn dense(ways: &[Way]) -> Files {
+/// Cards whose links are of kinds that every shape of this dense template names in these ways, but for a few.
+fn dense(ways: &[Way], template: Template) -> Files {
     let mut random = Random::new(7);
-    let template = template::write(&dense_template(ways));
     let mut links = scripts::Links::new();
     let each = MOST_LINKS / MOST_CARDS;
     for card in 0..MOST_CARDS {
@@ -84,7 +86,7 @@ fn dense(ways: &[Way]) -> Files {
         .map(|card| (Card(card), Shape(card % MOST_SHAPES)))
         .collect();
     Files {
-        template,
+        template: template::write(&template),
         script: scripts::words(MOST_CARDS, &links),
         bookings: bookings::words(&booked),
     }
@@ -92,22 +94,41 @@ fn dense(ways: &[Way]) -> Files {
 
 /// 32 shapes of 30 links each, in equal shares for these ways; the last one is filled up to the last word.
 pub fn dense_template(ways: &[Way]) -> Template {
-    let mut parts: Vec<Part> = (0..MOST_SHAPES).map(|shape| dense_part(shape, ways)).collect();
-    let kinds = MOST_KINDS;
-    let mut template = Template {
-        kinds,
-        parts: parts.clone(),
+    let part = |shape| {
+        let links = dense_links(shape, ways);
+        let (first, second) = links.split_at(16);
+        Part::All(vec![Part::All(first.to_vec()), Part::All(second.to_vec())])
     };
+    let parts = (0..MOST_SHAPES).map(part);
+    filled(Template::closed(MOST_KINDS, parts.collect()))
+}
+
+/// The same with every shape open and its links outgoing. One group less in each shape leaves the words for that.
+fn dense_open_template() -> Template {
+    let part = |shape| {
+        let mut links = dense_links(shape, &[Way::Outgoing]);
+        let second = links.split_off(15);
+        Part::All([links, vec![Part::All(second)]].concat())
+    };
+    let definitions = (0..MOST_SHAPES).map(|shape| Definition::open(part(shape)));
+    filled(Template {
+        kinds: MOST_KINDS,
+        definitions: definitions.collect(),
+    })
+}
+
+/// The template with its last shape filled up to the last word.
+fn filled(mut template: Template) -> Template {
     let missing = MOST_WORDS - template::write(&template).len();
-    if let Some(last) = parts.pop() {
+    if let Some(last) = template.definitions.last_mut() {
         // An all of two parts takes two words itself.
-        parts.push(Part::All(vec![last, filler(missing - 2)]));
+        last.part = Part::All(vec![last.part.clone(), filler(missing - 2)]);
     }
-    template.parts = parts;
     template
 }
 
-fn dense_part(shape: u16, ways: &[Way]) -> Part {
+/// The links of a shape: with the common kinds and with its own.
+fn dense_links(shape: u16, ways: &[Way]) -> Vec<Part> {
     let own =
         (0..OWN / ways.len() as u16).map(|number| COMMON + (shape * OWN + number) % (MOST_KINDS - COMMON));
     let kinds: Vec<u16> = (0..common_kinds(ways)).chain(own).collect();
@@ -121,7 +142,5 @@ fn dense_part(shape: u16, ways: &[Way]) -> Part {
         Part::link(label, Shape(far % MOST_SHAPES), 0, None)
     };
     let of_way = |way: &Way| kinds.iter().map(|kind| link(*way, *kind)).collect::<Vec<_>>();
-    let links: Vec<Part> = ways.iter().flat_map(of_way).collect();
-    let (first, second) = links.split_at(16);
-    Part::All(vec![Part::All(first.to_vec()), Part::All(second.to_vec())])
+    ways.iter().flat_map(of_way).collect()
 }

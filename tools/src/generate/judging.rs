@@ -5,6 +5,7 @@
 //! | `samples`  | the examples of docs/FORMAT.md, and every grid of the worked sheet         |
 //! | `edges`    | each refusal of a grid from both sides                                     |
 //! | `arriving` | links that arrive                                                          |
+//! | `open`     | open shapes                                                                |
 //! | `orders`   | several faults at once: which one is told                                  |
 //! | `typings`  | both typings of some sheets, typings between them, and what is a pair off  |
 //! | `limits`   | everything at its limit                                                    |
@@ -14,12 +15,15 @@ pub mod arriving;
 pub mod edges;
 pub mod grids;
 pub mod limits;
+pub mod open;
 pub mod orders;
 pub mod samples;
 pub mod typings;
 
+use super::counted;
 use crate::random::Random;
 use crate::refusal::Refusal;
+use crate::samples::Counted;
 use crate::sheet::{self, Files};
 use crate::typing::judge::{self, judge_by_choices};
 use crate::typing::{bookings, Pair, Setting};
@@ -89,14 +93,39 @@ impl JudgeCase {
 pub fn fixed() -> Vec<JudgeCase> {
     [
         samples::samples(),
-        samples::every_grid(),
+        samples::worked(),
         edges::edges(),
         arriving::arriving(),
+        open::open(),
         orders::orders(),
         typings::typings(),
         limits::limits(),
     ]
     .concat()
+}
+
+/// A sheet with each grid of 0s and 1s that it can have.
+fn every_grid(name: &str, template: &[u16], script: &[u16], bookings: &[u16]) -> Vec<JudgeCase> {
+    let size = script[0] * template[1];
+    (0..1_u32 << size)
+        .map(|bits| {
+            let grid: Vec<u8> = (0..size).map(|place| (bits >> place & 1) as u8).collect();
+            JudgeCase::new(format!("{name}-{bits}"), template, script, bookings, &grid)
+        })
+        .collect()
+}
+
+/// Sheets on which card 0 has so many links, all joining it to cards that have the shape asked for, and the grid gives
+/// it the shape that the counts fit or not.
+fn counts_of(counted: Vec<Counted>) -> Vec<JudgeCase> {
+    let case = |(name, shape, counts): Counted| {
+        let files = counted::sheet(&shape, &counts)?;
+        let mut grid = [0, 1].repeat(files.script[0].into());
+        grid[..2].copy_from_slice(&[1, 0]);
+        let name = format!("counts-{name}");
+        Some(JudgeCase { name, files, grid })
+    };
+    counted.into_iter().filter_map(case).collect()
 }
 
 /// The cases of one seed: the fixed ones first, then as many random ones as are asked for.

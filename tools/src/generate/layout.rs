@@ -1,6 +1,6 @@
 //! Where things stand in the words of a template that is well-formed.
 
-use crate::template::{ALL, CHOICE, OPTIONAL, OUTGOING, STAR};
+use crate::template::{ALL, CHOICE, OPEN, OPTIONAL, OUTGOING, STAR};
 
 /// One part of the template.
 #[derive(Clone, Copy, PartialEq, Eq, Debug)]
@@ -32,14 +32,13 @@ pub fn layout(words: &[u16]) -> Layout {
     let mut place = 2;
     for _ in 0..words[1] {
         layout.counts.push(place);
-        place = layout.part(
-            words,
-            Spot {
-                place: place + 1,
-                count_place: place,
-                depth: 1,
-            },
-        );
+        let open = words[place + 1] == OPEN;
+        let whole = Spot {
+            place: place + 1 + usize::from(open),
+            count_place: place,
+            depth: 1,
+        };
+        place = layout.part(words, whole);
     }
     layout
 }

@@ -3,22 +3,27 @@
 //! cards have their shapes; unless a few links are changed afterwards.
 
 use super::scripts::{self, Links};
-use super::{booked, parts, sparse, Scale};
+use super::{booked, openings, parts, sparse, Scale};
 use crate::labels::{Label, Labelled, Way};
 use crate::numbers::{Kind, Shape};
 use crate::random::Random;
 use crate::sheet::Files;
-use crate::template::{Part, Template};
+use crate::template::{Definition, Part, Template};
 
 /// A sheet that isn't larger than the scale.
 pub fn matched(random: &mut Random, scale: Scale) -> Files {
     let plan = Plan::new(random, scale);
     let mut links = plan.links(random, scale.links);
     let ranges = plan.ranges(&links);
-    let shapes = (0..plan.shapes).map(Shape);
+    let (share, shapes) = (openings::share(random), (0..plan.shapes).map(Shape));
+    let define = |shape| {
+        let open = random.chance(share, 4);
+        let part = plan.part(random, (shape, open), &ranges);
+        Definition { open, part }
+    };
     let template = Template {
         kinds: plan.joins.len() as u16,
-        parts: shapes.map(|shape| plan.part(random, shape, &ranges)).collect(),
+        definitions: shapes.map(define).collect(),
     };
     if random.chance(1, 2) {
         scripts::disturb(random, &mut links, plan.cards(), template.kinds, scale.links);
@@ -26,6 +31,9 @@ pub fn matched(random: &mut Random, scale: Scale) -> Files {
     let mut script = scripts::words(plan.cards(), &links);
     if random.chance(1, 6) {
         script = sparse::thin(random, &script, template.kinds, scale.links);
+    }
+    if random.chance(1, 2) {
+        script = openings::stray(random, &template, script, scale.links);
     }
     booked(random, &template, script, scale)
 }
@@ -99,9 +107,9 @@ impl Plan {
         ranges
     }
 
-    /// A part that all cards keep to that are meant to have the shape. It names all kinds that start at them and most
-    /// that arrive.
-    fn part(&self, random: &mut Random, shape: Shape, ranges: &[Labelled<[u16; 2]>]) -> Part {
+    /// A part that all cards keep to that are meant to have the shape. It names most kinds that arrive at them, and all
+    /// that start at them; if the shape is open, only some of these.
+    fn part(&self, random: &mut Random, (shape, open): (Shape, bool), ranges: &[Labelled<[u16; 2]>]) -> Part {
         let mut links = Vec::new();
         for (label, [low, high]) in ranges[shape.index()].iter() {
             let [start, target] = self.joins[label.kind.index()];
@@ -109,7 +117,10 @@ impl Plan {
                 Way::Outgoing => (start, target),
                 Way::Incoming => (target, start),
             };
-            let is_named = label.way == Way::Outgoing || random.chance(3, 4);
+            let is_named = match label.way {
+                Way::Outgoing => !open || random.chance(1, 2),
+                Way::Incoming => random.chance(3, 4),
+            };
             if here == shape && is_named {
                 links.push(link_part(random, label, far, [*low.min(high), *high]));
             }

@@ -1,10 +1,11 @@
 //! Random parts and templates, and random bags of a part.
 
-use super::Scale;
+use super::{openings, Scale};
 use crate::labels::{Label, Way};
 use crate::numbers::{Kind, Shape};
 use crate::random::Random;
-use crate::template::{self, Part, Template, MOST_COUNT, MOST_DEPTH, MOST_GROUP, MOST_WORDS};
+use crate::template::{self, Definition, Part, Template};
+use crate::template::{MOST_COUNT, MOST_DEPTH, MOST_GROUP, MOST_WORDS};
 use std::collections::BTreeMap;
 
 /// A low, and a high or no limit.
@@ -140,7 +141,8 @@ fn easy_bounds(random: &mut Random) -> Bounds {
     }
 }
 
-/// A random template that isn't larger than the scale. Most name links both ways, some only one way.
+/// A random template that isn't larger than the scale. Most name links both ways, some only one way; in many some
+/// shapes are open, in some all of them.
 pub fn template(random: &mut Random, scale: Scale) -> Template {
     let kinds = up_to(random, scale.kinds);
     let shapes = up_to(random, scale.shapes);
@@ -165,10 +167,11 @@ pub fn template(random: &mut Random, scale: Scale) -> Template {
         room -= 1 + part.words().len();
         parts.push(part);
     }
-    let mut template = Template { kinds, parts };
+    let mut template = Template::closed(kinds, parts);
     if ways.len() == 2 && random.chance(3, 4) {
         mirror(random, &mut template);
     }
+    openings::open(random, &mut template);
     template
 }
 
@@ -177,8 +180,8 @@ pub fn template(random: &mut Random, scale: Scale) -> Template {
 /// that the other wants.
 fn mirror(random: &mut Random, template: &mut Template) {
     let mut named = template.named();
-    let mut mirrored = vec![Vec::new(); template.parts.len()];
-    for (shape, part) in (0..).map(Shape).zip(&template.parts) {
+    let mut mirrored = vec![Vec::new(); template.definitions.len()];
+    for (shape, part) in (0..).map(Shape).zip(template.parts()) {
         for link in part.links() {
             let (far, label) = (link.shape.index(), link.label.turned());
             let has_room = mirrored[far].len() + 1 < usize::from(MOST_GROUP);
@@ -190,7 +193,7 @@ fn mirror(random: &mut Random, template: &mut Template) {
         }
     }
     let mut room = MOST_WORDS - template::write(template).len();
-    for (part, links) in template.parts.iter_mut().zip(mirrored) {
+    for (Definition { part, .. }, links) in template.definitions.iter_mut().zip(mirrored) {
         let whole = Part::All([vec![part.clone()], links].concat());
         let more = whole.words().len() - part.words().len();
         if whole.links().len() > part.links().len() && more <= room && whole.depth() <= MOST_DEPTH {

@@ -32,7 +32,7 @@ pub fn derived(random: &mut Random, template: &Template, scale: Scale) -> Vec<u1
     let wishes: Vec<Shape> = (0..cards)
         .map(|_| Shape(random.word(0, template.shapes() - 1)))
         .collect();
-    let mut holders = vec![Vec::new(); template.parts.len()];
+    let mut holders = vec![Vec::new(); template.definitions.len()];
     for (wish, card) in wishes.iter().zip(0..) {
         holders[wish.index()].push(card);
     }

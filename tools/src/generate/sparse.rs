@@ -76,20 +76,20 @@ pub fn demand(random: &mut Random, template: &mut Template) {
     let mut room = MOST_WORDS - template::write(template).len();
     let (kinds, shapes) = (template.kinds, template.shapes());
     let no_links = Labelled::new(kinds, 0);
-    let links = template.parts.iter().flat_map(Part::links);
+    let links = template.parts().flat_map(Part::links);
     let mut ways: Vec<Way> = links.map(|link| link.label.way).collect();
     ways.push(Way::Outgoing);
-    for part in &mut template.parts {
+    for definition in &mut template.definitions {
         let label = Label {
             way: random.pick(&ways),
             kind: Kind(random.word(0, kinds - 1)),
         };
         let shape = Shape(random.word(0, shapes - 1));
         let wanted = Part::link(label, shape, 1, random.pick(&[None, Some(1), Some(2)]));
-        let more = wanted.words().len().saturating_sub(part.words().len());
-        if more <= room && fits(part, &no_links) {
+        let more = wanted.words().len().saturating_sub(definition.part.words().len());
+        if more <= room && fits(definition, &no_links) {
             room -= more;
-            *part = wanted;
+            definition.part = wanted;
         }
     }
 }

@@ -7,7 +7,7 @@ use crate::numbers::{Card, Shape};
 use crate::random::Random;
 use crate::script::{MOST_CARDS, MOST_LINKS};
 use crate::sheet::{Files, MOST_BYTES};
-use crate::template::{self, Part, Template, MOST_KINDS, MOST_SHAPES, MOST_WORDS};
+use crate::template::{self, Definition, Part, Template, MOST_KINDS, MOST_SHAPES, MOST_WORDS};
 use crate::typing::bookings::MOST_BOOKINGS;
 use crate::typing::Setting;
 
@@ -82,10 +82,7 @@ pub fn random(random: &mut Random) -> Case {
 /// Each card leads to the next one, and must. If the chain isn't closed, each round strikes its last card, so
 /// there are as many rounds as cards and one more.
 pub fn chain(cards: u16, closed: bool) -> Files {
-    let template = Template {
-        kinds: 1,
-        parts: vec![outgoing(0, 0, 1, Some(1))],
-    };
+    let template = Template::closed(1, vec![outgoing(0, 0, 1, Some(1))]);
     let mut links: scripts::Links = (1..cards).map(|to| (to - 1, 0, to)).collect();
     if closed {
         links.insert((cards - 1, 0, 0));
@@ -114,7 +111,7 @@ pub fn longest(cards: u16, shapes: u16) -> Files {
     let mut links: scripts::Links = (0..cards).map(|card| (card, 0, (card + 1) % cards)).collect();
     links.insert((0, 1, 1 % cards));
     Files {
-        template: template::write(&Template { kinds: 2, parts }),
+        template: template::write(&Template::closed(2, parts)),
         script: scripts::words(cards, &links),
         bookings: bookings::words(&[(Card(1 % cards), Shape(0))]),
     }
@@ -145,24 +142,23 @@ pub fn limits(random: &mut Random) -> Files {
 fn full_template(random: &mut Random) -> Template {
     let mut template = any_template(random, FULL);
     template.kinds = MOST_KINDS;
-    template.parts.truncate(usize::from(MOST_SHAPES) - 2);
-    while template.parts.len() < usize::from(MOST_SHAPES) - 2 {
-        template.parts.push(Part::Nothing);
-    }
+    let nothing = Definition::closed(Part::Nothing);
+    template.definitions.resize(usize::from(MOST_SHAPES) - 2, nothing);
     // A shape that names each label and takes any links, so that not all pairs are struck.
     let links = Label::all(MOST_KINDS).map(|label| Part::link(label, Shape(MOST_SHAPES - 2), 0, None));
     for part in [Part::all_of(links.collect()), Part::Nothing] {
-        template.parts.push(part);
+        let open = random.chance(1, 4);
+        template.definitions.push(Definition { open, part });
     }
     // If the words don't suffice, the longest of the random shapes go.
     while template::write(&template).len() > MOST_WORDS - 1 {
-        let random_parts = &mut template.parts[..usize::from(MOST_SHAPES) - 2];
-        if let Some(longest) = random_parts.iter_mut().max_by_key(|part| part.words().len()) {
-            *longest = Part::Nothing;
+        let random_shapes = &mut template.definitions[..usize::from(MOST_SHAPES) - 2];
+        if let Some(longest) = random_shapes.iter_mut().max_by_key(|shape| shape.words().len()) {
+            longest.part = Part::Nothing;
         }
     }
     let missing = MOST_WORDS - template::write(&template).len();
-    template.parts[usize::from(MOST_SHAPES) - 1] = filler(1 + missing);
+    template.definitions[usize::from(MOST_SHAPES) - 1].part = filler(1 + missing);
     template
 }
 

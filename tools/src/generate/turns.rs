@@ -55,7 +55,7 @@ pub fn longest_back(cards: u16, shapes: u16) -> Files {
 /// A sheet with shape 0 booked for one card.
 fn sheet(kinds: u16, parts: Vec<Part>, cards: u16, links: &scripts::Links, booked: u16) -> Files {
     Files {
-        template: template::write(&Template { kinds, parts }),
+        template: template::write(&Template::closed(kinds, parts)),
         script: scripts::words(cards, links),
         bookings: bookings::words(&[(Card(booked), Shape(0))]),
     }

@@ -78,6 +78,6 @@ fn counted(question: &Question) -> Option<Files> {
     let template = template::read(&question.template).ok()?;
     let is_asked =
         question.shape < template.shapes() && question.counts.len() == 2 * usize::from(template.kinds);
-    let part = is_asked.then(|| template.part(Shape(question.shape)))?;
-    counted::sheet(part, &Labelled::from(question.counts.clone()))
+    let asked = is_asked.then(|| template.definition(Shape(question.shape)))?;
+    counted::sheet(asked, &Labelled::from(question.counts.clone()))
 }

@@ -1,12 +1,13 @@
 //! Questions for *Fit counts*, answered by enumeration of bags: fixed ones, and small random ones.
 
-use super::{one_shape, spaced, turned};
+use super::{one_shape, opened, spaced, turned};
 use crate::fit::{self, lines::written};
 use crate::generate::arriving::GUESTS;
+use crate::generate::openings;
 use crate::generate::parts::{draw, outgoing, small_bounds, Drawn, PartMaker};
-use crate::labels::{Label, Labelled, Way};
+use crate::labels::{Label, Labelled};
 use crate::random::Random;
-use crate::template::{self, Part, Template, MOST_COUNT, MOST_KINDS};
+use crate::template::{self, Definition, Part, Template, MOST_COUNT, MOST_KINDS};
 
 /// A question for *Fit counts*.
 #[derive(Clone, Debug)]
@@ -19,20 +20,21 @@ pub struct Question {
     pub counts: Vec<u16>,
 }
 
-/// The questions that are the same for every seed: the samples both ways, alone and with counts that are ignored; the
-/// page's items and guests; as many counts as there should be, and others; the first count that is too large.
+/// The questions that are the same for every seed: the samples both ways, closed and open, alone and with counts that
+/// are ignored; the page's items and guests; as many counts as there should be, and others; the first count that is
+/// too large; and open shapes.
 pub fn fixed() -> Vec<Question> {
     let mut questions = Vec::new();
-    for (_, part, counts) in turned() {
-        let named = part.named(2);
-        let ignored = |(label, count): (Label, &u16)| match (label.way, named[label]) {
-            (Way::Incoming, None) => 3 + label.kind.0,
-            _ => *count,
-        };
-        let with_others: Vec<u16> = counts.iter().map(ignored).collect();
-        for counts in [counts.values().to_vec(), with_others] {
-            questions.push(asked(&one_shape(2, &part), 0, &counts));
-        }
+    for (_, shape, counts) in [turned(), opened()].concat() {
+        let looked_at = shape.looked_at(2);
+        let with_others = counts.iter().map(|(label, count)| match looked_at[label] {
+            true => *count,
+            false => 3 + label.kind.0,
+        });
+        let mut both = vec![counts.values().to_vec(), with_others.collect()];
+        both.dedup();
+        let template = one_shape(2, shape);
+        questions.extend(both.iter().map(|counts| asked(&template, 0, counts)));
     }
     let guests: [(u16, &[u16]); 6] = [
         (1, &[0, 1]),
@@ -44,7 +46,10 @@ pub fn fixed() -> Vec<Question> {
     ];
     questions.extend(guests.map(|(shape, counts)| asked(&GUESTS, shape, counts)));
     questions.extend(lengths());
-    questions.extend(too_large());
+    for shape in [Definition::closed, Definition::open] {
+        questions.extend(too_large(&one_shape(2, shape(outgoing(0, 0, 0, None)))));
+    }
+    questions.extend(open());
     questions
 }
 
@@ -60,7 +65,7 @@ fn asked(template: &[u16], shape: u16, counts: &[u16]) -> Question {
 fn lengths() -> Vec<Question> {
     let mut questions = Vec::new();
     for kinds in [1, 2, MOST_KINDS] {
-        let template = one_shape(kinds, &Part::Nothing);
+        let template = one_shape(kinds, Definition::closed(Part::Nothing));
         let all = 2 * usize::from(kinds);
         for length in [0, all / 2, all - 1, all, all + 1] {
             questions.push(asked(&template, 0, &vec![0; length]));
@@ -71,67 +76,98 @@ fn lengths() -> Vec<Question> {
     questions
 }
 
-/// Each count at its limit and above it, in both halves, and two that are above it.
-fn too_large() -> Vec<Question> {
-    let template = one_shape(2, &outgoing(0, 0, 0, None));
+/// Each count of two kinds at its limit and above it, in both halves, and two that are above it.
+fn too_large(template: &[u16]) -> Vec<Question> {
     let mut questions = Vec::new();
     for place in 0..4 {
         for count in [MOST_COUNT, MOST_COUNT + 1] {
             let mut counts = [0; 4];
             counts[place] = count;
-            questions.push(asked(&template, 0, &counts));
+            questions.push(asked(template, 0, &counts));
         }
         let mut counts = [MOST_COUNT + 1; 4];
         counts[..place].fill(1);
-        questions.push(asked(&template, 0, &counts));
+        questions.push(asked(template, 0, &counts));
     }
     questions
+}
+
+/// Open shapes: one that names one of two kinds, one that names none and one that names all, the first and the last of
+/// a template, and a part that is as deep as can be.
+fn open() -> Vec<Question> {
+    let one_of_two = [2, 1, 5, 18, 256, 0, 1, 1];
+    let all = [1, 1, 11, 18, 17, 2, 256, 0, 1, 1, 320, 0, 1, 1];
+    let first_and_last = [1, 3, 5, 18, 256, 0, 1, 1, 4, 256, 0, 1, 1, 2, 18, 0];
+    let deep = [vec![2, 1, 16, 18], vec![1; 11], vec![256, 0, 2, 2]].concat();
+    let rows: [(&[u16], u16, &[u16]); 18] = [
+        (&one_of_two, 0, &[1, 7, 0, 0]),
+        (&one_of_two, 0, &[2, 7, 0, 0]),
+        (&one_of_two, 0, &[0, 7, 1, 0]),
+        (&one_of_two, 0, &[1, 8192, 8192, 8192]),
+        (&one_of_two, 0, &[1, 8193, 0, 0]),
+        (&one_of_two, 0, &[1, 7]),
+        (&one_of_two, 1, &[1, 7, 0, 0]),
+        (&[1, 1, 2, 18, 0], 0, &[0, 0]),
+        (&[1, 1, 2, 18, 0], 0, &[8192, 8192]),
+        (&all, 0, &[1, 1]),
+        (&all, 0, &[1, 0]),
+        (&all, 0, &[2, 1]),
+        (&first_and_last, 0, &[1, 0]),
+        (&first_and_last, 0, &[2, 0]),
+        (&first_and_last, 1, &[2, 0]),
+        (&first_and_last, 2, &[2, 0]),
+        (&deep, 0, &[4, 3, 0, 0]),
+        (&deep, 0, &[3, 3, 0, 0]),
+    ];
+    let rows = rows.into_iter();
+    rows.map(|(template, shape, counts)| asked(template, shape, counts))
+        .collect()
 }
 
 /// A random question with 1 to 3 kinds, parts that name up to 3 labels, and counts 0 to 4 of them.
 pub fn question(random: &mut Random) -> Question {
     let kinds = random.word(1, 3);
     let shapes = random.word(1, 2);
-    let mut parts = Vec::new();
+    let share = openings::share(random);
+    let mut definitions = Vec::new();
     for _ in 0..shapes {
         let mut used: Vec<Label> = Label::all(kinds).collect();
         random.shuffle(&mut used);
         let fewest = usize::from(random.chance(11, 12));
         used.truncate(random.between(fewest, used.len().min(3)));
-        let depth = random.between(2, 5);
-        parts.push(
-            PartMaker {
-                random,
-                shapes,
-                bounds: small_bounds,
-            }
-            .part(&used, depth),
-        );
+        let (open, depth) = (random.chance(share, 4), random.between(2, 5));
+        let mut maker = PartMaker {
+            random,
+            shapes,
+            bounds: small_bounds,
+        };
+        let part = maker.part(&used, depth);
+        definitions.push(Definition { open, part });
     }
     let shape = random.word(0, shapes - 1);
     let mut counts: Vec<u16> = (0..2 * kinds).map(|_| random.word(0, 4)).collect();
     if random.chance(2, 3) {
-        counts = drawn_counts(random, &parts[usize::from(shape)], kinds);
+        counts = drawn_counts(random, &definitions[usize::from(shape)], kinds);
     }
     if random.chance(1, 4) {
         let changed = random.below(counts.len());
         counts[changed] = random.word(0, 4);
     }
     Question {
-        template: template::write(&Template { kinds, parts }),
+        template: template::write(&Template { kinds, definitions }),
         shape,
         counts,
     }
 }
 
-/// Counts that are likely to fit the part: at most 4 of each label that it names, and some of the incoming kinds that
-/// it doesn't.
-fn drawn_counts(random: &mut Random, part: &Part, kinds: u16) -> Vec<u16> {
+/// Counts that are likely to fit the shape: at most 4 of each label that it names, and some of the others that it
+/// ignores.
+fn drawn_counts(random: &mut Random, shape: &Definition, kinds: u16) -> Vec<u16> {
     let mut bag = Drawn::new();
-    draw(random, part, 2, &mut bag);
+    draw(random, &shape.part, 2, &mut bag);
     let mut counts = Labelled::new(kinds, 0);
-    for (label, shape) in part.named(kinds).iter() {
-        if label.way == Way::Incoming && shape.is_none() {
+    for (label, is_looked_at) in shape.looked_at(kinds).iter() {
+        if !is_looked_at {
             counts[label] = random.pick(&[0, 0, 1, 5, MOST_COUNT]);
         }
     }

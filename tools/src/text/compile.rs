@@ -3,10 +3,10 @@
 //! twice, files too long to be counted. All else is left to the readers of the words.
 
 use super::nearest::nearest;
-use super::{Expression, Fault, LinkExpression, Name, Spot, Text};
+use super::{Expression, Fault, LinkExpression, Name, ShapeLine, Spot, Text};
 use crate::labels::Way;
 use crate::sheet::Files;
-use crate::template::{CHOICE, INCOMING, NOTHING, NO_LIMIT, OUTGOING, PLUS, STAR};
+use crate::template::{CHOICE, INCOMING, NOTHING, NO_LIMIT, OPEN, OUTGOING, PLUS, STAR};
 use std::collections::HashMap;
 
 /// Where a word comes from.
@@ -64,7 +64,7 @@ type Numbers<'a> = HashMap<&'a str, u16>;
 pub fn compile(text: &Text) -> Result<Compiled, Fault> {
     let compiler = Compiler {
         kinds: numbers("kind", text.kinds.iter())?,
-        shapes: numbers("shape", text.shapes.iter().map(|(name, _)| name))?,
+        shapes: numbers("shape", text.shapes.iter().map(|shape| &shape.name))?,
         cards: numbers("card", text.cards.iter().map(|(name, _)| name))?,
     };
     let compiled = Compiled {
@@ -125,10 +125,14 @@ impl Compiler<'_> {
         let mut section = Section::default();
         let spot = overflow(text.kinds.iter(), 64);
         section.push(count(text.kinds.len(), spot)?, spot, "the count of kinds");
-        let spot = overflow(text.shapes.iter().map(|(name, _)| name), 32);
+        let spot = overflow(text.shapes.iter().map(|shape| &shape.name), 32);
         section.push(count(text.shapes.len(), spot)?, spot, "the count of shapes");
-        for (name, part) in &text.shapes {
+        for ShapeLine { open, name, part } in &text.shapes {
             let mut words = Section::default();
+            if let Some(spot) = open {
+                let role = format!("the code that makes shape {} open", name.text);
+                words.push(OPEN, *spot, role);
+            }
             self.part(part, &name.text, &mut words)?;
             section.push(
                 count(words.words.len(), name.spot)?,

@@ -17,7 +17,7 @@ pub fn tell(compiled: &Compiled, refusal: Refusal) -> Told {
 
 fn tell_word(compiled: &Compiled, refusal: Refusal) -> Told {
     let (file, section): (&'static str, &Section) = match refusal.number {
-        1..=12 => ("template", &compiled.template),
+        1..=12 | 64 => ("template", &compiled.template),
         20..=25 => ("script", &compiled.script),
         30..=33 | 63 => ("bookings", &compiled.bookings),
         _ => return Told::without_word(refusal, None),

@@ -57,7 +57,7 @@ fn contents(sheet: &Sheet) -> [(&'static str, Json); 5] {
         ("kinds", Json::list(&text.kinds, |name| Json::text(&name.text))),
         (
             "shapes",
-            Json::list(&text.shapes, |(name, _)| Json::text(&name.text)),
+            Json::list(&text.shapes, |shape| Json::text(&shape.name.text)),
         ),
         ("links", Json::count(text.links.len())),
         ("bookings", booked),
@@ -134,7 +134,7 @@ fn pair_fields(sheet: &Sheet, (card, shape): Pair) -> Vec<(&'static str, Json)> 
         ("card", Json::count(card.index())),
         ("card_name", Json::text(&sheet.text.cards[card.index()].0.text)),
         ("shape", Json::count(shape.index())),
-        ("shape_name", Json::text(&sheet.text.shapes[shape.index()].0.text)),
+        ("shape_name", Json::text(sheet.text.shape_name(shape.index()))),
     ]
 }
 
@@ -193,7 +193,7 @@ fn bare_reason(sheet: &Sheet, reason: &Reason) -> Json {
     root.push(("lacks", Json::list(&reason.misfit.lacks, |one| lack(sheet, one))));
     Json::Fields(vec![
         ("shape", Json::count(shape.index())),
-        ("shape_name", Json::text(&sheet.text.shapes[shape.index()].0.text)),
+        ("shape_name", Json::text(sheet.text.shape_name(shape.index()))),
         ("distance", Json::Number(reason.distance)),
         ("reason", Json::text(because(&sheet.text, reason))),
         ("root", Json::Fields(root)),
@@ -216,7 +216,7 @@ fn card(sheet: &Sheet, number: usize) -> Json {
     let shapes = |grid: &[u8]| {
         let all = (0..sheet.both.shapes).map(Shape);
         let has = all.filter(|shape| sheet.has(grid, (Card(number as u16), *shape)));
-        Json::list(has, |shape| Json::text(&sheet.text.shapes[shape.index()].0.text))
+        Json::list(has, |shape| Json::text(sheet.text.shape_name(shape.index())))
     };
     let mut fields = vec![
         ("name", Json::text(&name.text)),

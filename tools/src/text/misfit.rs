@@ -1,8 +1,8 @@
 //! What a card's links lack for a shape, or have too many of: told by the nearest counts that fit.
 
 use super::costs::{range, Costed};
-use crate::labels::{Label, Labelled, Way};
-use crate::template::Part;
+use crate::labels::{Label, Labelled};
+use crate::template::{Definition, Part};
 
 /// A label with which there are too few links or too many.
 #[derive(Clone, Copy, PartialEq, Eq, Debug)]
@@ -35,7 +35,7 @@ pub enum Taken {
     Times(Part, usize),
 }
 
-/// Why counts don't fit a part.
+/// Why counts don't fit a shape.
 #[derive(Clone, PartialEq, Eq, Debug)]
 pub struct Misfit {
     /// The labels at fault.
@@ -51,16 +51,17 @@ impl Misfit {
     }
 }
 
-/// Why the counts don't fit the whole part of a shape; none if they do.
-pub fn misfit(part: &Part, counts: &Labelled<u16>) -> Option<Misfit> {
+/// Why the counts don't fit a shape; none if they do.
+pub fn misfit(definition: &Definition, counts: &Labelled<u16>) -> Option<Misfit> {
     let mut misfit = Misfit {
         lacks: Vec::new(),
         taken: Vec::new(),
     };
+    let part = &definition.part;
     misfit.look(&Costed::new(part, counts), 1, counts);
-    let named = part.named(counts.kinds());
+    let (named, looked_at) = (part.named(counts.kinds()), definition.looked_at(counts.kinds()));
     for (label, there) in counts.iter() {
-        if label.way == Way::Outgoing && named[label].is_none() && *there > 0 {
+        if looked_at[label] && named[label].is_none() && *there > 0 {
             misfit.lack(label, (0, Some(0)), *there);
         }
     }

@@ -2,7 +2,7 @@
 //! they are read, so that no text, however deep, is a danger to those who walk over its parts.
 
 use super::tokens::{tokens, Placed, Token};
-use super::{Expression, Fault, LinkExpression, Name, Spot, Text};
+use super::{Expression, Fault, LinkExpression, Name, ShapeLine, Spot, Text};
 use crate::labels::Way;
 use crate::template::{ALL, CHOICE, NO_LIMIT, OPTIONAL, PLUS, STAR};
 
@@ -53,6 +53,14 @@ impl Parser<'_> {
             return Ok(());
         }
         Err(self.unexpected(&format!("`{sign}`")))
+    }
+
+    fn expect_word(&mut self, word: &str) -> Result<(), Fault> {
+        if self.peek().0 != Token::Word(word.to_string()) {
+            return Err(self.unexpected(&format!("`{word}`")));
+        }
+        self.next += 1;
+        Ok(())
     }
 
     /// The fault that something else stands here than was wanted.
@@ -121,11 +129,10 @@ impl Parser<'_> {
                 text.title = Some(self.quoted().ok_or_else(|| self.unexpected("a quotation"))?);
             }
             "kinds" => self.kinds(text)?,
-            "shape" => {
-                let name = self.name("a shape")?;
-                self.expect('=')?;
-                let (part, _) = self.part()?;
-                text.shapes.push((name, part));
+            "shape" => self.shape(None, text)?,
+            "open" => {
+                self.expect_word("shape")?;
+                self.shape(Some(keyword.spot), text)?;
             }
             "card" => {
                 let name = self.name("a card")?;
@@ -139,11 +146,20 @@ impl Parser<'_> {
                 text.bookings.push([card, shape]);
             }
             other => {
-                let message =
-                    format!("a line starts with title, kinds, shape, card, link or book, not with `{other}`");
+                let known = "title, kinds, shape, open shape, card, link or book";
+                let message = format!("a line starts with {known}, not with `{other}`");
                 return Err(Fault::at(keyword.spot, message));
             }
         }
+        Ok(())
+    }
+
+    /// A shape's name and part; `open` is where the line says that it is open.
+    fn shape(&mut self, open: Option<Spot>, text: &mut Text) -> Result<(), Fault> {
+        let name = self.name("a shape")?;
+        self.expect('=')?;
+        let (part, _) = self.part()?;
+        text.shapes.push(ShapeLine { open, name, part });
         Ok(())
     }
 

@@ -3,9 +3,9 @@
 use super::check::Sheet;
 use super::misfit::{misfit, Misfit};
 use super::roots::Roots;
-use crate::labels::{Label, Way};
+use crate::labels::Label;
 use crate::numbers::{Card, Shape};
-use crate::typing::met::{needs, Need};
+use crate::typing::met::{chosen_for, needs, Need};
 use crate::typing::{closure, Pair, Setting};
 use std::collections::{HashMap, VecDeque};
 
@@ -20,7 +20,7 @@ pub struct Reason {
     pub misfit: Misfit,
     /// How many links of the card itself are missing, too many, or join it to a card that can't be what it must be.
     pub distance: u64,
-    /// Whether a link starts at the card whose kind the shape doesn't name as outgoing.
+    /// Whether the card has a link at which the shape looks and that it doesn't name.
     pub strange: bool,
 }
 
@@ -77,7 +77,7 @@ pub fn all_not_met(sheet: &Sheet, roots: &Roots) -> Vec<Reason> {
 /// Why the links of a card don't fit a shape by their counts; none if they do.
 pub fn own_misfit(setting: &Setting, (card, shape): Pair) -> Option<Misfit> {
     let counts = setting.script.counts_of(card, setting.template.kinds);
-    misfit(setting.template.part(shape), &counts)
+    misfit(setting.template.definition(shape), &counts)
 }
 
 /// What a pair asks for.
@@ -86,11 +86,13 @@ pub fn asked_for(setting: &Setting, (card, shape): Pair) -> Vec<Need> {
     needs(setting, &named, card).collect()
 }
 
-/// Whether a link starts at the card whose kind the shape doesn't name as outgoing.
-fn is_strange(setting: &Setting, (card, shape): Pair) -> bool {
-    let named = setting.template.part(shape).named(setting.template.kinds);
-    let mut ends = setting.script.ends_of(card).iter();
-    ends.any(|end| end.label.way == Way::Outgoing && named[end.label].is_none())
+/// Whether the card has a link at which the shape looks and that it doesn't name: it starts at the card, and the shape
+/// is closed.
+fn is_strange(setting: &Setting, pair: Pair) -> bool {
+    let named = setting.template.part(pair.1).named(setting.template.kinds);
+    chosen_for(setting, pair)
+        .iter()
+        .any(|end| named[end.label].is_none())
 }
 
 /// One step of the path from a booking to a pair: the pair that asks, and the label by which it does.

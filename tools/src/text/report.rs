@@ -70,7 +70,7 @@ pub fn not_met(sheet: &Sheet, roots: &Roots, file: &str, pair: Pair) -> String {
     let mut told = format!("{start}: {}\n", cannot(text, &reason));
     if sheet.not_met() == Some(pair) {
         let name = &text.cards[card.index()].0.text;
-        let shape_name = &text.shapes[shape.index()].0.text;
+        let shape_name = text.shape_name(shape.index());
         told += &format!(
             "  refused 50 {} {}: the bookings ask for {name} to have shape {shape_name}\n",
             card.0, shape.0
@@ -81,7 +81,7 @@ pub fn not_met(sheet: &Sheet, roots: &Roots, file: &str, pair: Pair) -> String {
 }
 
 /// A card with no shape, and why it hasn't any of them, the nearest first. Shapes with the same reason share a line;
-/// so do those that don't take all of its kinds, except the nearest.
+/// so do the closed ones that don't name all of its kinds, except the nearest.
 fn no_shape(sheet: &Sheet, file: &str, card: usize, reasons: &[Reason]) -> String {
     let text = &sheet.text;
     let start = place(file, sheet.card_spot(card));
@@ -89,9 +89,9 @@ fn no_shape(sheet: &Sheet, file: &str, card: usize, reasons: &[Reason]) -> Strin
     let mut strangers = Vec::new();
     for (order, reason) in reasons.iter().enumerate() {
         let shape = reason.pair.1;
-        let name = &text.shapes[shape.index()].0.text;
+        let name = text.shape_name(shape.index());
         if order > 0 && reason.strange {
-            strangers.push((shape, name.as_str()));
+            strangers.push((shape, name));
             continue;
         }
         let why = because(text, reason);

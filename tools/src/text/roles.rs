@@ -4,12 +4,12 @@ use super::told::{Told, Word};
 use crate::labels::Way;
 use crate::refusal::Refusal;
 use crate::sheet::{Files, MOST_BYTES};
-use crate::template::{label_of, CHOICE, MOST_DEPTH, NOTHING, OPTIONAL, PLUS, STAR};
+use crate::template::{label_of, CHOICE, MOST_DEPTH, NOTHING, OPEN, OPTIONAL, PLUS, STAR};
 
 /// The file that a refusal's place is counted in: its name and its words. None for 40 to 43, 60 and 61.
 pub fn file_of(files: &Files, refusal: Refusal) -> Option<(&'static str, &[u16])> {
     match refusal.number {
-        1..=12 => Some(("template", &files.template)),
+        1..=12 | 64 => Some(("template", &files.template)),
         20..=25 => Some(("script", &files.script)),
         30..=33 | 63 => Some(("bookings", &files.bookings)),
         _ => None,
@@ -88,6 +88,9 @@ pub fn template_role(words: &[u16], place: usize) -> String {
         walk.note(format!("the count of words of shape {shape}"));
         let Some(count) = words.get(start) else { break };
         walk.end = (walk.place + usize::from(*count)).min(words.len());
+        if words[walk.place..walk.end].first() == Some(&OPEN) {
+            walk.note(format!("the code that makes shape {shape} open"));
+        }
         let whole = walk.part(shape, 1).is_some();
         walk.roles.push((walk.end, format!("the end of shape {shape}")));
         if !whole || walk.place != walk.end {
@@ -142,6 +145,11 @@ impl Walk<'_> {
                 for _ in 0..count {
                     self.part(shape, depth + 1)?;
                 }
+            }
+            OPEN => {
+                let role = "the code that makes a shape open, where a part's code is wanted";
+                self.note(format!("{role} {within}"));
+                return None;
             }
             _ => return self.link(code, &within),
         }

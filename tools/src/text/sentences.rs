@@ -133,8 +133,8 @@ pub fn booked_by(text: &Text, steps: Option<&[Step]>, goal: Pair) -> String {
         Some(steps) => steps,
     };
     let pair = |(card, shape): Pair| {
-        let (card, shape) = (&text.cards[card.index()].0, &text.shapes[shape.index()].0);
-        format!("{} {}", card.text, shape.text)
+        let card = &text.cards[card.index()].0;
+        format!("{} {}", card.text, text.shape_name(shape.index()))
     };
     let mut line = "booked: ".to_string();
     for (asking, label) in steps {
@@ -157,7 +157,7 @@ pub fn called(text: &Text, card: Card) -> String {
 
 /// A shape with its article.
 pub fn a_shape(text: &Text, shape: Shape) -> String {
-    let name = &text.shapes[shape.index()].0.text;
+    let name = text.shape_name(shape.index());
     let article = if name.starts_with(|first| "AEIOUaeiou".contains(first)) {
         "an"
     } else {

@@ -5,7 +5,7 @@ use super::check::Sheet;
 use super::load::load_sheet;
 use super::{quotations, Text};
 use crate::labels::Way;
-use crate::template::{Link, Part, Template};
+use crate::template::{Link, Part};
 use crate::typing::{Pair, Setting};
 use std::fmt::Write;
 
@@ -34,7 +34,7 @@ pub fn sheet_text(sheet: &Sheet) -> String {
         .map(|title| format!("title {}\n\n", quotations::write(title)));
     let names = Names {
         kinds: text.kinds.iter().map(|name| name.text.clone()).collect(),
-        shapes: text.shapes.iter().map(|(name, _)| name.text.clone()).collect(),
+        shapes: text.shapes.iter().map(|shape| shape.name.text.clone()).collect(),
         cards: text.cards.iter().map(|(name, _)| name.text.clone()).collect(),
     };
     let titles: Vec<Option<&str>> = text.cards.iter().map(|(_, title)| title.as_deref()).collect();
@@ -55,8 +55,10 @@ pub fn numbered(setting: &Setting, booked: &[Pair]) -> String {
 fn lines(setting: &Setting, booked: &[Pair], names: &Names, titles: &[Option<&str>]) -> String {
     let Names { kinds, shapes, cards } = names;
     let mut text = format!("kinds: {}\n\n", kinds.join(" "));
-    for (shape, part) in shapes.iter().zip(&setting.template.parts) {
-        let _ = writeln!(text, "shape {shape} = {}", part_named(part, kinds, shapes));
+    for (shape, definition) in shapes.iter().zip(&setting.template.definitions) {
+        let start = if definition.open { "open shape" } else { "shape" };
+        let part = part_named(&definition.part, kinds, shapes);
+        let _ = writeln!(text, "{start} {shape} = {part}");
     }
     text.push('\n');
     for (number, card) in cards.iter().enumerate() {
@@ -77,19 +79,11 @@ fn lines(setting: &Setting, booked: &[Pair], names: &Names, titles: &[Option<&st
     text
 }
 
-/// A part whose kinds and shapes are called by the names of a template.
-pub fn part_in_names(template: &Template, shape: usize, kinds: &[&str], shapes: &[&str]) -> String {
-    part_named(&template.parts[shape], kinds, shapes)
-}
-
 /// A part in the names of a text.
 pub fn part_in(text: &Text, part: &Part) -> String {
     part_with(part, &|link| {
-        let (kind, shape) = (
-            &text.kinds[link.label.kind.index()],
-            &text.shapes[link.shape.index()].0,
-        );
-        (kind.text.clone(), shape.text.clone())
+        let kind = &text.kinds[link.label.kind.index()];
+        (kind.text.clone(), text.shape_name(link.shape.index()).to_string())
     })
 }
 

@@ -9,8 +9,8 @@ use crate::numbers::{Card, Shape};
 /// The counts of one card's links.
 pub struct Counting<'a> {
     setting: &'a Setting,
-    /// The part of each shape, made ready.
-    parts: Vec<Ready>,
+    /// The shapes, made ready.
+    shapes: Vec<Ready>,
     /// The card whose links are counted.
     card: Option<Card>,
     /// Its count of links with each label.
@@ -23,10 +23,10 @@ impl<'a> Counting<'a> {
     /// No card is counted yet.
     pub fn new(setting: &'a Setting) -> Counting<'a> {
         let template = &setting.template;
-        let ready = |part| Ready::new(part, template.kinds);
+        let ready = |definition| Ready::new(definition, template.kinds);
         Counting {
             setting,
-            parts: template.parts.iter().map(ready).collect(),
+            shapes: template.definitions.iter().map(ready).collect(),
             card: None,
             counts: Labelled::new(template.kinds, 0),
             present: 0,
@@ -50,6 +50,6 @@ impl<'a> Counting<'a> {
 
     /// Whether the counts fit a shape.
     pub fn fits(&self, shape: Shape) -> bool {
-        self.parts[shape.index()].fits(&self.counts, self.present)
+        self.shapes[shape.index()].fits(&self.counts, self.present)
     }
 }

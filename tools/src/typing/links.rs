@@ -62,8 +62,8 @@ fn strike_rounds(setting: &Setting) -> (Vec<u16>, Vec<Pair>) {
 /// For each label and each shape, the shapes that name this label with this shape.
 fn users(setting: &Setting) -> Labelled<Vec<Vec<Shape>>> {
     let template = &setting.template;
-    let mut users = Labelled::new(template.kinds, vec![Vec::new(); template.parts.len()]);
-    for (shape, part) in (0..).map(Shape).zip(&template.parts) {
+    let mut users = Labelled::new(template.kinds, vec![Vec::new(); template.definitions.len()]);
+    for (shape, part) in (0..).map(Shape).zip(template.parts()) {
         for link in part.links() {
             users[link.label][link.shape.index()].push(shape);
         }

@@ -3,7 +3,7 @@
 use super::{Pair, Setting};
 use crate::fit::bags::{self, Bag, Bags};
 use crate::fit::intervals;
-use crate::labels::{Label, Way};
+use crate::labels::Label;
 use crate::numbers::{Card, Shape};
 use crate::script::End;
 use crate::template::Named;
@@ -19,14 +19,14 @@ pub fn needs<'a>(setting: &'a Setting, named: &'a Named, card: Card) -> impl Ite
 }
 
 /// Whether the pair is met under the grid. A label stands at most once in a shape, so there is only one shape to
-/// choose for each link: the one that its label is named with. Counts that fit have no other outgoing links, and the
-/// other incoming ones are ignored.
+/// choose for each link: the one that its label is named with. Of the other links, those at which the shape looks
+/// aren't there if the counts fit, and the rest is ignored.
 pub fn met(setting: &Setting, grid: &[u8], pair: Pair) -> bool {
     let (card, shape) = pair;
-    let part = setting.template.part(shape);
-    let named = part.named(setting.template.kinds);
+    let (definition, kinds) = (setting.template.definition(shape), setting.template.kinds);
+    let named = definition.part.named(kinds);
     let all_are_there = needs(setting, &named, card).all(|(_, far)| grid[setting.place(far)] == 1);
-    all_are_there && intervals::fits(part, &setting.script.counts_of(card, setting.template.kinds))
+    all_are_there && intervals::fits(definition, &setting.script.counts_of(card, kinds))
 }
 
 /// The same, taken at its word: every way to choose shapes of the far cards is tried, and the bag that comes out is
@@ -38,18 +38,13 @@ pub fn met_by_choices(setting: &Setting, grid: &[u8], pair: Pair) -> bool {
     some_choice_is_allowed(setting, grid, &chosen_for(setting, pair), &Bag::new(), &allowed)
 }
 
-/// The ends of links for which a shape of the far card is chosen: all that start at the card, and those that arrive
-/// and whose kind the shape names as incoming. A link from the card to itself can be there twice.
+/// The ends of links for which a shape of the far card is chosen: those at which the shape looks. A link from the card
+/// to itself can be there twice.
 pub fn chosen_for(setting: &Setting, (card, shape): Pair) -> Vec<End> {
-    let named = setting.template.part(shape).named(setting.template.kinds);
-    let counts = |end: &&End| end.label.way == Way::Outgoing || named[end.label].is_some();
-    setting
-        .script
-        .ends_of(card)
-        .iter()
-        .filter(counts)
-        .copied()
-        .collect()
+    let definition = setting.template.definition(shape);
+    let looked_at = definition.looked_at(setting.template.kinds);
+    let ends = setting.script.ends_of(card).iter();
+    ends.filter(|end| looked_at[end.label]).copied().collect()
 }
 
 /// Whether shapes for the remaining ends can be chosen so that the bag becomes an allowed one.

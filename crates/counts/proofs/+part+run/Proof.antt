@@ -53,6 +53,10 @@ abbrev part-claims : ℕ → part-lts.Claims
 part-claims t = (
   nothing-reads.Asked,
   nothing-reads.Learnt,
+  wide-reads.Asked,
+  wide-reads.Learnt,
+  link-reads.Asked,
+  link-reads.Learnt,
   part-below t,
   part.Post,
   wrap-reads.Asked,
@@ -61,10 +65,6 @@ part-claims t = (
   word-reads.Learnt,
   run-below t,
   run.Post,
-  wide-reads.Asked,
-  wide-reads.Learnt,
-  link-reads.Asked,
-  link-reads.Learnt,
 )
 
 -- the contracts that `run` goes by
@@ -105,6 +105,26 @@ module _ (t : ℕ) where
   part-nothing-requires-3 : part-lts.Need-nothing-requires-3 (part-claims t) (part-at t) part.Post
   part-nothing-requires-3 c κs = search needs
 
+  part-returns-3 : part-lts.Need-returns-3 (part-claims t) (part-at t) part.Post
+  part-returns-3 c = part-high _ _ _ _ _ (omega arith) (omega arith) (omega arith) (c .nothing3 .ensures _ _)
+
+  part-wide-requires : part-lts.Need-wide-requires (part-claims t) (part-at t) part.Post
+  part-wide-requires c κs = search needs
+
+  part-link-requires : part-lts.Need-link-requires (part-claims t) (part-at t) part.Post
+  part-link-requires c κs = search needs
+
+  part-returns-4 : part-lts.Need-returns-4 (part-claims t) (part-at t) part.Post
+  part-returns-4 c =
+      part-link _ _ _ _ _ (omega arith) (omega arith) _ (c .before .wide .ensures .same) (omega arith) (omega arith)
+      (c .link .ensures)
+
+  part-add-nothing-2 : part-lts.Need-add-nothing-2 (part-claims t) (part-at t) part.Post
+  part-add-nothing-2 c = search needs
+
+  part-nothing-requires-4 : part-lts.Need-nothing-requires-4 (part-claims t) (part-at t) part.Post
+  part-nothing-requires-4 c κs = search needs
+
   part-add-part : part-lts.Need-add-part (part-claims t) (part-at t) part.Post
   part-add-part c = search needs
 
@@ -117,11 +137,11 @@ module _ (t : ℕ) where
   part-wrap-requires : part-lts.Need-wrap-requires (part-claims t) (part-at t) part.Post
   part-wrap-requires c κs = search needs
 
-  part-add-nothing-2 : part-lts.Need-add-nothing-2 (part-claims t) (part-at t) part.Post
-  part-add-nothing-2 c = search needs
+  part-add-nothing-3 : part-lts.Need-add-nothing-3 (part-claims t) (part-at t) part.Post
+  part-add-nothing-3 c = search needs
 
-  part-nothing-requires-4 : part-lts.Need-nothing-requires-4 (part-claims t) (part-at t) part.Post
-  part-nothing-requires-4 c κs = search needs
+  part-nothing-requires-5 : part-lts.Need-nothing-requires-5 (part-claims t) (part-at t) part.Post
+  part-nothing-requires-5 c κs = search needs
 
   part-add-run : part-lts.Need-add-run (part-claims t) (part-at t) part.Post
   part-add-run c = search needs
@@ -138,63 +158,32 @@ module _ (t : ℕ) where
   part-run-requires : part-lts.Need-run-requires (part-claims t) (part-at t) part.Post
   part-run-requires c κs = search needs
 
-  part-add-nothing-3 : part-lts.Need-add-nothing-3 (part-claims t) (part-at t) part.Post
-  part-add-nothing-3 c = search needs
-
-  part-nothing-requires-5 : part-lts.Need-nothing-requires-5 (part-claims t) (part-at t) part.Post
-  part-nothing-requires-5 c κs = search needs
-
-  part-wide-requires : part-lts.Need-wide-requires (part-claims t) (part-at t) part.Post
-  part-wide-requires c κs = search needs
-
-  part-link-requires : part-lts.Need-link-requires (part-claims t) (part-at t) part.Post
-  part-link-requires c κs = search needs
-
-  part-wide-requires-2 : part-lts.Need-wide-requires-2 (part-claims t) (part-at t) part.Post
-  part-wide-requires-2 c κs = search needs
-
-  part-link-requires-2 : part-lts.Need-link-requires-2 (part-claims t) (part-at t) part.Post
-  part-link-requires-2 c κs = search needs
-
   part-add-nothing-4 : part-lts.Need-add-nothing-4 (part-claims t) (part-at t) part.Post
   part-add-nothing-4 c = search needs
 
   part-nothing-requires-6 : part-lts.Need-nothing-requires-6 (part-claims t) (part-at t) part.Post
   part-nothing-requires-6 c κs = search needs
 
-  part-returns-3 : part-lts.Need-returns-3 (part-claims t) (part-at t) part.Post
-  part-returns-3 c = part-nothing _ _ _ _ _ (omega arith) (omega arith) (omega arith) (c .nothing3 .ensures _ _)
-
-  part-returns-4 : part-lts.Need-returns-4 (part-claims t) (part-at t) part.Post
-  part-returns-4 c =
-      part-single _ _ _ _ _ (omega arith) (omega arith) _ (omega arith) (omega arith) (c .before .part .ensures)
-      (c .wrap .ensures)
-
   part-returns-5 : part-lts.Need-returns-5 (part-claims t) (part-at t) part.Post
-  part-returns-5 c =
-      part-low _ _ _ _ _ (omega arith) (omega arith) (omega arith) (omega arith) (c .nothing4 .ensures _ _)
+  part-returns-5 c = part-nothing _ _ _ _ _ (omega arith) (omega arith) (omega arith) (c .nothing4 .ensures _ _)
 
   part-returns-6 : part-lts.Need-returns-6 (part-claims t) (part-at t) part.Post
   part-returns-6 c =
-      part-group _ _ _ _ _ (omega arith) (omega arith) _ (c .before .word .ensures) (omega arith) (omega arith)
-      (c .run .ensures)
+      part-single _ _ _ _ _ (omega arith) (omega arith) _ (omega arith) (omega arith) (c .before .part .ensures)
+      (c .wrap .ensures)
 
   part-returns-7 : part-lts.Need-returns-7 (part-claims t) (part-at t) part.Post
   part-returns-7 c =
-      part-middle _ _ _ _ _ (omega arith) (omega arith) (omega arith) (omega arith) (c .nothing5 .ensures _ _)
+      part-low _ _ _ _ _ (omega arith) (omega arith) (omega arith) (omega arith) (c .nothing5 .ensures _ _)
 
   part-returns-8 : part-lts.Need-returns-8 (part-claims t) (part-at t) part.Post
   part-returns-8 c =
-      part-link _ _ _ _ _ (omega arith) (omega arith) _ (c .before .wide .ensures .same) (omega arith) (omega arith)
-      (c .link .ensures)
+      part-group _ _ _ _ _ (omega arith) (omega arith) _ (c .before .word .ensures) (omega arith) (omega arith)
+      (c .run .ensures)
 
   part-returns-9 : part-lts.Need-returns-9 (part-claims t) (part-at t) part.Post
   part-returns-9 c =
-      part-link _ _ _ _ _ (omega arith) (omega arith) _ (c .before .wide2 .ensures .same) (omega arith) (omega arith)
-      (c .link2 .ensures)
-
-  part-returns-10 : part-lts.Need-returns-10 (part-claims t) (part-at t) part.Post
-  part-returns-10 c = part-high _ _ _ _ _ (omega arith) (omega arith) (omega arith) (c .nothing6 .ensures _ _)
+      part-middle _ _ _ _ _ (omega arith) (omega arith) (omega arith) (omega arith) (c .nothing6 .ensures _ _)
 
   run-none-requires : run-lts.Need-none-requires (run-claims t) (run-at t) run.Post
   run-none-requires c κs = search needs
@@ -233,13 +222,11 @@ pub +part+run-spec : {M : Type 1} → statement M
     close μ-part μ-run
     (λ t. part-lts.spec (part-claims t) (part-at t) part.Post (part-nothing-requires t) (part-returns t)
     (part-nothing-requires-2 t) (part-returns-2 t) (part-mul-code t) (part-shared-slice-read-code t)
-    (part-add-nothing t) (part-nothing-requires-3 t) (part-add-part t) (part-sub-part t) (part-part-requires t)
-    (part-wrap-requires t) (part-add-nothing-2 t) (part-nothing-requires-4 t) (part-add-run t) (part-sub-run t)
-    (part-add-word t) (part-word-requires t) (part-run-requires t) (part-add-nothing-3 t)
-    (part-nothing-requires-5 t) (part-wide-requires t) (part-link-requires t)
-    (part-wide-requires-2 t) (part-link-requires-2 t) (part-add-nothing-4 t)
-    (part-nothing-requires-6 t) (part-returns-3 t) (part-returns-4 t) (part-returns-5 t) (part-returns-6 t)
-    (part-returns-7 t) (part-returns-8 t) (part-returns-9 t)
-    (part-returns-10 t))
+    (part-add-nothing t) (part-nothing-requires-3 t) (part-returns-3 t) (part-wide-requires t)
+    (part-link-requires t) (part-returns-4 t) (part-add-nothing-2 t) (part-nothing-requires-4 t)
+    (part-add-part t) (part-sub-part t) (part-part-requires t) (part-wrap-requires t) (part-add-nothing-3 t)
+    (part-nothing-requires-5 t) (part-add-run t) (part-sub-run t) (part-add-word t) (part-word-requires t)
+    (part-run-requires t) (part-add-nothing-4 t) (part-nothing-requires-6 t) (part-returns-5 t)
+    (part-returns-6 t) (part-returns-7 t) (part-returns-8 t) (part-returns-9 t))
     (λ t. run-lts.spec (run-claims t) (run-at t) run.Post (run-none-requires t) (run-returns t)
     (run-part-requires t) (run-sub-run t) (run-run-requires t) (run-join-requires t) (run-returns-2 t))

@@ -1,30 +1,35 @@
--- `others_zero` meets its contract. The invariant: the kinds passed that are not named count 0. The measure is the
--- kinds left. Assumes nothing.
+-- `others_zero` meets its contract. The invariant: the kinds passed, the last first, are named or count 0. The measure
+-- is the kinds left. Assumes nothing.
 use borrow.Author.Needs.{needs}
 use borrow.Author.Tests.{eqb-true, eqb-false}
+use lib.Dec.{eqb}
 use lib.ListN.{getD}
 use native.Mathlib.Omega.{arith}
-use Prim.Native.Nat.{_-_, _≤_, _<_}
-use mathlib.Core.Path.{_≡_, refl, sym}
-use mathlib.Core.Bool.{true}
+use native.Mathlib.Nat.{eq-or-lt-of-le}
+use Prim.Native.Nat.{ℕ, _-_, _≤_, _<_}
+use mathlib.Core.Path.{_≡_, sym, subst}
+use mathlib.Core.Bool.{true, _||_}
 use mathlib.Core.Logic.{⊎-elim}
-use Rattle.bags.specs.Part.{Part}
+use Rattle.bags.specs.Part.{Part, names}
 use Rattle.bags.specs.Bag.{count}
-use Rattle.bags.specs.Interval.{othersZero}
 use Rattle.counts.specs.Machine.{RowOf}
-use Rattle.counts.proofs.Counts.{others-named, others-zero, others-not}
+use Rattle.counts.proofs.Counts.{others-named, others-zero, others-not, others-all}
 use Rattle.counts.proofs.others_zero.Statement.{statement}
 use Rattle.counts.proofs.others_zero.Tie as tie
 
 abbrev Inv-loop : tie.InvT-loop
 Inv-loop row counts kinds i₀ i =
-    (i ≤ kinds) × ((p : Part) → RowOf row kinds p → othersZero i p (count counts) ≡ true)
+    (i ≤ kinds) × ((p : Part) → RowOf row kinds p → (k : ℕ) → i ≤ k → k < kinds
+    → (names p k || eqb (count counts k) 0) ≡ true)
 
 abbrev μ-loop : tie.MeasureT-loop
-μ-loop row counts kinds i₀ i = kinds - i
+μ-loop row counts kinds i₀ i = i
 
 loop-holds : tie.Need-loop-holds Inv-loop μ-loop
-loop-holds c = (omega arith, λ p h. refl)
+loop-holds c = (omega arith, λ p h k a b. absurd (omega arith))
+
+sub-i : tie.Need-sub-i Inv-loop μ-loop
+sub-i c = search needs
 
 mul-if1 : tie.Need-mul-if1 Inv-loop μ-loop
 mul-if1 c = search needs
@@ -39,12 +44,10 @@ returns : tie.Need-returns Inv-loop μ-loop
 returns c p h =
     let l = c .before .before .before .before .before in
     let start = l .before .args in
-    let below : l .loop .i < start .kinds = omega arith in
-    others-not p (count (start .counts .now)) (l .loop .i) _ (h (l .loop .i) below) (c .before .before .if1 .taken)
-    (eqb-true (getD (start .row .now) (l .loop .i) 0) 0 (c .if2 .taken)) (start .kinds) below
-
-add-i : tie.Need-add-i Inv-loop μ-loop
-add-i c = search needs
+    let i = l .loop .i - 1 in
+    let below : i < start .kinds = omega arith in
+    others-not p (count (start .counts .now)) i _ (h i below) (c .before .before .if1 .taken)
+    (eqb-true (getD (start .row .now) i 0) 0 (c .if2 .taken)) (start .kinds) below
 
 loop-less : tie.Need-loop-less Inv-loop μ-loop
 loop-less c = search needs
@@ -53,21 +56,24 @@ loop-again : tie.Need-loop-again Inv-loop μ-loop
 loop-again c =
     let l = c .before .before .before in
     let start = l .before .args in
-    let i = l .loop .i in
+    let i = l .loop .i - 1 in
     let w = count (start .counts .now) in
     let below : i < start .kinds = omega arith in (
       omega arith,
-      λ p h. ⊎-elim
-          (λ named. others-named p w i _ (h i below) (eqb-false (getD (start .row .now) i 0) 0 (named .2 .left))
-          (l .loop .inv .1 p h))
-          (λ zero. others-zero p w i _ (h i below) (zero .left) (l .loop .inv .1 p h))
-          (c .if1 .came),
+      λ p h k a b. ⊎-elim
+          (λ (e : i ≡ k). subst (λ (n : ℕ). (names p n || eqb (w n) 0) ≡ true) e (⊎-elim
+          (λ named. others-named p w i _ (h i below) (eqb-false (getD (start .row .now) i 0) 0 (named .2 .left)))
+          (λ zero. others-zero p w i _ (h i below) (zero .left))
+          (c .if1 .came)))
+          (λ (e : i < k). l .loop .inv .1 p h k (omega arith) b)
+          (eq-or-lt-of-le a),
     )
 
 returns-2 : tie.Need-returns-2 Inv-loop μ-loop
 returns-2 c p h =
-    let end : c .before .loop .i ≡ c .before .before .args .kinds = omega arith in
-    sym (rw end at (c .before .loop .inv .1 p h))
+    let start = c .before .before .args in
+    sym (others-all p (count (start .counts .now)) (start .kinds) (λ k l.
+    c .before .loop .inv .1 p h k (omega arith) l))
 
 pub others-zero-spec : {M : Type 1} → statement M
 others-zero-spec =
@@ -76,11 +82,11 @@ others-zero-spec =
     Inv-loop
     μ-loop
     loop-holds
+    sub-i
     mul-if1
     shared-slice-read-if1
     shared-slice-read-if2
     returns
-    add-i
     loop-less
     loop-again
     returns-2)

@@ -4,7 +4,7 @@ use borrow.Author.Needs.{needs}
 use native.Mathlib.Omega.{arith}
 use Prim.Native.Nat.{_+_, _*_, _≤_}
 use mathlib.Core.Path.{_≡_, refl, _∙_}
-use Rattle.template.specs.Machine.{shapePlace}
+use Rattle.template.specs.Template.{shapePlace}
 use Rattle.counts.proofs.ShapePlaces.{place-done, place-next}
 use Rattle.counts.proofs.shape_place.Statement.{statement}
 use Rattle.counts.proofs.shape_place.Tie as tie

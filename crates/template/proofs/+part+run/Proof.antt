@@ -6,9 +6,9 @@ use borrow.Author.Needs.{needs}
 use native.Mathlib.Omega.{arith}
 use mathlib.Core.Path.{_∙_}
 use Rattle.bags.specs.Label.{outgoing, incoming}
-use Rattle.template.proofs.Laws.{part-missing, part-deep, part-nothing, part-single, part-low, part-middle}
-use Rattle.template.proofs.Laws.{part-high, part-link, group-short, group-few, group-many, group-run, run-none}
-use Rattle.template.proofs.Laws.{run-refused, run-next, reads-above}
+use Rattle.template.proofs.Laws.{part-missing, part-deep, part-nothing, part-single, part-low, part-open}
+use Rattle.template.proofs.Laws.{part-middle, part-high, part-link, group-short, group-few, group-many}
+use Rattle.template.proofs.Laws.{group-run, run-none, run-refused, run-next, reads-above}
 use borrow.Fn.Kinds.{In}
 use borrow.Fn.PlainCycle.{Measures, is, falls, and}
 use Rattle.template.proofs.part.Reads as part
@@ -121,47 +121,50 @@ module _ (t : ℕ) where
   part-returns-6 : part-lts.Need-returns-6 (part-claims t) (part-at t) part.Post
   part-returns-6 c = part-nothing _ _ _ _ _ _ (omega arith) (omega arith) (omega arith)
 
+  part-returns-7 : part-lts.Need-returns-7 (part-claims t) (part-at t) part.Post
+  part-returns-7 c = part-open _ _ _ _ _ _ (omega arith) (omega arith) (omega arith)
+
   part-same-length : part-lts.Need-same-length (part-claims t) (part-at t) part.Post
   part-same-length c = search needs
 
-  part-returns-7 : part-lts.Need-returns-7 (part-claims t) (part-at t) part.Post
-  part-returns-7 c =
+  part-returns-8 : part-lts.Need-returns-8 (part-claims t) (part-at t) part.Post
+  part-returns-8 c =
       c .before .before .part .ensures
       ∙ part-single _ _ _ _ _ _ (omega arith) (omega arith) (omega arith) (omega arith)
 
-  part-returns-8 : part-lts.Need-returns-8 (part-claims t) (part-at t) part.Post
-  part-returns-8 c = part-low _ _ _ _ _ _ (omega arith) (omega arith) (omega arith) (omega arith)
+  part-returns-9 : part-lts.Need-returns-9 (part-claims t) (part-at t) part.Post
+  part-returns-9 c = part-low _ _ _ _ _ _ (omega arith) (omega arith) (omega arith) (omega arith)
 
   part-same-length-2 : part-lts.Need-same-length-2 (part-claims t) (part-at t) part.Post
   part-same-length-2 c = search needs
 
-  part-returns-9 : part-lts.Need-returns-9 (part-claims t) (part-at t) part.Post
-  part-returns-9 c =
+  part-returns-10 : part-lts.Need-returns-10 (part-claims t) (part-at t) part.Post
+  part-returns-10 c =
       c .before .before .run .ensures
       ∙ group-run _ _ _ _ _ _ (omega arith) (omega arith) (omega arith) (omega arith) (omega arith)
       (omega arith) (omega arith)
 
-  part-returns-10 : part-lts.Need-returns-10 (part-claims t) (part-at t) part.Post
-  part-returns-10 c = part-middle _ _ _ _ _ _ (omega arith) (omega arith) (omega arith) (omega arith)
+  part-returns-11 : part-lts.Need-returns-11 (part-claims t) (part-at t) part.Post
+  part-returns-11 c = part-middle _ _ _ _ _ _ (omega arith) (omega arith) (omega arith) (omega arith)
 
   part-same-length-3 : part-lts.Need-same-length-3 (part-claims t) (part-at t) part.Post
   part-same-length-3 c = search needs
 
-  part-returns-11 : part-lts.Need-returns-11 (part-claims t) (part-at t) part.Post
-  part-returns-11 c =
+  part-returns-12 : part-lts.Need-returns-12 (part-claims t) (part-at t) part.Post
+  part-returns-12 c =
       c .before .before .link .ensures
       ∙ part-link _ _ _ _ _ _ (omega arith) (omega arith) outgoing _ (omega arith) (omega arith)
 
   part-same-length-4 : part-lts.Need-same-length-4 (part-claims t) (part-at t) part.Post
   part-same-length-4 c = search needs
 
-  part-returns-12 : part-lts.Need-returns-12 (part-claims t) (part-at t) part.Post
-  part-returns-12 c =
+  part-returns-13 : part-lts.Need-returns-13 (part-claims t) (part-at t) part.Post
+  part-returns-13 c =
       c .before .before .link2 .ensures
       ∙ part-link _ _ _ _ _ _ (omega arith) (omega arith) incoming _ (omega arith) (omega arith)
 
-  part-returns-13 : part-lts.Need-returns-13 (part-claims t) (part-at t) part.Post
-  part-returns-13 c = part-high _ _ _ _ _ _ (omega arith) (omega arith) (omega arith)
+  part-returns-14 : part-lts.Need-returns-14 (part-claims t) (part-at t) part.Post
+  part-returns-14 c = part-high _ _ _ _ _ _ (omega arith) (omega arith) (omega arith)
 
   run-returns : run-lts.Need-returns (run-claims t) (run-at t) run.Post
   run-returns c = run-none _ _ _ _ (omega arith)
@@ -204,9 +207,10 @@ pub +part+run-spec : {M : Type 1} → statement M
     (part-shared-slice-read-code t) (part-add-t14 t) (part-add-part t) (part-sub-part t) (part-part-requires t)
     (part-sub-if6 t) (part-returns-3 t) (part-add-count t) (part-mul-count t) (part-shared-slice-read-count t)
     (part-add-t25 t) (part-returns-4 t) (part-add-t26 t) (part-returns-5 t) (part-add-run t) (part-sub-run t)
-    (part-run-requires t) (part-link-requires t) (part-link-requires-2 t) (part-returns-6 t) (part-same-length t)
-    (part-returns-7 t) (part-returns-8 t) (part-same-length-2 t) (part-returns-9 t) (part-returns-10 t)
-    (part-same-length-3 t) (part-returns-11 t) (part-same-length-4 t) (part-returns-12 t) (part-returns-13 t))
+    (part-run-requires t) (part-link-requires t) (part-link-requires-2 t) (part-returns-6 t) (part-returns-7 t)
+    (part-same-length t) (part-returns-8 t) (part-returns-9 t) (part-same-length-2 t) (part-returns-10 t)
+    (part-returns-11 t) (part-same-length-3 t) (part-returns-12 t) (part-same-length-4 t) (part-returns-13 t)
+    (part-returns-14 t))
     (λ t. run-lts.spec (run-claims t) (run-at t) run.Post (run-returns t) (run-part-requires t)
     (run-enum-known-first t) (run-sub-run t) (run-run-requires t) (run-enum-known-first-2 t) (run-same-length t)
     (run-returns-2 t) (run-same-length-2 t) (run-returns-3 t))

@@ -1,7 +1,7 @@
 //! Grids about links that arrive: cards at the starts of links that have or lack what is asked of them, links from a
 //! card to itself, and kinds that are ignored.
 
-use super::JudgeCase;
+use super::{every_grid, JudgeCase};
 use crate::generate::arriving::{BOTH_ENDS, GUESTS};
 use crate::generate::parts::{any_outgoing, incoming};
 use crate::generate::{scripts, turns};
@@ -34,17 +34,6 @@ pub fn arriving() -> Vec<JudgeCase> {
         hubs(),
     ]
     .concat()
-}
-
-/// A sheet with each grid of 0s and 1s that it can have.
-fn every_grid(name: &str, template: &[u16], script: &[u16], bookings: &[u16]) -> Vec<JudgeCase> {
-    let size = script[0] * template[1];
-    (0..1_u32 << size)
-        .map(|bits| {
-            let grid: Vec<u8> = (0..size).map(|place| (bits >> place & 1) as u8).collect();
-            JudgeCase::new(format!("{name}-{bits}"), template, script, bookings, &grid)
-        })
-        .collect()
 }
 
 /// Cards at the starts of links that have the shape asked for, another one, both or none; and the card at which they
@@ -90,7 +79,7 @@ fn rings() -> Vec<JudgeCase> {
 /// A card at which 40 links arrive, of which none, the first or the last starts at a card that hasn't the shape.
 fn hubs() -> Vec<JudgeCase> {
     let parts: Vec<Part> = vec![incoming(0, 1, 0, None), any_outgoing(1, 0)];
-    let template = template::write(&Template { kinds: 1, parts });
+    let template = template::write(&Template::closed(1, parts));
     let links: scripts::Links = (1..=40).map(|card| (card, 0, 0)).collect();
     let script = scripts::words(41, &links);
     let case = |lacking: usize| {

@@ -1,8 +1,7 @@
 //! Each refusal of a grid from both sides: its size, its bytes, its pairs and the bookings that it holds.
 
 use super::samples::SMALL;
-use super::JudgeCase;
-use crate::generate::counted;
+use super::{counts_of, JudgeCase};
 use crate::generate::special::{DOCUMENT_SCRIPT, DOCUMENT_TEMPLATE};
 use crate::samples::turned;
 
@@ -28,7 +27,8 @@ pub fn edges() -> Vec<JudgeCase> {
         lowest(),
         far_ends(),
         hubs(),
-        counts(),
+        // The count samples of docs/FORMAT.md, as they are, with kind b arriving and with both kinds arriving.
+        counts_of(turned()),
         held(),
     ];
     lists.concat()
@@ -173,24 +173,6 @@ fn hubs() -> Vec<JudgeCase> {
         JudgeCase::new(format!("hub-{lacking}"), &HUB, &script, &[1, 0, 0], &grid)
     };
     [0, 1, 40].map(case).into()
-}
-
-/// The count samples of docs/FORMAT.md, as they are, with kind b arriving and with both kinds arriving: card 0 has that
-/// many links, all joining it to cards that have the shape asked for, and the grid gives it the shape of the sample.
-fn counts() -> Vec<JudgeCase> {
-    let mut cases = Vec::new();
-    for (name, part, counts) in turned() {
-        if let Some(files) = counted::sheet(&part, &counts) {
-            let mut grid = [0, 1].repeat(files.script[0].into());
-            grid[..2].copy_from_slice(&[1, 0]);
-            cases.push(JudgeCase {
-                name: format!("counts-{name}"),
-                files,
-                grid,
-            });
-        }
-    }
-    cases
 }
 
 /// Bookings that are held, and the first, one in the middle, the last, several or a repeated one that isn't, 63.

@@ -2,7 +2,7 @@
 
 use super::samples::SMALL;
 use super::{JudgeCase, MOST_FILE_WORDS, MOST_GRID_BYTES};
-use crate::generate::heavy::{common_kinds, dense_template};
+use crate::generate::heavy::{common_kinds, dense_template, densest_open};
 use crate::generate::parts::filler;
 use crate::generate::special::chain;
 use crate::generate::turns::chain_back;
@@ -30,6 +30,11 @@ pub fn limits() -> Vec<JudgeCase> {
             full("last-pair", Way::Outgoing, 0),
             full("both-ways-accepted", Way::Incoming, 1),
             full("both-ways-last-pair", Way::Incoming, 0),
+            JudgeCase {
+                name: "full-open-accepted".to_string(),
+                files: densest_open(),
+                grid: vec![1; pairs],
+            },
         ],
         grids(pairs),
         booked(),
@@ -56,7 +61,8 @@ fn full_sheet(way: Way, most: u16) -> Files {
     };
     let mut template = dense_template(ways);
     let last_shape = usize::from(MOST_SHAPES) - 1;
-    template.parts[last_shape] = template.parts[last_shape].with_links(&bounded);
+    let last = &mut template.definitions[last_shape];
+    last.part = last.part.with_links(&bounded);
     let mut random = Random::new(12);
     let mut links = scripts::Links::new();
     for card in 0..MOST_CARDS {

@@ -1,7 +1,8 @@
 //! The examples of docs/FORMAT.md for *Judge a grid*, and every grid of the worked sheet.
 
-use super::JudgeCase;
+use super::{every_grid, JudgeCase};
 use crate::generate::arriving::GUESTS;
+use crate::generate::open::{ONE_MORE, TOLERANT};
 use crate::generate::special::{DOCUMENT_SCRIPT, DOCUMENT_TEMPLATE};
 
 /// One kind and one shape, which is nothing.
@@ -10,13 +11,23 @@ pub const SMALL: [u16; 4] = [1, 1, 1, 0];
 const AT_MOST_ONE: [u16; 7] = [1, 1, 4, 256, 0, 0, 1];
 
 /// A template, a script, bookings and a grid.
-type Row<'a> = (&'a [u16], &'a [u16], &'a [u16], &'a [u8]);
+type Row = (&'static [u16], &'static [u16], &'static [u16], &'static [u8]);
 
 /// The examples of the page, in its order.
 pub fn samples() -> Vec<JudgeCase> {
+    let rows = [first_rows(), last_rows()].concat().into_iter();
+    rows.enumerate()
+        .map(|(number, (template, script, bookings, grid))| {
+            JudgeCase::new(format!("sample-{number}"), template, script, bookings, grid)
+        })
+        .collect()
+}
+
+/// Those of the sections on judging and on the operation.
+fn first_rows() -> Vec<Row> {
     let (two, three): (&[u16], &[u16]) = (&DOCUMENT_TEMPLATE, &DOCUMENT_SCRIPT);
-    let (small, link, guests): (&[u16], &[u16], &[u16]) = (&SMALL, &AT_MOST_ONE, &GUESTS);
-    let rows: [Row; 28] = [
+    let (small, link): (&[u16], &[u16]) = (&SMALL, &AT_MOST_ONE);
+    vec![
         (link, &[2, 1, 0, 0, 1], &[0], &[0, 0]),
         (link, &[2, 1, 0, 0, 1], &[0], &[0, 1]),
         (link, &[2, 1, 0, 0, 1], &[0], &[1, 1]),
@@ -41,26 +52,25 @@ pub fn samples() -> Vec<JudgeCase> {
         (two, three, &[1, 2, 1], &[0, 0, 1, 1, 0, 1]),
         (small, &[2, 0], &[1, 0, 0], &[1, 1]),
         (small, &[0, 0], &[0], &[]),
+    ]
+}
+
+/// Those of items and guests and of open shapes.
+fn last_rows() -> Vec<Row> {
+    let (guests, open, more): (&[u16], &[u16], &[u16]) = (&GUESTS, &TOLERANT, &ONE_MORE);
+    vec![
         (guests, &[2, 1, 0, 0, 1], &[1, 1, 1], &[1, 0, 0, 1]),
         (guests, &[2, 1, 0, 0, 1], &[1, 1, 1], &[0, 0, 0, 1]),
         (guests, &[2, 1, 0, 0, 1], &[0], &[1, 0, 0, 0]),
         (guests, &[2, 1, 0, 0, 1], &[0], &[0, 0, 0, 0]),
-    ];
-    rows.into_iter()
-        .enumerate()
-        .map(|(number, (template, script, bookings, grid))| {
-            JudgeCase::new(format!("sample-{number}"), template, script, bookings, grid)
-        })
-        .collect()
+        (open, more, &[1, 0, 0], &[1, 0, 0, 1, 0, 0]),
+        (open, more, &[1, 0, 0], &[1, 0, 0, 1, 0, 1]),
+        (open, more, &[1, 0, 0], &[1, 0, 0, 0, 0, 1]),
+        (open, more, &[0], &[0, 0, 0, 1, 1, 1]),
+    ]
 }
 
 /// The worked sheet with card 2 booked, and each of its 64 grids.
-pub fn every_grid() -> Vec<JudgeCase> {
-    (0..64_u8)
-        .map(|bits| {
-            let grid: Vec<u8> = (0..6).map(|place| bits >> place & 1).collect();
-            let name = format!("worked-{bits}");
-            JudgeCase::new(name, &DOCUMENT_TEMPLATE, &DOCUMENT_SCRIPT, &[1, 2, 1], &grid)
-        })
-        .collect()
+pub fn worked() -> Vec<JudgeCase> {
+    every_grid("worked", &DOCUMENT_TEMPLATE, &DOCUMENT_SCRIPT, &[1, 2, 1])
 }

@@ -3,6 +3,7 @@
 use super::grids::between;
 use super::{read, JudgeCase};
 use crate::generate::arriving::GUESTS;
+use crate::generate::open::OPEN_GUESTS;
 use crate::generate::special::{chain, document};
 use crate::generate::turns::{chain_back, zigzag};
 use crate::generate::{derived, scripts, SMALL, TINY};
@@ -24,7 +25,8 @@ pub fn typings() -> Vec<JudgeCase> {
         ("rings", rings()),
         ("ring-back", chain_back(5, true)),
         ("zigzag", zigzag(6, false)),
-        ("guests", guests()),
+        ("guests", guests(&GUESTS, false)),
+        ("open-guests", guests(&OPEN_GUESTS, true)),
     ];
     let [some, more] = RANDOM_SHEETS;
     sheets.extend((0..some).map(|_| ("random", random_sheet(&mut random))));
@@ -65,10 +67,14 @@ fn rings() -> Files {
 }
 
 /// Three items, each with a guest of its own, of whom one is booked. Each item has its shape together with its guest.
-fn guests() -> Files {
-    let links: scripts::Links = (0..3).map(|item| (item, 0, item + 3)).collect();
+/// If they are open, the guests point at the next items too, by a kind that isn't named.
+fn guests(template: &[u16], open: bool) -> Files {
+    let mut links: scripts::Links = (0..3).map(|item| (item, 0, item + 3)).collect();
+    if open {
+        links.extend((0..3).map(|item| (item + 3, 1, (item + 1) % 3)));
+    }
     Files {
-        template: GUESTS.to_vec(),
+        template: template.to_vec(),
         script: scripts::words(6, &links),
         bookings: vec![1, 4, 1],
     }
