@@ -1,5 +1,6 @@
 -- The tests decide.
 --   ok              no label stands twice and every shape is below S; ok-true: so it is where the test is true
+--   others-at, others-all   the test `othersZero` is that of each label
 --   others-exact    a shape is open or passes the test `othersZero` exactly where the labels that it looks at and does
 --                   not name count 0
 --   fits-decided    the test `fits` is true exactly where the counts looked at fit; list-decided: for a list of counts
@@ -99,26 +100,36 @@ mutual
 
 -- The test looks at the labels below a number.
 module _ (p : Part) (w : ℕ → ℕ) where
-  others-zero : (labels : ℕ) → othersZero labels p w ≡ true → (k : ℕ) → k < labels → (Names p k → ⊥) → w k ≡ 0
-  others-zero zero e k l n = absurd (omega arith)
-  others-zero (suc labels) e k l n =
+  -- the test of one label
+  abbrev pub Passes : ℕ → Type 0
+  Passes k = (names p k || eqb (w k) 0) ≡ true
+
+  pub others-at : (labels : ℕ) → othersZero labels p w ≡ true → (k : ℕ) → k < labels → Passes k
+  others-at zero e k l = absurd (omega arith)
+  others-at (suc labels) e k l =
       let last : Bool = names p labels || eqb (w labels) 0 in
       ⊎-elim
-      (λ q. rw q
-      (⊎-elim (λ d. absurd (n (subst (Names p) (sym q) (names-exact p labels .0 d)))) (λ d. eqb-true (w labels) 0 d)
-      (or-cases (names p labels) (eqb (w labels) 0) (and-second (othersZero labels p w) last e))))
-      (λ b. others-zero labels (and-first (othersZero labels p w) last e) k b n)
+      (λ q. subst Passes (sym q) (and-second (othersZero labels p w) last e))
+      (λ b. others-at labels (and-first (othersZero labels p w) last e) k b)
       (last-or-below l)
 
-  zero-others : (labels : ℕ) → ((k : ℕ) → k < labels → (Names p k → ⊥) → w k ≡ 0) → othersZero labels p w ≡ true
-  zero-others zero h = refl
-  zero-others (suc labels) h =
+  pub others-all : (labels : ℕ) → ((k : ℕ) → k < labels → Passes k) → othersZero labels p w ≡ true
+  others-all zero each = refl
+  others-all (suc labels) each =
       and-both (othersZero labels p w) (names p labels || eqb (w labels) 0)
-      (zero-others labels (λ k l n. h k (omega arith) n))
-      (bool-case (names p labels)
-      (λ e. or-left (names p labels) (eqb (w labels) 0) e)
-      (λ e. or-right (names p labels) (eqb (w labels) 0)
-      (eq-eqb (w labels) 0 (h labels (omega arith) (λ m. never-both (names-exact p labels .1 m) e)))))
+      (others-all labels (λ k l. each k (omega arith))) (each labels (omega arith))
+
+  others-zero : (labels : ℕ) → othersZero labels p w ≡ true → (k : ℕ) → k < labels → (Names p k → ⊥) → w k ≡ 0
+  others-zero labels e k l n =
+      ⊎-elim (λ d. absurd (n (names-exact p k .0 d))) (λ d. eqb-true (w k) 0 d)
+      (or-cases (names p k) (eqb (w k) 0) (others-at labels e k l))
+
+  zero-others : (labels : ℕ) → ((k : ℕ) → k < labels → (Names p k → ⊥) → w k ≡ 0) → othersZero labels p w ≡ true
+  zero-others labels h =
+      others-all labels (λ k l. bool-case (names p k)
+      (λ e. or-left (names p k) (eqb (w k) 0) e)
+      (λ e. or-right (names p k) (eqb (w k) 0)
+      (eq-eqb (w k) 0 (h k l (λ m. never-both (names-exact p k .1 m) e)))))
 
 -- Counts of labels in which the outgoing ones that are no kinds are 0.
 module _ (isOpen : Bool) (p : Part) (w : ℕ → ℕ) (kinds : ℕ) (few : kinds ≤ maxKinds)

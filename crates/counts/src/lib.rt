@@ -189,7 +189,7 @@ fn run(words: &[u16], counts: &[u16], at: usize, left: usize, parts: u16, code: 
 }
 
 // Where the count of words of a shape stands.
-pub fn shape_place(words: &[u16], shape: u16) -> usize
+fn shape_place(words: &[u16], shape: u16) -> usize
     ensures { λ r. ⌜ r ≡ shapePlace (now (words .entry)) shape 2 ⌝ }
 {
     let mut at = 2;

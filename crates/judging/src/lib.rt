@@ -76,7 +76,7 @@ fn arriving_had(
 
 // Whether the pair at a place is met under the grid: its counts fit, and the grid has what the links from its card ask
 // for and, where shapes name incoming kinds, what those to it ask for.
-pub fn pair_met(
+fn pair_met(
     script: &[u16],
     starts: &[u16],
     first: &[u16],

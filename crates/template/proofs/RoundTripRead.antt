@@ -278,12 +278,15 @@ module _ (words : List ℕ) (sizes : Sizes) where
   abbrev opensFrom : ℕ → ℕ → Bool
   opensFrom at t = openAt words (shapePlace words t at)
 
-  -- The words of so many shapes stand there, up to the template's end.
-  abbrev pub ShapesBack : ℕ → ℕ → Placed (List Part) → Type 0
-  ShapesBack count at read =
-      let xs = writeShapes (opensFrom at) (read .value) in
+  -- The words of so many shapes, these of them open, stand there, up to the template's end.
+  abbrev ShapesStand : (ℕ → Bool) → ℕ → ℕ → Placed (List Part) → Type 0
+  ShapesStand isOpen count at read =
+      let xs = writeShapes isOpen (read .value) in
       Stands words at xs × (length words ≡ at + length xs) × (length (read .value) ≡ count)
       × ((t : ℕ) → t < count → WithinLimits (getD (read .value) t Part.nothing))
+
+  abbrev pub ShapesBack : ℕ → ℕ → Placed (List Part) → Type 0
+  ShapesBack count at = ShapesStand (opensFrom at) count at
 
   -- The shapes after the first are those from its end on.
   opens-after : (at next : ℕ) (xs : List ℕ) → Stands words at (length xs ∷ xs) → next ≡ at + suc (length xs)
@@ -303,9 +306,7 @@ module _ (words : List ℕ) (sizes : Sizes) where
       let same = opens-after at (first .next) xs s e in
       let rest : List ℕ = writeShapes (λ t. opensFrom at (suc t)) (others .value) in
       let (r, f, c, more) =
-      subst (λ (o : ℕ → Bool). Stands words (first .next) (writeShapes o (others .value))
-      × (length words ≡ first .next + length (writeShapes o (others .value))) × (length (others .value) ≡ n)
-      × ((t : ℕ) → t < n → WithinLimits (getD (others .value) t Part.nothing))) (sym same) w in
+      subst (λ (o : ℕ → Bool). ShapesStand o n (first .next) others) (sym same) w in
       let count = length-append (length xs ∷ xs) rest in (
         stands-append words at (length xs ∷ xs) rest s (subst (λ (k : ℕ). Stands words k rest) e r),
         omega arith,

@@ -2,25 +2,23 @@
 -- is the kinds left. Assumes nothing.
 use borrow.Author.Needs.{needs}
 use borrow.Author.Tests.{eqb-true, eqb-false}
-use lib.Dec.{eqb}
 use lib.ListN.{getD}
 use native.Mathlib.Omega.{arith}
 use native.Mathlib.Nat.{eq-or-lt-of-le}
 use Prim.Native.Nat.{ℕ, _-_, _≤_, _<_}
 use mathlib.Core.Path.{_≡_, sym, subst}
-use mathlib.Core.Bool.{true, _||_}
 use mathlib.Core.Logic.{⊎-elim}
-use Rattle.bags.specs.Part.{Part, names}
+use Rattle.bags.specs.Part.{Part}
 use Rattle.bags.specs.Bag.{count}
 use Rattle.counts.specs.Machine.{RowOf}
-use Rattle.counts.proofs.Counts.{others-named, others-zero, others-not, others-all}
+use Rattle.bags.proofs.Decide.{Passes, others-all}
+use Rattle.counts.proofs.Counts.{others-named, others-zero, others-not}
 use Rattle.counts.proofs.others_zero.Statement.{statement}
 use Rattle.counts.proofs.others_zero.Tie as tie
 
 abbrev Inv-loop : tie.InvT-loop
 Inv-loop row counts kinds i₀ i =
-    (i ≤ kinds) × ((p : Part) → RowOf row kinds p → (k : ℕ) → i ≤ k → k < kinds
-    → (names p k || eqb (count counts k) 0) ≡ true)
+    (i ≤ kinds) × ((p : Part) → RowOf row kinds p → (k : ℕ) → i ≤ k → k < kinds → Passes p (count counts) k)
 
 abbrev μ-loop : tie.MeasureT-loop
 μ-loop row counts kinds i₀ i = i
@@ -61,7 +59,7 @@ loop-again c =
     let below : i < start .kinds = omega arith in (
       omega arith,
       λ p h k a b. ⊎-elim
-          (λ (e : i ≡ k). subst (λ (n : ℕ). (names p n || eqb (w n) 0) ≡ true) e (⊎-elim
+          (λ (e : i ≡ k). subst (Passes p w) e (⊎-elim
           (λ named. others-named p w i _ (h i below) (eqb-false (getD (start .row .now) i 0) 0 (named .2 .left)))
           (λ zero. others-zero p w i _ (h i below) (zero .left))
           (c .if1 .came)))
