@@ -7,6 +7,7 @@
 //! | `scripts`  | scripts derived from the shapes, and loose ones                   |
 //! | `matched`  | sheets whose shapes are made to fit their links                   |
 //! | `openings` | open shapes of random templates, and links that they ignore       |
+//! | `flat`     | sheets about counting the links of a card, by flat shapes mostly  |
 //! | `sparse`   | cards that few links touch or none, with and without a shape      |
 //! | `bookings` | bookings that are met, and others                                 |
 //! | `heavy`    | the sheets that take longest, for timing                          |
@@ -20,6 +21,7 @@
 //! | `blanks`   | blank cards and cards beside them, the same in every run          |
 //! | `arriving` | links that arrive, the same in every run                          |
 //! | `open`     | open shapes, the same in every run                                |
+//! | `runs`     | counting the links of a card, the same in every run               |
 //! | `judging`  | sheets with grids for *Judge a grid*, fixed and random ones       |
 
 pub mod arriving;
@@ -28,6 +30,7 @@ pub mod bookings;
 pub mod counted;
 pub mod damage;
 pub mod edges;
+pub mod flat;
 pub mod heavy;
 pub mod judging;
 pub mod knots;
@@ -36,6 +39,7 @@ pub mod matched;
 pub mod open;
 pub mod openings;
 pub mod parts;
+pub mod runs;
 pub mod scripts;
 pub mod sparse;
 pub mod special;
@@ -128,19 +132,30 @@ fn fixed_cases() -> impl Iterator<Item = Case> {
         blanks::blanks(),
         arriving::arriving(),
         open::open(),
+        runs::runs(),
     ];
     lists.into_iter().flatten()
 }
 
 /// The inputs of one seed: the fixed ones first, then as many random ones as are asked for.
 pub fn cases(seed: u64, count: usize) -> impl Iterator<Item = Case> {
-    let mut random = Random::new(seed);
-    fixed_cases()
-        .chain(std::iter::repeat_with(move || case(&mut random)))
-        .take(count)
+    fixed_cases().chain(in_turn(seed, case, flat::case)).take(count)
 }
 
-/// One random input.
+/// One in so many random inputs is about counting.
+const TURN: usize = 6;
+
+/// Random inputs of one seed. Those about counting come by turns, from a source of their own, so that the others don't
+/// depend on them.
+fn in_turn<T>(seed: u64, any: fn(&mut Random) -> T, flat: fn(&mut Random) -> T) -> impl Iterator<Item = T> {
+    let (mut random, mut of_flat) = (Random::new(seed), Random::new(!seed));
+    (1_usize..).map(move |number| match number % TURN {
+        0 => flat(&mut of_flat),
+        _ => any(&mut random),
+    })
+}
+
+/// One random input that isn't about counting.
 pub fn case(random: &mut Random) -> Case {
     match random.below(100) {
         0..=21 => sound(random, "derived", derived),

@@ -1,6 +1,7 @@
 //! The generator: the same seed gives the same inputs, whole sheets are well-formed, the limits are reached, and
 //! every refusal comes up.
 
+use prep_tools::generate::flat::flat;
 use prep_tools::generate::matched::matched;
 use prep_tools::generate::{self, damage, derived, loose, special, FULL, MIDDLE, SMALL, TINY};
 use prep_tools::labels::{Label, Way};
@@ -24,11 +25,23 @@ fn the_same_seed_gives_the_same_inputs() {
 }
 
 #[test]
+fn one_in_six_random_inputs_is_about_counting() {
+    let fixed = generate::fixed();
+    let mut others = Random::new(5);
+    for (number, case) in (1..).zip(generate::cases(5, fixed + 120).skip(fixed)) {
+        match number % 6 {
+            0 => assert!(case.name.starts_with("flat-"), "{}", case.name),
+            _ => assert_eq!(case, generate::case(&mut others)),
+        }
+    }
+}
+
+#[test]
 fn whole_sheets_are_well_formed() {
     let mut random = Random::new(31);
     for scale in [TINY, SMALL, MIDDLE, FULL] {
         for _ in 0..12 {
-            for make in [derived, matched, loose] {
+            for make in [derived, matched, loose, flat] {
                 let bytes = make(&mut random, scale).bytes();
                 if let Err(refusal) = sheet::typings(&bytes) {
                     panic!("a {} sheet is turned down, {refusal}", scale.name);

@@ -121,7 +121,7 @@ fn tally(cases: impl Iterator<Item = JudgeCase>) -> BTreeMap<u16, usize> {
 #[test]
 fn every_answer_is_frequent_among_the_random_cases() {
     let fixed = judging::fixed().len();
-    let tally = tally(judging::cases(33, fixed + 3000).skip(fixed));
+    let tally = tally(judging::cases(33, fixed + 3600).skip(fixed));
     let count = |numbers: &[u16]| -> usize { numbers.iter().filter_map(|number| tally.get(number)).sum() };
     let of_files: Vec<u16> = (1..=12).chain(20..=25).chain(30..=33).chain([64]).collect();
     for number in &of_files {
@@ -130,7 +130,7 @@ fn every_answer_is_frequent_among_the_random_cases() {
     assert!(count(&of_files) > 400 && count(&[0]) > 500, "{tally:?}");
     assert!(count(&[40]) > 200 && count(&[61]) > 200, "{tally:?}");
     assert!(count(&[62]) > 500 && count(&[63]) > 300, "{tally:?}");
-    assert_eq!(count(&of_files) + count(&[0, 40, 61, 62, 63]), 3000, "{tally:?}");
+    assert_eq!(count(&of_files) + count(&[0, 40, 61, 62, 63]), 3600, "{tally:?}");
 }
 
 #[test]
@@ -315,6 +315,6 @@ fn the_stored_cases_are_those_of_the_command() {
         assert_eq!(quick(files, grid), line, "{files:?}");
     }
     // tools/README.md names this seed and count.
-    let (again, lines) = written("stored", 7, 860);
+    let (again, lines) = written("stored", 7, 902);
     assert!(again == inputs && lines == answers, "the stored cases are older");
 }

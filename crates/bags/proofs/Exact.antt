@@ -1,4 +1,5 @@
 -- The interval of a part has exactly the numbers i for which the counts of its labels are a sum of i of its bags.
+--   part-proper          the interval of a part is proper
 --   interval-exact       the law of section 8.2, for parts with no label twice
 --   optional-interval    an optional part has the interval of the choice of nothing and the part
 --   fits-exact           counts fit exactly where 1 is in the interval and the labels not named count 0
@@ -68,7 +69,7 @@ module _ (w : ℕ → ℕ) where
         and-both (allZero p w) (runAllZero ps w) (zero-all p (λ k n. z k (inl n))) (zero-run ps (λ k n. z k (inr n)))
 
   mutual
-    part-proper : (p : Part) → Proper (interval p w)
+    pub part-proper : (p : Part) → Proper (interval p w)
     part-proper nothing = tt
     part-proper (star p) = star-proper (allZero p w) (interval p w)
     part-proper (plus p) = plus-proper (allZero p w) (interval p w) (part-proper p)

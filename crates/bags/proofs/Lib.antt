@@ -3,7 +3,8 @@
 -- Repetitions, Exact: a part's interval, and Fits by it. Looking: what a shape looks at. Opening: open and closed
 -- shapes. Decide: the test for Fits. Samples: P1 to P12, and an open shape.
 -- Choosing: Met by counts.
--- Spans: the same operations on two numbers. Adequate: the definitions are those of sections 2.1 and 3.2 of the paper.
+-- Spans: the same operations on two numbers. Flatness: the interval of a flat part, by its links. Adequate: the
+-- definitions are those of sections 2.1 and 3.2 of the paper.
 pub mod Powers
 pub mod Copies
 pub mod Totals
@@ -17,4 +18,5 @@ pub mod Decide
 pub mod Samples
 pub mod Choosing
 pub mod Spans
+pub mod Flatness
 pub mod Adequate

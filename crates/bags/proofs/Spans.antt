@@ -1,5 +1,6 @@
 -- The operations on spans are those on the intervals that they stand for, and their ends stay small.
 --   view-empty, view-from, view-within   what a span stands for, by its ends
+--   small-up, small-ends                 the spans with small ends
 --   small-lo, small-hi, small-more       what Small says of each end, and that it says less of a larger number
 --   meet-view, meet-small, add-view, ..  one for each way that an operation returns
 -- Assumes nothing.
@@ -12,9 +13,9 @@ use native.Mathlib.Nat.{not-suc-le-zero, div-le-self, div-lt-iff-lt-mul}
 use native.Mathlib.Decide.{ℕ-discrete}
 use lib.Dec.{ltb, leb, eqb}
 use borrow.Author.Tests.{ltb-true, ltb-false, lt-ltb, le-ltb, eqb-true, eqb-false, eq-eqb, ne-eqb, le-leb, lt-leb}
-use Rattle.bags.specs.Part.{at-most, no-limit, limitUnless, limitOf}
+use Rattle.bags.specs.Part.{Limit, at-most, no-limit, limitUnless, limitOf}
 use Rattle.bags.specs.Interval.{Interval, empty, within, from, inside, keep, range, meet, add, lowRoom}
-use Rattle.bags.specs.Interval.{highRoom, oneUp, oneToHighest, starInterval, plusInterval}
+use Rattle.bags.specs.Interval.{highRoom, linkInterval, oneUp, oneToHighest, starInterval, plusInterval}
 use Rattle.bags.specs.Span.{top, seenAs, view, Small}
 use Rattle.bags.specs.declared.Span.{Span}
 
@@ -81,7 +82,7 @@ pub small-up : (n lo : ℕ) → lo ≤ n → Small n (span lo top)
 unfolding Small
 small-up n lo h = (h, λ d. absurd (d refl))
 
-small-ends : (n lo hi : ℕ) → lo ≤ n → hi ≤ n → Small n (span lo hi)
+pub small-ends : (n lo hi : ℕ) → lo ≤ n → hi ≤ n → Small n (span lo hi)
 unfolding Small
 small-ends n lo hi h g = (h, λ d. g)
 
@@ -242,6 +243,26 @@ high-some w high lo d h t e =
           ∙ sym (ap (highRoom w) (limit-some high d) ∙ some-room w high h),
       small-up w lo b,
     )
+
+-- zero_span.
+high-any : (high : Limit) → highRoom 0 high ≡ from 0
+high-any no-limit = refl
+high-any (at-most zero) = refl
+high-any (at-most (suc h)) =
+    let f : (0 + h) / suc h < 1 = div-lt-iff-lt-mul {k = suc h} (omega arith) .1 (omega arith) in
+    let z : (0 + h) / suc h ≡ 0 = omega arith in
+    ap from z
+
+pub zero-any : (low : ℕ) (high : Limit) → low ≡ 0 → view (span 0 top) ≡ linkInterval 0 low high
+zero-any zero high e = view-from (span 0 top) (omega arith) refl ∙ sym (ap (meet (from 0)) (high-any high))
+zero-any (suc l) high e = let z : ⊥ = omega arith in absurd z
+
+pub zero-alone : (low : ℕ) (high : Limit) → 0 < low → view (span 0 0) ≡ linkInterval 0 low high
+zero-alone zero high h = absurd (not-suc-le-zero h)
+zero-alone (suc l) high h =
+    let z : 0 / suc l ≡ 0 = omega (arith, div-le-self 0 (suc l)) in
+    view-within (span 0 0) (omega arith) (λ f. let g : 0 ≡ top = f in omega arith)
+    ∙ sym (ap₂ meet (ap (within 0) z) (high-any high))
 
 -- star_span, plus_span, optional_span.
 pub star-zero : (zero : Bool) (x : Span) → zero ≡ true → view (span 0 top) ≡ starInterval zero (view x)

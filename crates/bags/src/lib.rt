@@ -4,7 +4,7 @@ ghost use Prim.Native.Nat.{ℕ, _≤_, _+_, min, max};
 ghost use Rattle.bags.specs.Interval.{inside, meet, add, from, lowRoom, highRoom, linkInterval, starInterval};
 ghost use Rattle.bags.specs.Interval.{plusInterval};
 ghost use Rattle.bags.specs.Span.{view, Small, Addable};
-ghost use Rattle.bags.specs.Part.{limitOf};
+ghost use Rattle.bags.specs.Part.{Limit, limitOf};
 use words::NO_LIMIT;
 
 // From lo to hi; hi 4,294,967,295 is no limit; empty where hi is below lo.
@@ -113,6 +113,17 @@ pub fn link_span(count: u16, low: u16, high: u16) -> Span
     ensures small { λ r. ⌜ Small count r ⌝ }
 {
     meet_span(low_room(count, low), high_room(count, high))
+}
+
+// The span of a link whose label counts 0: any number if its low is 0, else 0 alone.
+pub fn zero_span(low: u16) -> Span
+    ensures view { λ r. ⌜ ((high : Limit) → view r ≡ linkInterval 0 low high) ⌝ }
+    ensures small { λ r. ⌜ Small 0 r ⌝ }
+{
+    if low == 0 {
+        return Span { lo: 0, hi: TOP };
+    }
+    Span { lo: 0, hi: 0 }
 }
 
 // The span of a star over a part with the span x, where zero says whether the counts of its labels are all 0.

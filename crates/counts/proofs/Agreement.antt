@@ -99,7 +99,7 @@ module _ (words : List ℕ) (end : ℕ) (sizes : Sizes) where
       (λ next row. part-agrees left next row h)))
 
   -- A part that is read is the one at its place.
-  tree-read :
+  pub tree-read :
       (left at : ℕ) (row : List ℕ) (p : Part) (next : ℕ) (names : List ℕ) → end ≤ length words →
       readPart left words end sizes at row ≡ accepted (found p next names) → placed p next ≡ treeAt left words at
   tree-read left at row p next names h e = rw e at (part-agrees left at row h)

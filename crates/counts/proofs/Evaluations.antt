@@ -1,8 +1,9 @@
 -- What the evaluator's steps answer for the tree at a place.
 -- evaluates-as, evaluates-from   the same answer for an equal tree, and from a place before
--- part-small, run-small          a span is small enough to be added
+-- part-small, run-small, link-small   a span is small enough to be added
 -- inside-one                     whether 1 is in the interval of a part
--- fits-open, fits-closed, fits-not   what that says of fitting, for an open shape and for a closed one
+-- fits-passed, fits-failed           what that says of fitting
+-- fits-open, fits-closed, fits-not   and of fitting the shape at a place, open or closed
 -- nothing-.., link-.., wrap-.., none-.., join-..   the answer of each leaf, from what its span stands for
 -- Assumes nothing.
 use mathlib.Core.Path.{_≡_, refl, ap, ap₂, sym, _∙_, subst}
@@ -12,7 +13,6 @@ use Prim.Native.Nat.{ℕ, _+_, _-_, _*_, _≤_, _<_}
 use native.Mathlib.Omega.{arith}
 use borrow.Author.Tests.{eq-eqb, ne-eqb}
 use lib.ListN.{length}
-use lib.Dec.{eqb}
 use Rattle.words.specs.Limits.{maxTemplate, maxDepth}
 use Rattle.words.proofs.Bools.{or-left, or-right}
 use Rattle.bags.specs.Part.{Part, Parts, Limit}
@@ -25,7 +25,7 @@ use Rattle.template.specs.Reading.{wrapped, gathered}
 use Rattle.counts.specs.declared.Eval.{Eval}
 use Rattle.template.specs.Template.{Placed, placed, onto, openAt, partAt}
 use Rattle.template.proofs.Opening.{part-open, part-closed}
-use Rattle.counts.specs.Trees.{treesAt, treeAt}
+use Rattle.counts.specs.Trees.{linkAt, treesAt, treeAt}
 use Rattle.counts.specs.Evaluation.{Evaluates}
 use Rattle.counts.proofs.Sizes.{next-bound, nexts-bound}
 
@@ -74,18 +74,37 @@ module _ (w : ℕ → ℕ) (at : ℕ) where
   unfolding view
   nothing-evaluates next = record { next = refl; zero = refl; span = refl; small = small-up _ 0 (omega arith) }
 
-  -- A link has the interval of its label's count.
-  pub link-evaluates :
-      (label shape low : ℕ) (high : Limit) (c : ℕ) (x : Span) → c ≡ w label → c < 65536 →
-      view x ≡ linkInterval c low high → Small c x →
-      Evaluates w at (placed (Part.link label shape low high) (at + 4)) (eval (at + 4) (eqb c 0) x)
-  link-evaluates label shape low high c x e b v s =
-      record {
-        next = refl;
-        zero = ap (λ (n : ℕ). eqb n 0) e;
-        span = v ∙ ap (λ (n : ℕ). linkInterval n low high) e;
-        small = small-more c (65535 * (at + 4 - at)) x (omega arith) s;
-      }
+  -- A link has the interval of its label's count, and that of 0 where the label counts 0.
+  module _ (label shape low : ℕ) (high : Limit) (c : ℕ) (x : Span) (e : c ≡ w label) where
+    pub link-evaluates :
+        c < 65536 → 0 < c → view x ≡ linkInterval c low high → Small c x →
+        Evaluates w at (placed (Part.link label shape low high) (at + 4)) (eval (at + 4) false x)
+    link-evaluates b some v s =
+        let d : w label ≡ 0 → ⊥ = λ z. let none : c ≡ 0 = e ∙ z in omega arith in
+        record {
+          next = refl;
+          zero = sym (ne-eqb (w label) 0 d);
+          span = v ∙ ap (λ (n : ℕ). linkInterval n low high) e;
+          small = small-more c (65535 * (at + 4 - at)) x (omega arith) s;
+        }
+
+    pub zero-evaluates :
+        c ≡ 0 → view x ≡ linkInterval 0 low high → Small 0 x →
+        Evaluates w at (placed (Part.link label shape low high) (at + 4)) (eval (at + 4) true x)
+    zero-evaluates none v s =
+        let z : w label ≡ 0 = sym e ∙ none in
+        record {
+          next = refl;
+          zero = sym (eq-eqb (w label) 0 z);
+          span = v ∙ ap (λ (n : ℕ). linkInterval n low high) (sym z);
+          small = small-more 0 (65535 * (at + 4 - at)) x (omega arith) s;
+        }
+
+  -- The span of a link is small enough to be added.
+  pub link-small :
+      (words : List ℕ) (label : ℕ) (e : Eval) → Evaluates w at (linkAt words at label) e → Small 1000000000 (e .span)
+  link-small words label e v =
+      small-more (65535 * (at + 4 - at)) 1000000000 (e .span) (omega arith) (v .small)
 
   -- A star, a plus or an optional part, by its code.
   module _ (code : ℕ) (t : Placed Part) (inner : Eval) (x : Span) (above : at < t .next)
@@ -196,6 +215,15 @@ inside-one w at t e one v h = h ∙ ap (inside 1) (v .span)
 
 -- Counts fit a shape if 1 is in its part's interval, and the shape is open or the outgoing kinds that are not named
 -- count 0.
+module _ (isOpen : Bool) (kinds : ℕ) (p : Part) (w : ℕ → ℕ) where
+  pub fits-passed :
+      (one : Bool) → one ≡ inside 1 (interval p w) → (isOpen || othersZero kinds p w) ≡ true →
+      one ≡ fits isOpen kinds p w
+  fits-passed one h y = rw y (h ∙ sym (and-one (inside 1 (interval p w))))
+
+  pub fits-failed : isOpen ≡ false → othersZero kinds p w ≡ false → false ≡ fits isOpen kinds p w
+  fits-failed o n = rw (o, n) (sym (and-none (inside 1 (interval p w))))
+
 module _ (w : ℕ → ℕ) (kinds : ℕ) (words : List ℕ) (at : ℕ) where
   abbrev tree : ℕ → Part
   tree start = treeAt maxDepth words start .value
@@ -208,8 +236,7 @@ module _ (w : ℕ → ℕ) (kinds : ℕ) (words : List ℕ) (at : ℕ) where
   passed :
       (start : ℕ) (one : Bool) → partAt words at ≡ start → one ≡ inside 1 (interval (tree start) w) →
       (openAt words at || othersZero kinds (tree start) w) ≡ true → Tested one
-  passed start one q h y =
-      rw (q, y) (h ∙ sym (and-one (inside 1 (interval (tree start) w))))
+  passed start one q h y = rw q (fits-passed (openAt words at) kinds (tree start) w one h y)
 
   pub fits-open :
       (one : Bool) → openAt words at ≡ true → one ≡ inside 1 (interval (tree (at + 2)) w) → Tested one
@@ -225,5 +252,4 @@ module _ (w : ℕ → ℕ) (kinds : ℕ) (words : List ℕ) (at : ℕ) where
         (or-right (openAt words at) (othersZero kinds (tree (at + 1)) w) (sym at-start ∙ y))
 
     pub fits-not : r ≡ false → Tested false
-    fits-not n =
-        rw (o, sym others ∙ n) (sym (and-none (inside 1 (interval (tree (partAt words at)) w))))
+    fits-not n = fits-failed (openAt words at) kinds (tree (partAt words at)) w o (sym others ∙ n)

@@ -52,8 +52,8 @@ question words t shape counts =
     }
 
 module _ (words : List ℕ) (t : Template) (e : readTemplate words ≡ accepted t) (s : ℕ) (below : s < t .shapes) where
-  -- Whether counts fit a shape of an accepted template is what `fits` tests of the part at its place, once they are
-  -- spread over all labels.
+  -- Whether counts fit a shape of an accepted template is what `list_fits` tests of the part at its place, once they
+  -- are spread over all labels.
   shape-fits :
       (counts labels : List ℕ) (kinds at : ℕ) → kinds ≡ t .kinds → kinds ≤ length counts → Spread counts kinds labels →
       at ≡ shapePlace words s 2 →
@@ -65,7 +65,7 @@ module _ (words : List ℕ) (t : Template) (e : readTemplate words ≡ accepted 
       (list-decided (t .shapes) (opens words s) (getD (t .parts) s Part.nothing) (t .kinds) counts (a .kinds-high)
       (omega arith) (a .single s below) (a .shapes-below s below))
 
-  -- What `fits` asks, with the shape's row of the table of names.
+  -- What `list_fits` asks, with the shape's row of the table of names.
   pub fits-asks :
       (names labels : List ℕ) (kinds at base n : ℕ) → Tabled (t .parts) names → length names ≡ tableSize →
       length labels ≡ maxLabels → kinds ≤ maxLabels → at ≡ shapePlace words s 2 → base ≡ s * maxLabels →
@@ -78,7 +78,8 @@ module _ (words : List ℕ) (t : Template) (e : readTemplate words ≡ accepted 
         words-high = a .words-high;
         at-in = rw q (a .shape s below .start);
         kinds-in = omega arith;
-        counted = omega arith;
+        few = few;
+        counted = full;
         row-of =
             λ k h.
             let i : k < n = omega arith in

@@ -1,4 +1,6 @@
 -- What the inner functions of "Fit counts" ask; no part of a promise.
+-- Source, Ready         what counting a label asks, and what evaluating a part asks
+-- JoinAsked             what joining links with the rest of a run asks
 -- RowOf                 a row has the names of a part, for so many labels
 -- Testable              what testing counts against a shape asks
 -- SpreadAsked, Spread   what spreading a list of counts over all labels asks and leaves
@@ -16,21 +18,46 @@ use Rattle.bags.specs.Part.{Part}
 use Rattle.bags.specs.Bag.{count}
 use Rattle.bags.specs.Look.{listed}
 use Rattle.bags.specs.Named.{named}
-use Rattle.template.specs.Template.{partAt, Template, readTemplate, templateSays}
+use Rattle.template.specs.Reading.{gathered}
+use Rattle.template.specs.Template.{onto, partAt, Template, readTemplate, templateSays}
 use Rattle.template.specs.Machine.{Tabled}
-use Rattle.counts.specs.Trees.{treeAt}
+use Rattle.script.specs.Runs.{amount, KindsRise}
+use Rattle.counts.specs.Trees.{treesAt, treeAt}
+use Rattle.counts.specs.Evaluation.{Evaluates, LinkHere}
+use Rattle.counts.specs.declared.Eval.{Eval}
+
+-- The links of a card, sorted by kind, and a list with the counts of the last labels.
+pub record Source (links counts : List ℕ) : Type 0 where
+  pub rise : KindsRise links
+  pub few : length counts ≤ maxLabels
+
+-- A template's words, and where the counts come from.
+pub record Ready (words links counts : List ℕ) : Type 0 where
+  pub short : length words ≤ maxTemplate
+  pub source : Source links counts
+
+-- So many links stand one after the other, and the rest of the run is evaluated.
+pub record JoinAsked (words links counts : List ℕ) (at count code : ℕ) (rest : Eval) : Type 0 where
+  pub ready : Ready words links counts
+  pub each : (i : ℕ) → i < count → LinkHere words (at + 4 * i)
+  pub left : ℕ
+  pub parts : ℕ
+  pub level : 0 < left
+  pub after : Evaluates (amount links counts) (at + 4 * count)
+      (onto (gathered code) (treesAt (treeAt left words) parts (at + 4 * count))) rest
 
 -- A row has the names of a part for the labels below a number.
 abbrev pub RowOf : List ℕ → ℕ → Part → Type 0
 RowOf row labels p = (k : ℕ) → k < labels → getD row k 0 ≡ named p k
 
--- The shape whose count of words stands at `at` has a word, and the row has its names for each outgoing kind, which has
--- a count.
+-- The shape whose count of words stands at `at` has a word, the row has its names for each outgoing kind, and each
+-- label has a count.
 pub record Testable (words : List ℕ) (at : ℕ) (row counts : List ℕ) (kinds : ℕ) : Type 0 where
   pub words-high : length words ≤ maxTemplate
   pub at-in : at + 1 < length words
   pub kinds-in : kinds ≤ length row
-  pub counted : kinds ≤ length counts
+  pub few : kinds ≤ maxLabels
+  pub counted : length counts ≡ maxLabels
   pub row-of : RowOf row kinds (treeAt maxDepth words (partAt words at) .value)
 
 -- A list with the counts of so many kinds each way, and room for a count of each label, all 0.

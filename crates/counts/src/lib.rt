@@ -1,7 +1,13 @@
 // Whether counts of links fit a shape: the interval of repetitions of its part, from the template's words.
-// `part` evaluates a part and `run` a run of parts, and each calls the other.
+// `part` evaluates a part and `run` a run of parts, and each calls the other. The count of a label stands in a list, or
+// is counted off the links of a card.
+//   wrappers   the stars, pluses and optionals that a part starts with, around an interval that is known
+mod wrappers;
+
+pub use wrappers::core_fits;
+pub use wrappers::core_place;
 ghost use mathlib.Core.Path.{_≡_};
-ghost use mathlib.Core.Bool.{_&&_};
+ghost use mathlib.Core.Bool.{true, _&&_};
 ghost use Prim.Native.Nat.{ℕ, _+_, _≤_, _<_};
 ghost use lib.ListN.{length, getD};
 ghost use Rattle.words.specs.Limits.{maxTemplate, maxDepth};
@@ -13,9 +19,10 @@ ghost use Rattle.template.specs.Reading.{gathered};
 ghost use Rattle.template.specs.Template.{placed, onto, openAt, partAt, shapePlace};
 ghost use Rattle.counts.specs.Answer.{fitSaid};
 ghost use Rattle.counts.specs.Fit.{firstOver, FitSays};
+ghost use Rattle.script.specs.Runs.{amount};
 ghost use Rattle.counts.specs.Trees.{linkAt, treeAt, treesAt};
-ghost use Rattle.counts.specs.Evaluation.{Evaluates, Wraps, Joins};
-ghost use Rattle.counts.specs.Machine.{RowOf, Testable, SpreadAsked, Spread, Known};
+ghost use Rattle.counts.specs.Evaluation.{Evaluates, Wraps, Joins, LinkHere, Stretch, JoinsLinks};
+ghost use Rattle.counts.specs.Machine.{Source, Ready, JoinAsked, RowOf, Testable, SpreadAsked, Spread, Known};
 use bags::Span;
 use bags::TOP;
 use bags::add_span;
@@ -25,6 +32,8 @@ use bags::meet_span;
 use bags::optional_span;
 use bags::plus_span;
 use bags::star_span;
+use bags::zero_span;
+use script::count_off;
 use template::Shape;
 use template::TemplateAnswer;
 use template::open_at;
@@ -63,11 +72,18 @@ fn word(words: &[u16], at: usize) -> u16
     if at < words.len() { words[at] } else { 0 }
 }
 
-// The count of a label, 0 past the end.
-fn count_of(counts: &[u16], label: usize) -> u16
-    ensures { λ r. ⌜ r ≡ count (now (counts .entry)) label ⌝ }
+// The count of a label: the list has those of the last labels, and the kinds before them are counted off a card's
+// links.
+fn count_of(links: &[u16], counts: &[u16], label: u16) -> u16
+    requires { ⌜ Source (now links) (now counts) ⌝ }
+    ensures { λ r. ⌜ r ≡ amount (now (links .entry)) (now (counts .entry)) label ⌝ }
 {
-    word(counts, label)
+    let first = MAX_LABELS - counts.len();
+    let at = wide(label);
+    if at < first {
+        return count_off(links, label);
+    }
+    word(counts, at - first)
 }
 
 // Nothing, before the place `next`.
@@ -82,15 +98,24 @@ fn nothing(next: usize) -> Eval
 }
 
 // The link of this label whose code is at `at`.
-fn link(words: &[u16], counts: &[u16], at: usize, label: usize) -> Eval
-    requires { ⌜ at < maxTemplate ⌝ }
-    ensures { λ r. ⌜ Evaluates (count (now (counts .entry))) at (linkAt (now (words .entry)) at label) r ⌝ }
+fn link(words: &[u16], links: &[u16], counts: &[u16], at: usize, label: u16) -> Eval
+    requires { ⌜ (at < maxTemplate) × Source (now links) (now counts) ⌝ }
+    ensures { λ r. ⌜ Evaluates (amount (now (links .entry)) (now (counts .entry))) at
+        (linkAt (now (words .entry)) at label) r ⌝ }
 {
-    let w = count_of(counts, label);
-    let span = link_span(w, word(words, at + 2), word(words, at + 3));
+    let w = count_of(links, counts, label);
+    let low = word(words, at + 2);
+    if w == 0 {
+        return Eval {
+            next: at + 4,
+            zero: true,
+            span: zero_span(low),
+        };
+    }
+    let span = link_span(w, low, word(words, at + 3));
     Eval {
         next: at + 4,
-        zero: w == 0,
+        zero: false,
         span,
     }
 }
@@ -147,9 +172,10 @@ fn join(code: u16, first: Eval, rest: Eval) -> Eval
 }
 
 // The part at `at`, where `left` levels of parts are still allowed. Most parts are links: they are looked for first.
-fn part(words: &[u16], counts: &[u16], at: usize, left: usize) -> Eval
-    requires { ⌜ length (now words) ≤ maxTemplate ⌝ }
-    ensures { λ r. ⌜ Evaluates (count (now (counts .entry))) at (treeAt left (now (words .entry)) at) r ⌝ }
+fn part(words: &[u16], links: &[u16], counts: &[u16], at: usize, left: usize) -> Eval
+    requires { ⌜ Ready (now words) (now links) (now counts) ⌝ }
+    ensures { λ r. ⌜ Evaluates (amount (now (links .entry)) (now (counts .entry))) at
+        (treeAt left (now (words .entry)) at) r ⌝ }
 {
     if left == 0 {
         return nothing(at);
@@ -162,30 +188,111 @@ fn part(words: &[u16], counts: &[u16], at: usize, left: usize) -> Eval
         if 384 <= code {
             return nothing(at + 1);
         }
-        return link(words, counts, at, wide(code - 256));
+        return link(words, links, counts, at, code - 256);
     }
     match code {
         0 => nothing(at + 1),
-        1..=3 => wrap(code, part(words, counts, at + 1, left - 1)),
+        1..=3 => wrap(code, part(words, links, counts, at + 1, left - 1)),
         4..=15 => nothing(at + 1),
-        16..=17 => run(words, counts, at + 2, left - 1, word(words, at + 1), code),
+        16..=17 => run(
+            words,
+            links,
+            counts,
+            at + 2,
+            left - 1,
+            word(words, at + 1),
+            code,
+        ),
         _ => nothing(at + 1),
     }
 }
 
-// So many parts of a choice (16) or of all (17), one after the other.
-fn run(words: &[u16], counts: &[u16], at: usize, left: usize, parts: u16, code: u16) -> Eval
+// Whether a link stands at a place.
+fn is_link(words: &[u16], at: usize) -> bool
+    ensures { λ r. ⌜ (r ≡ true → LinkHere (now (words .entry)) at) ⌝ }
+{
+    if words.len() <= at {
+        return false;
+    }
+    if words[at] < 256 {
+        return false;
+    }
+    words[at] < 384
+}
+
+// How many of so many parts, from the first on, are links, where `left` levels of parts are still allowed.
+fn stretch(words: &[u16], at: usize, left: usize, parts: u16) -> u16
     requires { ⌜ length (now words) ≤ maxTemplate ⌝ }
-    ensures { λ r. ⌜ Evaluates (count (now (counts .entry))) at
+    ensures { λ r. ⌜ Stretch (now (words .entry)) at left parts r ⌝ }
+{
+    let mut count = 0;
+    if left == 0 {
+        return count;
+    }
+    while count < parts {
+        if !is_link(words, at + 4 * wide(count)) {
+            return count;
+        }
+        count += 1;
+    }
+    count
+}
+
+// So many links of a choice (16) or of all (17), with the rest of the parts, from the last link to the first.
+fn join_links(
+    words: &[u16],
+    links: &[u16],
+    counts: &[u16],
+    at: usize,
+    count: u16,
+    code: u16,
+    rest: Eval,
+) -> Eval
+    requires { ⌜ JoinAsked (now words) (now links) (now counts) at count code rest ⌝ }
+    ensures { λ r. ⌜ JoinsLinks (amount (now (links .entry)) (now (counts .entry))) (now (words .entry)) at count code
+        rest r ⌝ }
+{
+    let mut whole = rest;
+    let mut i = wide(count);
+    while 0 < i {
+        i -= 1;
+        let place = at + 4 * i;
+        let first = link(words, links, counts, place, words[place] - 256);
+        whole = join(code, first, whole);
+    }
+    whole
+}
+
+// So many parts of a choice (16) or of all (17), one after the other. Links at the front are taken together.
+fn run(
+    words: &[u16],
+    links: &[u16],
+    counts: &[u16],
+    at: usize,
+    left: usize,
+    parts: u16,
+    code: u16,
+) -> Eval
+    requires { ⌜ Ready (now words) (now links) (now counts) ⌝ }
+    ensures { λ r. ⌜ Evaluates (amount (now (links .entry)) (now (counts .entry))) at
         (onto (gathered code) (treesAt (treeAt left (now (words .entry))) parts at)) r ⌝ }
 {
     if parts == 0 {
         return none(code, at);
     }
-    let first = part(words, counts, at, left);
-    let next = first.next;
-    let rest = run(words, counts, next, left, parts - 1, code);
-    join(code, first, rest)
+    let count = stretch(words, at, left, parts);
+    if count == 0 {
+        let first = part(words, links, counts, at, left);
+        let next = first.next;
+        let rest = run(words, links, counts, next, left, parts - 1, code);
+        return join(code, first, rest);
+    }
+    let next = at + 4 * wide(count);
+    if count == parts {
+        return join_links(words, links, counts, at, count, code, none(code, next));
+    }
+    let rest = run(words, links, counts, next, left, parts - count, code);
+    join_links(words, links, counts, at, count, code, rest)
 }
 
 // Where the count of words of a shape stands.
@@ -232,29 +339,30 @@ fn first_over(counts: &[u16]) -> usize
 }
 
 // Whether the counts of the labels of the part at `at` fit it.
-fn part_fits(words: &[u16], counts: &[u16], at: usize) -> bool
-    requires { ⌜ length (now words) ≤ maxTemplate ⌝ }
+pub fn part_fits(words: &[u16], links: &[u16], counts: &[u16], at: usize) -> bool
+    requires { ⌜ Ready (now words) (now links) (now counts) ⌝ }
     ensures { λ r. ⌜ r ≡ inside 1 (interval (treeAt maxDepth (now (words .entry)) at .value)
-        (count (now (counts .entry)))) ⌝ }
+        (amount (now (links .entry)) (now (counts .entry)))) ⌝ }
 {
-    let whole = part(words, counts, at, MAX_DEPTH);
+    let whole = part(words, links, counts, at, MAX_DEPTH);
     let span = whole.span;
     has_one(span)
 }
 
-// Whether the counts of the labels fit the shape whose count of words stands at `at`.
+// Whether a list with the counts of all labels fits the shape whose count of words stands at `at`.
 // The row is the shape's in the table of names.
-pub fn fits(words: &[u16], at: usize, row: &[u8], counts: &[u16], kinds: usize) -> bool
+fn list_fits(words: &[u16], at: usize, row: &[u8], counts: &[u16], kinds: usize) -> bool
     requires { ⌜ Testable (now words) at (now row) (now counts) kinds ⌝ }
     ensures { λ r. ⌜ r ≡ countsFit (openAt (now (words .entry)) at) kinds
         (treeAt maxDepth (now (words .entry)) (partAt (now (words .entry)) at) .value)
         (count (now (counts .entry))) ⌝ }
 {
+    let none = &counts[0..0];
     if open_at(words, at) {
-        return part_fits(words, counts, at + 2);
+        return part_fits(words, none, counts, at + 2);
     }
     if others_zero(row, counts, kinds) {
-        return part_fits(words, counts, at + 1);
+        return part_fits(words, none, counts, at + 1);
     }
     false
 }
@@ -302,7 +410,7 @@ fn fit_accepted(
     let at = shape_place(template, n);
     let mut labels = [0u16; MAX_LABELS];
     spread(counts, each_way, &mut labels);
-    if fits(template, at, &names[base..end], &labels, each_way) {
+    if list_fits(template, at, &names[base..end], &labels, each_way) {
         FitAnswer::Yes
     } else {
         FitAnswer::No

@@ -1,157 +1,227 @@
--- The counts of a card's links, and the bytes that they give.
--- leaving-asked, arriving-asked   what counting these, and those to it, asks
--- counted-out, counted-both   the counts of the links from a card alone, and of those to it too
--- leaving-counted   counts of the kinds of the links between a card's start and the next card's are its outgoing ones
--- counts-alike      what is counted is what a shape of the sheet looks at
--- card-fitted       a row that fits such counts has the bytes of the card
+-- The counts of a card's links, as they are counted off, are those of its neighbours.
+-- way-is        a label counts among the neighbours what its kind counts one way
+-- card-under    the kinds of a card's links are the template's
+-- ListedBack    the counts of incoming kinds are listed where they matter
+-- back-asked    what counting the links to a card asks
+-- listed-few, listed-back   how many counts are listed, and which
+-- pair-byte     what is said of a pair is its byte
+-- pair-told     what is counted off fits a shape exactly if the card's neighbours do
+-- named-row     the row has the names of the part
 -- Assumes nothing.
-use Prim.Native.Nat.{ℕ, _+_, _≤_, _<_}
+use Prim.Native.Nat.{ℕ, _+_, _-_, _*_, _≤_, _<_}
 use mathlib.Core.Path.{_≡_, sym, ap, ap₂, subst, _∙_}
-use mathlib.Core.Bool.{Bool, false, cond}
-use mathlib.Core.List.{List, _++_}
+use mathlib.Core.Bool.{Bool, true, false, cond}
+use mathlib.Core.List.{List}
 use native.Mathlib.Omega.{arith}
-use lib.ListN.{length, getD, List·getD-append}
-use borrow.Rule.Slice.PartMut.{putMid}
-use Rattle.words.specs.Limits.{maxKinds}
+use lib.ListN.{length, getD, take, drop}
+use lib.Seq.{length-take-le, getD-take}
+use Rattle.words.specs.Limits.{maxKinds, maxLabels, maxDepth}
 use Rattle.words.specs.Reading.{accepted}
-use Rattle.words.proofs.Bools.{never-both, bool-case}
-use Rattle.words.proofs.Cells.{put-before, put-inside}
+use Rattle.words.proofs.Bools.{bool-case}
 use Rattle.bags.specs.Label.{Way, outgoing, incoming, labelOf}
 use Rattle.bags.specs.Part.{Part, Names}
-use Rattle.bags.specs.Bag.{count}
+use Rattle.bags.specs.Interval.{fits}
 use Rattle.bags.specs.Proposition.{labelCount}
 use Rattle.bags.proofs.Naming.{OfKindBelow, names-kind, named-none}
 use Rattle.bags.proofs.Looking.{fits-alike}
-use Rattle.template.specs.Template.{opens, readTemplate}
+use Rattle.template.specs.Template.{openAt, partAt, shapePlace, opens, readTemplate}
 use Rattle.template.proofs.Accepted.{template-accepted}
 use Rattle.script.specs.Link.{toAt, neighbours, below}
-use Rattle.script.specs.Script.{countsOf, readScript}
+use Rattle.script.specs.Script.{countsOf}
 use Rattle.script.specs.Chain.{Chained}
-use Rattle.script.specs.Index.{kindCount, StartsOf, ArrivalsOf, LeavingAsked, ArrivingAsked}
+use Rattle.script.specs.Index.{StartsOf, ArrivingAsked}
 use Rattle.script.specs.Counts.{wayCount}
+use Rattle.script.specs.Runs.{amount, KindsRise}
 use Rattle.script.proofs.Reading.{script-accepted}
 use Rattle.script.proofs.Cards.{part-within, below-le}
-use Rattle.script.proofs.Counts.{kind-count, way-count}
+use Rattle.script.proofs.Counts.{way-count}
+use Rattle.script.proofs.Runs.{card-kind, card-rise, card-many, card-kinds, amount-counted, amount-listed}
 use Rattle.sheet.specs.declared.Extent.{Extent}
-use Rattle.sheet.specs.Opened.{templateAs, Known}
-use Rattle.fits.specs.Fitting.{byteOf, CardCounted, RowFitted, CardFitted}
+use Rattle.sheet.specs.Opened.{templateAs, Opened}
+use Rattle.flat.specs.Meeting.{KindsUnder}
+use Rattle.counts.specs.Trees.{treeAt}
+use Rattle.counts.specs.Machine.{RowOf}
+use Rattle.counts.proofs.Agreement.{shape-tree}
+use Rattle.fits.specs.declared.Plan.{Plan}
+use Rattle.fits.specs.Plans.{PlanOf}
+use Rattle.fits.specs.Fitting.{Named, WaysSeen, BackAsked, CountedBack, byteAt, PairFits}
 
--- ---- counting
-module _ (script : List ℕ) (e : Extent)
-    (read : readScript (e .kinds) script ≡ accepted (countsOf (e .cards) (e .links))) (n : ℕ) (l : n < e .cards) where
-  module _ (starts : List ℕ) (s : StartsOf script starts (e .cards) (e .links)) (lo hi : ℕ) (p : lo ≡ getD starts n 0)
-      (q : hi ≡ getD starts (n + 1) 0) where
+-- Where they matter, the counts of the links to card n are listed; else none is.
+pub record ListedBack (script : List ℕ) (e : Extent) (back : Bool) (n : ℕ) (listed : List ℕ) : Type 0 where
+  pub yes : back ≡ true → length listed ≡ maxKinds
+  pub exact : back ≡ true → (k : ℕ) → k < maxKinds → getD listed k 0 ≡ wayCount incoming script n k (e .links)
+  pub no : back ≡ false → length listed ≡ 0
+
+-- No more than there are incoming kinds.
+pub listed-short : (script : List ℕ) (e : Extent) (back : Bool) (n : ℕ) (listed : List ℕ) →
+    ListedBack script e back n listed → length listed ≤ maxKinds
+listed-short script e back n listed b = bool-case back (λ y. omega (arith, b .yes y)) (λ o. omega (arith, b .no o))
+
+-- What counting the links to a card asks.
+pub back-asked : (script first next : List ℕ) (e : Extent) (back : Bool) (n : ℕ) (counts : List ℕ) (links : ℕ) →
+    BackAsked script first next e back n counts → back ≡ true → links ≡ e .links →
+    ArrivingAsked script first next links n counts
+back-asked script first next e back n counts links b y q =
+    let w = script-accepted (e .kinds) script (countsOf (e .cards) (e .links)) (b .read) in
+    let a = b .arriving y in
+    let few = b .few in
+    record {
+      within = record { order = omega arith; few = omega (arith, w .links-bound); end = omega (arith, w .size) };
+      arrivals = record {
+        cards-in = omega (arith, a .cards-in, b .below);
+        links-in = omega (arith, a .links-in);
+        chained = subst (Chained (toAt script) first next) (sym q) (a .chained);
+      };
+      kinds = λ i l. omega (arith, w .kind-below i (omega arith), b .room);
+      zeros = b .zeros;
+    }
+
+module _ (template script : List ℕ) (e : Extent) (opened : Opened template script e) where
+  few-kinds : e .kinds ≤ maxKinds
+  few-kinds =
+      template-accepted template (templateAs (e .kinds) (e .shapes) (opened .parts)) (opened .template-read) .kinds-high
+
+  -- a label counts among the neighbours what its kind counts one way
+  pub way-is : (n : ℕ) (way : Way) (k : ℕ) → k < e .kinds →
+      labelCount (neighbours script n (e .links)) (labelOf way k) ≡ wayCount way script n k (e .links)
+  way-is n way k l =
+      let w = script-accepted (e .kinds) script (countsOf (e .cards) (e .links)) (opened .script-read) in
+      way-count way script n k (e .links) (omega (arith, few-kinds))
+      (λ i h. omega (arith, w .kind-below i h, few-kinds))
+
+  module _ (n : ℕ) (l : n < e .cards) (starts : List ℕ) (s : StartsOf script starts (e .cards) (e .links)) (lo hi : ℕ)
+      (p : lo ≡ getD starts n 0) (q : hi ≡ getD starts (n + 1) 0) where
+    -- the words of the card's links
+    abbrev part : List ℕ
+    part = take (2 + 3 * hi - (2 + 3 * lo)) (drop (2 + 3 * lo) script)
+
     low-is : lo ≡ below script n (e .links)
     low-is = p ∙ s .exact n (omega arith)
 
     high-is : hi ≡ below script (n + 1) (e .links)
     high-is = q ∙ s .exact (n + 1) (omega arith)
 
-    pub leaving-asked : (counts : List ℕ) → length counts ≡ e .kinds
-        → ((k : ℕ) → k < length counts → getD counts k 0 ≡ 0) → LeavingAsked script lo hi counts
-    leaving-asked counts size zeros =
-        let w = script-accepted (e .kinds) script (countsOf (e .cards) (e .links)) read in
+    pub part-rise : KindsRise part
+    part-rise =
+        let w = script-accepted (e .kinds) script (countsOf (e .cards) (e .links)) (opened .script-read) in
+        card-rise script (e .links) (w .ascending) n lo hi low-is high-is
+
+    -- where the part lies in the script
+    pub part-inside : (lo ≤ hi) × (2 + 3 * hi ≤ length script)
+    part-inside =
+        let w = script-accepted (e .kinds) script (countsOf (e .cards) (e .links)) (opened .script-read) in
+        let within = part-within script (e .links) (w .ascending) n lo hi low-is high-is in
+        (within .order, within .end)
+
+    pub card-under : KindsUnder part (e .kinds)
+    card-under =
+        let w = script-accepted (e .kinds) script (countsOf (e .cards) (e .links)) (opened .script-read) in
+        let size = card-rise script (e .links) (w .ascending) n lo hi low-is high-is .size in
+        let many = card-many script (e .links) (w .ascending) n lo hi low-is high-is in
         record {
-          within = part-within script (e .links) (w .ascending) n lo hi low-is high-is;
-          kinds = λ i a b.
-              omega (arith, w .kind-below i (omega (arith, high-is, below-le script (n + 1) (e .links))), size);
-          zeros = zeros;
+          few = few-kinds;
+          below = λ i h.
+              let here : lo + i < hi = omega (arith, size, many) in
+              omega (
+                arith,
+                card-kind script lo hi i (part-inside .1) here,
+                w .kind-below (lo + i) (omega (arith, high-is, below-le script (n + 1) (e .links))),
+              );
         }
 
-    pub leaving-counted : (k : ℕ) → kindCount script k lo hi ≡ wayCount outgoing script n k (e .links)
-    leaving-counted k =
-        let w = script-accepted (e .kinds) script (countsOf (e .cards) (e .links)) read in
-        ap₂ (kindCount script k) low-is high-is ∙ kind-count script (e .links) (w .starts) n k
+    outward : (listed : List ℕ) → length listed ≤ maxKinds → (k : ℕ) → k < e .kinds →
+        amount part listed k ≡ labelCount (neighbours script n (e .links)) k
+    outward listed few k h =
+        let w = script-accepted (e .kinds) script (countsOf (e .cards) (e .links)) (opened .script-read) in
+        let own : labelOf outgoing k ≡ k = omega arith in
+        amount-counted part listed k (omega (arith, few-kinds))
+        ∙ card-kinds script (e .links) (w .ascending) n lo hi low-is high-is k
+        ∙ sym (way-is n outgoing k h) ∙ ap (labelCount (neighbours script n (e .links))) own
 
-  pub arriving-asked : (first next : List ℕ) → ArrivalsOf script first next (e .cards) (e .links) → (links : ℕ)
-      → links ≡ e .links → (counts : List ℕ) → length counts ≡ e .kinds
-      → ((k : ℕ) → k < length counts → getD counts k 0 ≡ 0) → ArrivingAsked script first next links n counts
-  arriving-asked first next a links q counts size zeros =
-      let w = script-accepted (e .kinds) script (countsOf (e .cards) (e .links)) read in
-      record {
-        within = record {
-          order = omega arith;
-          few = omega (arith, w .links-bound);
-          end = omega (arith, w .size);
-        };
-        arrivals = record {
-          cards-in = omega (arith, a .cards-in);
-          links-in = omega (arith, a .links-in);
-          chained = subst (Chained (toAt script) first next) (sym q) (a .chained);
-        };
-        kinds = λ i b. omega (arith, w .kind-below i (omega arith), size);
-        zeros = zeros;
-      }
+    module _ (row : List ℕ) (t at : ℕ) (named : Named template row e t at) (back : Bool) (seen : WaysSeen row e back)
+        (listed : List ℕ) (b : ListedBack script e back n listed) where
+      abbrev shape : Part
+      shape = treeAt maxDepth template (partAt template at) .value
 
--- The counts of the links from a card stand before a rest, and those of the links to it are put behind.
-module _ (script : List ℕ) (e : Extent) (n : ℕ) (leaving rest : List ℕ) (size : length leaving ≡ e .kinds)
-    (out : (k : ℕ) → k < length leaving → getD leaving k 0 ≡ wayCount outgoing script n k (e .links)) where
-  out-first : (k : ℕ) → k < e .kinds → count (leaving ++ rest) k ≡ wayCount outgoing script n k (e .links)
-  out-first k l = List·getD-append leaving rest 0 k (omega arith) ∙ out k (omega arith)
+      few-listed : length listed ≤ maxKinds
+      few-listed = listed-short script e back n listed b
 
-  pub counted-out : e .incoming ≡ false → CardCounted script e n (leaving ++ rest)
-  counted-out off = record { outward = out-first; inward = λ on. never-both on off }
+      -- the part of a shape names kinds of the template
+      shape-kinds : (k : ℕ) → Names shape k → OfKindBelow (e .kinds) k
+      shape-kinds k m =
+          let whole = templateAs (e .kinds) (e .shapes) (opened .parts) in
+          let a = template-accepted template whole (opened .template-read) in
+          let same : shape ≡ getD (opened .parts) t Part.nothing =
+          ap (λ (x : ℕ). treeAt maxDepth template (partAt template x) .value) (named .place)
+          ∙ shape-tree template whole t (opened .template-read) (named .below) in
+          names-kind (e .kinds) (getD (opened .parts) t Part.nothing) (a .kinds-below t (named .below)) k
+          (subst (λ (x : Part). Names x k) same m)
 
-  pub counted-both : (j : ℕ) (arriving : List ℕ) → e .kinds ≤ maxKinds → maxKinds ≤ length (leaving ++ rest)
-      → length arriving ≡ e .kinds
-      → ((k : ℕ) → k < length arriving → getD arriving k 0 ≡ wayCount incoming script n k (e .links))
-      → CardCounted script e n (putMid maxKinds j (leaving ++ rest) arriving)
-  counted-both j arriving few room whole back = record {
-    outward = λ k l. put-before maxKinds j (leaving ++ rest) arriving k room (omega arith) ∙ out-first k l;
-    inward = λ on k l. put-inside maxKinds j (leaving ++ rest) arriving k room (omega arith) ∙ back k (omega arith);
+      inward : (k : ℕ) → k < e .kinds → Names shape (labelOf incoming k) →
+          amount part listed (labelOf incoming k) ≡ labelCount (neighbours script n (e .links)) (labelOf incoming k)
+      inward k h m = bool-case back
+          (λ y.
+          let full = b .yes y in
+          let place : labelOf incoming k - (maxLabels - length listed) ≡ k = omega arith in
+          amount-listed part listed (labelOf incoming k) (omega arith)
+          ∙ ap (λ (x : ℕ). getD listed x 0) place ∙ b .exact y k (omega (arith, few-kinds))
+          ∙ sym (way-is n incoming k h))
+          (λ o. absurd (named-none shape (labelOf incoming k)
+          (sym (named .names (labelOf incoming k) (omega (arith, few-kinds))) ∙ seen .no o k h) m))
+
+      named-alike : (k : ℕ) → Names shape k → OfKindBelow (e .kinds) k →
+          amount part listed k ≡ labelCount (neighbours script n (e .links)) k
+      named-alike k m (outgoing, kind, h, same) = outward listed few-listed k (omega arith)
+      named-alike k m (incoming, kind, h, same) = rw same (inward kind h (subst (Names shape) same m))
+
+      pair-alike : (isOpen : Bool) →
+          fits isOpen (e .kinds) shape (amount part listed)
+          ≡ fits isOpen (e .kinds) shape (labelCount (neighbours script n (e .links)))
+      pair-alike isOpen =
+          fits-alike (amount part listed) (labelCount (neighbours script n (e .links))) isOpen shape (e .kinds)
+          (outward listed few-listed) (λ k m. named-alike k m (shape-kinds k m))
+
+      -- the same where the part's start is known otherwise
+      pub pair-told : (start : ℕ) → start ≡ partAt template at → (isOpen fit : Bool) →
+          fit ≡ fits isOpen (e .kinds) (treeAt maxDepth template start .value) (amount part listed) →
+          fit ≡ fits isOpen (e .kinds) (treeAt maxDepth template start .value)
+          (labelCount (neighbours script n (e .links)))
+      pair-told start q isOpen fit h =
+          h ∙ subst (λ (x : ℕ). fits isOpen (e .kinds) (treeAt maxDepth template x .value) (amount part listed)
+          ≡ fits isOpen (e .kinds) (treeAt maxDepth template x .value) (labelCount (neighbours script n (e .links))))
+          (sym q) (pair-alike isOpen)
+
+-- The row has the names of the part, wherever that is known to start.
+pub named-row : (template row : List ℕ) (e : Extent) (t at start : ℕ) → Named template row e t at →
+    start ≡ partAt template at → RowOf row (e .kinds) (treeAt maxDepth template start .value)
+named-row template row e t at start named q =
+    subst (λ (x : ℕ). RowOf row (e .kinds) (treeAt maxDepth template x .value)) (sym q)
+    (λ k h. named .names k (omega (arith, named .asked .few)))
+
+-- The counts that are listed, taken out of all.
+module _ (script : List ℕ) (e : Extent) (back : Bool) (n : ℕ) (counts : List ℕ) (size : ℕ)
+    (c : CountedBack script e back n counts size) where
+  pub listed-few : size ≤ maxKinds
+  listed-few = bool-case back (λ y. omega (arith, c .yes y)) (λ o. omega (arith, c .no o))
+
+  pub listed-back : (taken : ℕ) → taken ≡ size → ListedBack script e back n (take taken counts)
+  listed-back taken q = record {
+    yes = λ y. length-take-le taken counts (omega (arith, c .yes y, c .room)) ∙ q ∙ c .yes y;
+    exact = λ y k l. getD-take taken counts k 0 (omega (arith, c .yes y)) ∙ c .exact y k l;
+    no = λ o. length-take-le taken counts (omega (arith, c .no o)) ∙ q ∙ c .no o;
   }
 
--- ---- the bytes
-module _ (template script names : List ℕ) (e : Extent) (known : Known template script names e) (n : ℕ)
-    (counts : List ℕ) (c : CardCounted script e n counts) where
-  -- how many neighbours the card has of each label
-  abbrev counted : ℕ → ℕ
-  counted k = labelCount (neighbours script n (e .links)) k
-
-  way-is : (way : Way) (k : ℕ) → k < e .kinds → counted (labelOf way k) ≡ wayCount way script n k (e .links)
-  way-is way k lk =
-      let o = known .opened in
-      let t = template-accepted template (templateAs (e .kinds) (e .shapes) (o .parts)) (o .template-read) in
-      let w = script-accepted (e .kinds) script (countsOf (e .cards) (e .links)) (o .script-read) in
-      way-count way script n k (e .links) (omega (arith, t .kinds-high))
-      (λ i l. omega (arith, w .kind-below i l, t .kinds-high))
-
-  outward-alike : (k : ℕ) → k < e .kinds → count counts k ≡ counted k
-  outward-alike k lk =
-      let own : labelOf outgoing k ≡ k = omega arith in
-      c .outward k lk ∙ sym (way-is outgoing k lk) ∙ ap counted own
-
-  module _ (parts : List Part) (r : readTemplate template ≡ accepted (templateAs (e .kinds) (e .shapes) parts)) (t : ℕ)
-      (lt : t < e .shapes) where
-    abbrev part : Part
-    part = getD parts t Part.nothing
-
-    -- a shape that names an incoming kind is one of a sheet that does
-    named-way : (k : ℕ) → k < e .kinds → Names part (labelOf incoming k) → e .incoming ≡ false → ⊥
-    named-way k lk named-it off =
-        let a = template-accepted template (templateAs (e .kinds) (e .shapes) parts) r in
-        named-none part (labelOf incoming k)
-        (sym (known .table (templateAs (e .kinds) (e .shapes) parts) r t (labelOf incoming k)
-        (omega (arith, a .trees-length)) (omega (arith, a .kinds-high)))
-        ∙ known .ways off t k lt (omega (arith, a .kinds-high))) named-it
-
-    named-alike : (k : ℕ) → Names part k → OfKindBelow (e .kinds) k → count counts k ≡ counted k
-    named-alike k named-it (outgoing, kind, lk, q) = outward-alike k (omega arith)
-    named-alike k named-it (incoming, kind, lk, q) = rw q (bool-case (e .incoming)
-        (λ on. c .inward on kind lk ∙ sym (way-is incoming kind lk))
-        (λ off. absurd (named-way kind lk (subst (Names part) q named-it) off)))
-
-    pub counts-alike : (isOpen : Bool)
-        → byteOf isOpen (e .kinds) part (count counts) ≡ byteOf isOpen (e .kinds) part counted
-    counts-alike isOpen =
-        let a = template-accepted template (templateAs (e .kinds) (e .shapes) parts) r in
-        ap (λ (b : Bool). cond {A = ℕ} b 1 0)
-        (fits-alike (count counts) counted isOpen part (e .kinds) outward-alike
-        (λ k m. named-alike k m (names-kind (e .kinds) part (a .kinds-below t lt) k m)))
-
-  -- A row that fits the counts of a card has the card's bytes.
-  pub card-fitted : (kinds shapes : ℕ) (row : List ℕ) → kinds ≡ e .kinds → shapes ≡ e .shapes
-      → RowFitted template kinds shapes counts row → CardFitted template script e n row
-  card-fitted kinds shapes row p q f =
-      let g : RowFitted template (e .kinds) (e .shapes) counts row = rw (p, q) at f in
-      record { full = g .full; each = λ parts r t l. g .each parts r t l ∙ counts-alike parts r t l (opens template t) }
+-- What is said of a pair is its byte.
+pub pair-byte : (template script : List ℕ) (e : Extent) (plan : Plan) (places : List ℕ) (at t n : ℕ) →
+    PlanOf template at places plan → at ≡ shapePlace template t 2 → t < e .shapes → (fit : Bool) →
+    PairFits template script e plan n fit → (byte : ℕ) → byte ≡ cond fit 1 0 → (parts : List Part) →
+    readTemplate template ≡ accepted (templateAs (e .kinds) (e .shapes) parts) →
+    byte ≡ byteAt script e (opens template t) (getD parts t Part.nothing) n
+pair-byte template script e plan places at t n planned q l fit said byte b parts r =
+    let w = labelCount (neighbours script n (e .links)) in
+    let isOpen : plan .opened ≡ opens template t = planned .is-open ∙ ap (openAt template) q in
+    let part : treeAt maxDepth template (plan .start) .value ≡ getD parts t Part.nothing =
+    ap (λ (x : ℕ). treeAt maxDepth template x .value) (planned .start ∙ ap (partAt template) q)
+    ∙ shape-tree template (templateAs (e .kinds) (e .shapes) parts) t r l in
+    b ∙ ap (λ (y : Bool). cond {A = ℕ} y 1 0)
+    (said ∙ ap₂ (λ (o : Bool) (p : Part). fits o (e .kinds) p w) isOpen part)

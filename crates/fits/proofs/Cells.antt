@@ -1,108 +1,155 @@
--- The bytes of all cards, row by row.
--- RowsFitted     what holds before each card: the rows of the cards before it have their bytes
--- rows-start     it holds of any grid of the right length
--- row-inside     the next card's row lies in the grid
--- row-length     and has a byte for each shape
--- rows-next      it holds after the next card's row is written
--- rows-end       after the last card the grid is done
--- pairs-bound    a sheet has no more pairs than the greatest grid
+-- The bytes of all pairs, shape by shape, and of one shape card by card.
+-- CardsFitted    what holds before each card: the cards before it have their bytes under the shape
+-- cards-start, cards-next, cards-end      at the first card, after one more, and after the last
+-- ShapesFitted   what holds before each shape: the shapes before it have their columns
+-- shapes-start, shapes-next, shapes-end   at the first shape, after one more, and after the last
+-- cell-inside    the byte of a pair lies in the grid; pairs-bound: a sheet has no more pairs than the greatest grid
 -- Assumes nothing.
-use Prim.Native.Nat.{ℕ, _+_, _-_, _*_, _≤_, _<_}
-use mathlib.Core.Path.{_≡_, _∙_}
+use Prim.Native.Nat.{ℕ, _+_, _*_, _≤_, _<_}
+use mathlib.Core.Path.{_≡_, refl, sym, ap, _∙_}
 use mathlib.Core.Logic.{⊎-elim}
 use mathlib.Core.List.{List}
 use native.Mathlib.Omega.{arith}
-use native.Mathlib.Nat.{eq-or-lt-of-le, le-of-suc-le-suc, mul-le-mul, mul-le-mul-right, suc-mul}
+use native.Mathlib.Nat.{mul-le-mul, mul-le-mul-right, suc-mul}
 use native.Mathlib.Numerals.{add-one}
-use borrow.Rule.Slice.PartMut.{midOf, putMid, same-len-mid, mid-len}
-use lib.ListN.{length, getD, take, drop}
-use Rattle.bags.specs.Part.{Part}
-use Rattle.template.specs.Template.{opens, readTemplate}
+use lib.ListN.{length, getD, set, length-set}
+use lib.Seq.{getD-set-same, getD-set-other}
 use Rattle.words.specs.Limits.{maxCards, maxShapes}
 use Rattle.words.specs.Sizes.{maxGrid}
 use Rattle.words.specs.Reading.{accepted}
-use Rattle.template.proofs.Accepted.{template-accepted}
+use Rattle.words.proofs.Bools.{le-or-lt, eq-or-ne, last-or-below}
+use Rattle.bags.specs.Part.{Part}
+use Rattle.template.specs.Template.{shapePlace, opens, readTemplate}
+use Rattle.template.proofs.Accepted.{place-next, template-accepted}
 use Rattle.script.specs.Script.{countsOf}
 use Rattle.script.proofs.Reading.{script-accepted}
 use Rattle.sheet.specs.declared.Extent.{Extent}
 use Rattle.sheet.specs.Opened.{templateAs, Opened}
-use Rattle.fits.specs.Fitting.{byteAt, CardFitted, Fitted}
-use Rattle.words.proofs.Cells.{put-before, put-inside}
-
--- What holds before card n.
-pub record RowsFitted (template script : List ℕ) (e : Extent) (cards shapes : ℕ) (grid : List ℕ) (n : ℕ) : Type 0 where
-  pub size : length grid ≡ cards * shapes
-  pub within : n ≤ cards
-  -- the rows before n
-  pub each :
-      (c : ℕ) → c < n → (parts : List Part) →
-      readTemplate template ≡ accepted (templateAs (e .kinds) (e .shapes) parts) → (t : ℕ) → t < shapes →
-      getD grid (c * shapes + t) 0 ≡ byteAt script e (opens template t) (getD parts t Part.nothing) c
+use Rattle.fits.specs.Fitting.{byteAt, ColumnFitted, Fitted}
 
 -- The row of a card c below n ends where that of card n starts, or before.
 rows-apart : (c n shapes : ℕ) → c < n → c * shapes + shapes ≤ n * shapes
 rows-apart c n shapes h = rw suc-mul at (mul-le-mul-right shapes h)
 
-module _ (template script : List ℕ) (e : Extent) (cards shapes : ℕ) (grid : List ℕ) where
-  pub rows-start : length grid ≡ cards * shapes → RowsFitted template script e cards shapes grid 0
-  rows-start h = record { size = h; within = omega arith; each = λ c l. absurd (omega arith) }
+-- Two pairs have two places.
+cells-apart : (c n shapes s t : ℕ) → s < shapes → t < shapes → ((c ≡ n) → (s ≡ t) → ⊥) →
+    c * shapes + s ≡ n * shapes + t → ⊥
+cells-apart c n shapes s t ls lt differ e = ⊎-elim
+    (λ (same : c ≡ n). differ same
+    (let rows : c * shapes ≡ n * shapes = ap (λ (x : ℕ). x * shapes) same in omega arith))
+    (λ other. ⊎-elim
+    (λ (h : c + 1 ≤ n). omega (arith, rows-apart c n shapes (omega arith)))
+    (λ (h : n < c + 1). omega (arith, rows-apart n c shapes (omega (arith, other))))
+    (le-or-lt (c + 1) n))
+    (eq-or-ne c n)
 
-  pub rows-end :
-      (n : ℕ) → RowsFitted template script e cards shapes grid n → cards ≤ n → cards ≡ e .cards → shapes ≡ e .shapes →
+-- The byte of a pair lies in the grid.
+pub cell-inside : (grid : List ℕ) (cards shapes n t : ℕ) → length grid ≡ cards * shapes → n < cards → t < shapes →
+    n * shapes + t < length grid
+cell-inside grid cards shapes n t size l h = omega (arith, rows-apart n cards shapes l)
+
+-- ---- the cards under one shape
+-- What holds before card n.
+pub record CardsFitted (template script : List ℕ) (e : Extent) (t : ℕ) (before grid : List ℕ) (n : ℕ) : Type 0 where
+  pub size : length grid ≡ e .cards * e .shapes
+  pub within : n ≤ e .cards
+  -- the cards before n
+  pub each : (parts : List Part) → readTemplate template ≡ accepted (templateAs (e .kinds) (e .shapes) parts)
+      → (c : ℕ) → c < n
+      → getD grid (c * e .shapes + t) 0 ≡ byteAt script e (opens template t) (getD parts t Part.nothing) c
+  -- the other shapes
+  pub others : (c s : ℕ) → c < e .cards → s < e .shapes → (s ≡ t → ⊥)
+      → getD grid (c * e .shapes + s) 0 ≡ getD before (c * e .shapes + s) 0
+
+module _ (template script : List ℕ) (e : Extent) (t : ℕ) (before : List ℕ) where
+  pub cards-start : length before ≡ e .cards * e .shapes → CardsFitted template script e t before before 0
+  cards-start h = record {
+    size = h;
+    within = omega arith;
+    each = λ parts r c l. absurd (omega arith);
+    others = λ c s l h d. refl;
+  }
+
+  pub cards-end : (grid : List ℕ) (n : ℕ) → CardsFitted template script e t before grid n → e .cards ≤ n →
+      ColumnFitted template script e t before grid
+  cards-end grid n f h = record {
+    full = f .size;
+    each = λ parts r c l. f .each parts r c (omega arith);
+    others = f .others;
+  }
+
+  module _ (grid : List ℕ) (n cell byte : ℕ) (f : CardsFitted template script e t before grid n) (l : n < e .cards)
+      (h : t < e .shapes) (q : cell ≡ n * e .shapes + t)
+      (b : (parts : List Part) → readTemplate template ≡ accepted (templateAs (e .kinds) (e .shapes) parts)
+      → byte ≡ byteAt script e (opens template t) (getD parts t Part.nothing) n) where
+    next-each : (parts : List Part) → readTemplate template ≡ accepted (templateAs (e .kinds) (e .shapes) parts) →
+        (c : ℕ) → c < n + 1 →
+        getD (set grid cell byte) (c * e .shapes + t) 0
+        ≡ byteAt script e (opens template t) (getD parts t Part.nothing) c
+    next-each parts r c i = ⊎-elim
+        (λ (j : c ≡ n).
+        rw (j, ← q)
+        (getD-set-same grid cell byte 0 (omega (arith, cell-inside grid (e .cards) (e .shapes) n t (f .size) l h))
+        ∙ b parts r))
+        (λ j.
+        getD-set-other grid cell (c * e .shapes + t) byte 0
+        (λ (same : c * e .shapes + t ≡ cell). cells-apart c n (e .shapes) t t h h (λ one none. omega arith) (same ∙ q))
+        ∙ f .each parts r c j)
+        (last-or-below (rw (add-one n) at i))
+
+    pub cards-next : CardsFitted template script e t before (set grid cell byte) (n + 1)
+    cards-next = record {
+      size = length-set grid cell byte ∙ f .size;
+      within = omega arith;
+      each = next-each;
+      others = λ c s i j d.
+          getD-set-other grid cell (c * e .shapes + s) byte 0
+          (λ (same : c * e .shapes + s ≡ cell). cells-apart c n (e .shapes) s t j h (λ one so. d so) (same ∙ q))
+          ∙ f .others c s i j d;
+    }
+
+-- ---- the shapes
+-- What holds before the shape t, whose count of words stands at `at`.
+pub record ShapesFitted (template script : List ℕ) (e : Extent) (grid : List ℕ) (at t : ℕ) : Type 0 where
+  pub size : length grid ≡ e .cards * e .shapes
+  pub within : t ≤ e .shapes
+  pub place : at ≡ shapePlace template t 2
+  -- the shapes before t
+  pub each : (parts : List Part) → readTemplate template ≡ accepted (templateAs (e .kinds) (e .shapes) parts)
+      → (n s : ℕ) → n < e .cards → s < t
+      → getD grid (n * e .shapes + s) 0 ≡ byteAt script e (opens template s) (getD parts s Part.nothing) n
+
+module _ (template script : List ℕ) (e : Extent) (grid : List ℕ) where
+  pub shapes-start : length grid ≡ e .cards * e .shapes → ShapesFitted template script e grid 2 0
+  unfolding shapePlace
+  shapes-start h =
+      record { size = h; within = omega arith; place = refl; each = λ parts r n s l i. absurd (omega arith) }
+
+  pub shapes-end : (at t : ℕ) → ShapesFitted template script e grid at t → e .shapes ≤ t →
       (parts : List Part) → readTemplate template ≡ accepted (templateAs (e .kinds) (e .shapes) parts) →
       Fitted template script e parts grid
-  rows-end n f h p q parts r =
-      let g : RowsFitted template script e (e .cards) (e .shapes) grid n = rw (p, q) at f in
-      record { full = g .size; each = λ c t l i. g .each c (omega arith) parts r t i }
+  shapes-end at t f h parts r =
+      record { full = f .size; each = λ n s l i. f .each parts r n s l (omega arith) }
 
-  module _ (n : ℕ) (f : RowsFitted template script e cards shapes grid n) (l : n < cards) where
-    pub row-inside : n * shapes + shapes ≤ length grid
-    row-inside = omega (arith, f .size, rows-apart n cards shapes l)
-
-    pub row-length : length (take (n * shapes + shapes - n * shapes) (drop (n * shapes) grid)) ≡ shapes
-    row-length = mid-len (n * shapes) (n * shapes + shapes) grid row-inside ∙ omega arith
-
-    module _
-        (row : List ℕ) (b : length row ≡ length (midOf (n * shapes) (n * shapes + shapes - n * shapes) grid))
-        (q : shapes ≡ e .shapes) (g : CardFitted template script e n row) where
-      row-size : length row ≡ shapes
-      row-size = b ∙ row-length
-
-      next-each :
-          (c : ℕ) → c < n + 1 → (parts : List Part) →
-          readTemplate template ≡ accepted (templateAs (e .kinds) (e .shapes) parts) → (t : ℕ) → t < shapes →
-          getD (putMid (n * shapes) (n * shapes + shapes - n * shapes) grid row) (c * shapes + t) 0
-          ≡ byteAt script e (opens template t) (getD parts t Part.nothing) c
-      next-each c h parts r t i =
-          let top = row-inside in
-          let k = n * shapes + shapes - n * shapes in
-          ⊎-elim
-          (λ (j : c ≡ n).
-          rw j
-          (put-inside (n * shapes) k grid row t (omega arith) (omega (arith, row-size))
-          ∙ g .each parts r t (omega arith)))
-          (λ j.
-          let a = rows-apart c n shapes j in
-          put-before (n * shapes) k grid row (c * shapes + t) (omega arith) (omega arith) ∙ f .each c j parts r t i)
-          (eq-or-lt-of-le (le-of-suc-le-suc (rw (add-one n) at h)))
-
-      pub rows-next :
-          RowsFitted template script e cards shapes
-          (putMid (n * shapes) (n * shapes + shapes - n * shapes) grid row) (n + 1)
-      rows-next =
-          record {
-            size = same-len-mid (n * shapes) (n * shapes + shapes - n * shapes) grid row b ∙ f .size;
-            within = omega arith;
-            each = next-each;
-          }
+  pub shapes-next : (at t count : ℕ) → ShapesFitted template script e grid at t → t < e .shapes →
+      count ≡ getD template at 0 → (after : List ℕ) → ColumnFitted template script e t grid after →
+      ShapesFitted template script e after (at + 1 + count) (t + 1)
+  shapes-next at t count f l q after c = record {
+    size = c .full;
+    within = omega arith;
+    place = rw (q, add-one t, f .place) (sym (place-next template t 2));
+    each = λ parts r n s i j. ⊎-elim
+        (λ (same : s ≡ t). rw same (c .each parts r n i))
+        (λ below. c .others n s i (omega arith) (λ same. omega arith) ∙ f .each parts r n s i below)
+        (last-or-below (rw (add-one t) at j));
+  }
 
 -- A sheet has no more cards and shapes than the limits.
 pub pairs-bound :
-    (template script : List ℕ) (e : Extent) (n cards shapes : ℕ) → Opened template script e → cards ≡ e .cards →
-    shapes ≡ e .shapes → n ≤ cards → (n * shapes ≤ maxGrid) × (shapes ≤ maxShapes)
-pairs-bound template script e n cards shapes o p q h =
+    (template script : List ℕ) (e : Extent) (n : ℕ) → Opened template script e → n ≤ e .cards →
+    (n * e .shapes ≤ maxGrid) × (e .shapes ≤ maxShapes)
+pairs-bound template script e n o h =
     let w = script-accepted (e .kinds) script (countsOf (e .cards) (e .links)) (o .script-read) in
     let t = template-accepted template (templateAs (e .kinds) (e .shapes) (o .parts)) (o .template-read) in
     let a : n ≤ maxCards = omega (arith, w .cards-bound) in
-    let b : shapes ≤ maxShapes = omega (arith, t .shapes-high) in
-    (mul-le-mul a b, b)
+    (mul-le-mul a (t .shapes-high), t .shapes-high)

@@ -1,6 +1,10 @@
 -- The laws of a sheet's pairs, lowest first.
--- Rows: the bytes of one card, shape by shape. CardCounts: the counts of a card's kinds. Cells: the bytes
--- of all cards, row by row.
+-- Rows: a shape's row of the table of names. Planning: where the core of a shape's part stands. CardTests: what the
+-- tests of a card's links say. CardCounts: what is counted off a card's links. Cells: the bytes of all pairs, shape
+-- by shape. CountedOff: what testing leaves is what "Fit counts" answers.
 pub mod Rows
+pub mod Planning
+pub mod CardTests
 pub mod CardCounts
 pub mod Cells
+pub mod CountedOff

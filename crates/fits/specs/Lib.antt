@@ -1,2 +1,4 @@
--- The pairs of a sheet: what testing them by counts asks and leaves behind.
+-- The pairs of a sheet. Plans: how a shape is tested on a card. Fitting: what testing all pairs by counts asks and
+-- leaves behind.
+pub mod Plans
 pub mod Fitting

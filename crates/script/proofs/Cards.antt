@@ -99,14 +99,14 @@ module _ (script : List ℕ) (m : ℕ) (rise : StartsRise script m) (c : ℕ) wh
   )
 
   -- The tests of the links before, in and after the card's part.
-  pub test-before : (i : ℕ) → i < below script c m → eqb (fromAt script i) c ≡ false
+  test-before : (i : ℕ) → i < below script c m → eqb (fromAt script i) c ≡ false
   test-before i h = ne-eqb (fromAt script i) c (λ e. omega (arith, below-low script m rise c i h))
 
-  pub test-within : (i : ℕ) → below script c m ≤ i → i < below script (c + 1) m → eqb (fromAt script i) c ≡ true
+  test-within : (i : ℕ) → below script c m ≤ i → i < below script (c + 1) m → eqb (fromAt script i) c ≡ true
   test-within i a b =
       eq-eqb (fromAt script i) c (starts-exact i (omega (arith, below-le script (c + 1) m)) .1 (a, b))
 
-  pub test-after : (i : ℕ) → below script (c + 1) m ≤ i → i < m → eqb (fromAt script i) c ≡ false
+  test-after : (i : ℕ) → below script (c + 1) m ≤ i → i < m → eqb (fromAt script i) c ≡ false
   test-after i a b = ne-eqb (fromAt script i) c (λ e. omega (arith, below-high script m rise (c + 1) i a b))
 
   pub below-rises : below script c m ≤ below script (c + 1) m

@@ -1,35 +1,28 @@
--- Counts of a card's links: by kind and way, over its neighbours and along its part of the script.
+-- Counts of a card's links: by kind and way, and over its neighbours.
 -- way-count       a label counts among a card's neighbours what its kind counts one way
+-- way-count-same, way-count-kind, way-count-past   one link more; way-count-skip: links that are not the card's
 -- way-count-none  a kind that no link has counts 0; way-count-bound: a count is at most that of the links
 -- way-counts-length, way-counts-at   the counts of all kinds one way
 -- card-counts-length, card-counts-out, card-counts-in   a card's counts
--- kind-count      the kinds counted over the card's part of the script are those of its outgoing links
--- kind-count-none, kind-count-same, kind-count-other, kind-count-bound, kind-counts-more   counting link by link
 -- Assumes nothing.
-use Prim.Native.Nat.{ℕ, zero, suc, _+_, _*_, _-_, _≤_, _<_}
+use Prim.Native.Nat.{ℕ, zero, suc, _+_, _*_, _≤_, _<_}
 use mathlib.Core.Path.{_≡_, refl, sym, ap, _∙_}
 use mathlib.Core.Logic.{⊎-elim}
-use mathlib.Core.Bool.{Bool, true, false, cond}
 use mathlib.Core.List.{List, [], _∷_, _++_}
 use native.Mathlib.Omega.{arith}
 use native.Mathlib.Nat.{add-zero, add-suc}
-use native.Mathlib.Numerals.{add-one}
-use lib.ListN.{length, getD, set, length-append, List·getD-append}
-use lib.Seq.{getD-set-same, getD-set-other, getD-append-seam, getD-append-add}
+use lib.ListN.{length, getD, length-append, List·getD-append}
+use lib.Seq.{getD-append-seam, getD-append-add}
 use lib.Dec.{eqb}
-use borrow.Author.Tests.{eq-eqb, ne-eqb, le-leb, lt-leb}
+use borrow.Author.Tests.{eq-eqb, ne-eqb}
 use Rattle.words.specs.Limits.{maxKinds}
-use Rattle.words.proofs.Bools.{le-or-lt, eq-or-ne, last-or-below, one-or-none}
-use Rattle.bags.specs.Label.{Way, outgoing, incoming, firstLabel, labelOf}
-use Rattle.bags.specs.Bag.{when}
+use Rattle.words.proofs.Bools.{eq-or-ne, last-or-below, one-or-none}
+use Rattle.bags.specs.Label.{Way, outgoing, incoming, labelOf}
 use Rattle.bags.specs.Choice.{Neighbour, to}
 use Rattle.bags.specs.Proposition.{labelCount}
 use Rattle.bags.proofs.Totals.{when-yes, when-no}
-use Rattle.script.specs.Link.{kindAt, nearAt, labelAt, farAt, sight, neighbours, below}
-use Rattle.script.specs.Index.{kindCount}
+use Rattle.script.specs.Link.{kindAt, nearAt, labelAt, sight, neighbours}
 use Rattle.script.specs.Counts.{wayCount, wayCounts, cardCounts}
-use Rattle.script.proofs.Order.{StartsRise}
-use Rattle.script.proofs.Cards.{below-le, test-before, test-within, test-after}
 use Rattle.script.proofs.Neighbours.{sight-near, sight-none}
 
 -- ---- one link more
@@ -51,6 +44,16 @@ module _ (way : Way) (script : List ℕ) (c kind m : ℕ) where
       → wayCount way script c kind (suc m) ≡ wayCount way script c kind m
   unfolding wayCount
   way-count-past ne = rw (ne-eqb (nearAt way script m) c ne) (omega arith)
+
+-- Links that do not have the card for their near end add nothing.
+pub way-count-skip : (way : Way) (script : List ℕ) (c kind a d : ℕ)
+    → ((i : ℕ) → a ≤ i → i < a + d → nearAt way script i ≡ c → ⊥)
+    → wayCount way script c kind (a + d) ≡ wayCount way script c kind a
+way-count-skip way script c kind a zero h = rw add-zero refl
+way-count-skip way script c kind a (suc d) h =
+    rw add-suc
+    (way-count-past way script c kind (a + d) (h (a + d) (omega arith) (omega arith))
+    ∙ way-count-skip way script c kind a d (λ i l b. h i l (omega arith)))
 
 pub way-count-bound : (way : Way) (script : List ℕ) (c kind m : ℕ) → wayCount way script c kind m ≤ m
 unfolding wayCount
@@ -181,87 +184,3 @@ way-count way script c kind (suc m) l h =
       seen-more script c kind m way l (h m (omega arith)),
       own-way script c kind m way,
     )
-
--- ---- along the card's part of the script
--- The kinds of no links, and of one link more.
-kind-count-before : (script : List ℕ) (k lo m : ℕ) → m ≤ lo → kindCount script k lo m ≡ 0
-unfolding kindCount
-kind-count-before script k lo zero h = refl
-kind-count-before script k lo (suc m) h = rw (lt-leb lo m h, kind-count-before script k lo m (omega arith)) refl
-
-pub kind-count-none : (script : List ℕ) (k lo : ℕ) → kindCount script k lo lo ≡ 0
-kind-count-none script k lo = kind-count-before script k lo lo (omega arith)
-
-pub kind-count-same : (script : List ℕ) (k lo m : ℕ) → lo ≤ m → k ≡ kindAt script m
-    → kindCount script k lo (suc m) ≡ kindCount script k lo m + 1
-unfolding kindCount
-kind-count-same script k lo m h e = rw (le-leb lo m h, eq-eqb k (kindAt script m) e) refl
-
-pub kind-count-other : (script : List ℕ) (k lo m : ℕ) → lo ≤ m → (k ≡ kindAt script m → ⊥)
-    → kindCount script k lo (suc m) ≡ kindCount script k lo m
-unfolding kindCount
-kind-count-other script k lo m h ne = rw (le-leb lo m h, ne-eqb k (kindAt script m) ne) (omega arith)
-
-pub kind-count-bound : (script : List ℕ) (k lo m : ℕ) → kindCount script k lo m ≤ m
-unfolding kindCount
-kind-count-bound script k lo zero = omega arith
-kind-count-bound script k lo (suc m) =
-    ⊎-elim
-    (λ h.
-    rw (le-leb lo m h)
-    (omega (arith, kind-count-bound script k lo m, one-or-none (eqb k (kindAt script m)))))
-    (λ l. rw (lt-leb lo m l) (omega (arith, kind-count-bound script k lo m)))
-    (le-or-lt lo m)
-
--- Counts of the kinds of the links from link lo on and below link m, after link m is counted too.
-pub kind-counts-more : (script counts : List ℕ) (lo m kind : ℕ) → lo ≤ m
-    → kind ≡ kindAt script m → kind < length counts
-    → ((k : ℕ) → k < length counts → getD counts k 0 ≡ kindCount script k lo m)
-    → (k : ℕ) → k < length counts
-    → getD (set counts kind (getD counts kind 0 + 1)) k 0 ≡ kindCount script k lo (m + 1)
-kind-counts-more script counts lo m kind h e l counted k lk =
-    let x = getD counts kind 0 + 1 in
-    ⊎-elim
-    (λ (q : k ≡ kind).
-    rw (add-one m)
-    (ap (λ (y : ℕ). getD (set counts kind x) y 0) q ∙ getD-set-same counts kind x 0 l
-    ∙ ap (λ (y : ℕ). getD counts y 0 + 1) (sym q) ∙ ap (λ (y : ℕ). y + 1) (counted k lk)
-    ∙ sym (kind-count-same script k lo m h (q ∙ e))))
-    (λ ne.
-    rw (add-one m)
-    (getD-set-other counts kind k x 0 ne ∙ counted k lk
-    ∙ sym (kind-count-other script k lo m h (λ q. ne (q ∙ sym e)))))
-    (eq-or-ne k kind)
-
-module _ (script : List ℕ) (m : ℕ) (rise : StartsRise script m) (c k : ℕ) where
-  count-within : (e : ℕ) → e ≤ below script (c + 1) m
-      → wayCount outgoing script c k e ≡ kindCount script k (below script c m) e
-  unfolding wayCount kindCount
-  count-within zero h = refl
-  count-within (suc e) h =
-      ⊎-elim
-      (λ le.
-      rw (test-within script m rise c e le h, le-leb (below script c m) e le)
-      (omega (arith, count-within e (omega arith))))
-      (λ lt.
-      rw (test-before script m rise c e lt, lt-leb (below script c m) e lt)
-      (omega (arith, count-within e (omega arith))))
-      (le-or-lt (below script c m) e)
-
-  count-after : (d : ℕ) → below script (c + 1) m + d ≤ m
-      → wayCount outgoing script c k (below script (c + 1) m + d)
-      ≡ wayCount outgoing script c k (below script (c + 1) m)
-  unfolding wayCount
-  count-after zero h = rw add-zero refl
-  count-after (suc d) h =
-      let hi = below script (c + 1) m in
-      rw (add-suc hi d, test-after script m rise c (hi + d) (omega arith) (omega arith))
-      (omega (arith, count-after d (omega arith)))
-
-  pub kind-count : kindCount script k (below script c m) (below script (c + 1) m) ≡ wayCount outgoing script c k m
-  kind-count =
-      let hi = below script (c + 1) m in
-      let top = below-le script (c + 1) m in
-      let p : hi + (m - hi) ≡ m = omega arith in
-      sym (count-within hi (omega arith)) ∙ sym (count-after (m - hi) (omega arith))
-      ∙ ap (wayCount outgoing script c k) p

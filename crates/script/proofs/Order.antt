@@ -2,9 +2,10 @@
 -- greater-by-from, greater-by-kind, greater-by-to   which word decides that a link is above another
 -- above-first, above-other                          the first link, and any other
 -- starts-rise                                       the cards that ascending links start at do not fall
+-- kinds-rise                                        nor do the kinds of those that start at one card
 -- Assumes nothing.
 use Prim.Native.Nat.{ℕ, zero, suc, _+_, _-_, _≤_, _<_}
-use mathlib.Core.Path.{_≡_, refl, sym}
+use mathlib.Core.Path.{_≡_, refl, sym, _∙_}
 use mathlib.Core.Logic.{⊎-elim}
 use mathlib.Core.Bool.{Bool, true, false, cond}
 use mathlib.Core.List.{List}
@@ -89,3 +90,38 @@ pub starts-rise : (script : List ℕ) (m : ℕ) → Ascending script m → Start
 starts-rise script m a i j l h =
     let e : i + (j - i) ≡ j = omega arith in
     rw e at (rise script m a i (j - i) (omega arith))
+
+-- A link that is above another, both of one card, has no lower kind.
+kind-rises : (script : List ℕ) (i j : ℕ) → greater script i j ≡ true → fromAt script i ≡ fromAt script j
+    → kindAt script j ≤ kindAt script i
+kind-rises script i j e same =
+    ⊎-elim (λ h. h)
+    (λ l.
+    let by-kind = greater-by-kind script i j same (λ p. omega arith) in
+    let no-less = le-ltb (kindAt script j) (kindAt script i) (omega arith) in
+    false-true (sym no-less ∙ by-kind ∙ e))
+    (le-or-lt (kindAt script j) (kindAt script i))
+
+above-kind : (script : List ℕ) (i : ℕ) → above script (suc i) ≡ true → fromAt script (suc i) ≡ fromAt script i
+    → kindAt script i ≤ kindAt script (suc i)
+unfolding above
+above-kind script i e same = kind-rises script (suc i) i e same
+
+-- The kinds of the links from link i on that start at its card do not fall.
+kinds-up : (script : List ℕ) (m : ℕ) → Ascending script m → (i d : ℕ) → i + d < m
+    → fromAt script i ≡ fromAt script (i + d) → kindAt script i ≤ kindAt script (i + d)
+kinds-up script m a i zero h same = rw add-zero (le-refl _)
+kinds-up script m a i (suc d) h same =
+    let e : i + suc d ≡ suc (i + d) = omega arith in
+    let last : fromAt script i ≡ fromAt script (suc (i + d)) = rw e at same in
+    let low = starts-rise script m a i (i + d) (omega arith) (omega arith) in
+    let high = starts-rise script m a (i + d) (suc (i + d)) (omega arith) (omega arith) in
+    rw e
+    (le-trans (kinds-up script m a i d (omega arith) (omega arith))
+    (above-kind script (i + d) (a .rising (suc (i + d)) (omega arith)) (omega arith)))
+
+pub kinds-rise : (script : List ℕ) (m : ℕ) → Ascending script m → (i j : ℕ) → i ≤ j → j < m
+    → fromAt script i ≡ fromAt script j → kindAt script i ≤ kindAt script j
+kinds-rise script m a i j l h same =
+    let e : i + (j - i) ≡ j = omega arith in
+    rw e at (kinds-up script m a i (j - i) (omega arith) (rw e same))

@@ -1,18 +1,14 @@
--- Where the links of a card stand, those from it and those to it, and how many of each kind there are; no part of a
+-- Where the links of a card stand, those from it and those to it, and how many of each kind lead to it; no part of a
 -- promise.
 -- StartsOf    where each card's links start; StartsAsked, SkipAsked: what finding that asks
 -- ArrivalsOf  the links to each card are chained; ChainAsked: what chaining them asks
--- kindCount   how many links of a row of links have a kind
--- LeavingAsked, ArrivingAsked   what counting the kinds of the links from a card, and of those to it, asks
+-- ArrivingAsked   what counting the kinds of the links to a card asks
 -- Arriving    what counting along a chain has found when it stands at a link
 -- Assumes nothing.
-use Prim.Native.Nat.{ℕ, zero, suc, _+_, _*_, _≤_, _<_}
-use mathlib.Core.Bool.{cond}
-use lib.Dec.{leb, eqb}
+use Prim.Native.Nat.{ℕ, _+_, _≤_, _<_}
 use mathlib.Core.Path.{_≡_}
 use mathlib.Core.List.{List}
 use lib.ListN.{length, getD}
-use Rattle.words.specs.Limits.{maxLinks}
 use Rattle.bags.specs.Label.{incoming}
 use Rattle.script.specs.Link.{kindAt, toAt, below}
 use Rattle.script.specs.Steps.{Within, Ascending}
@@ -45,17 +41,6 @@ pub record ChainAsked (script : List ℕ) (links : ℕ) (first next : List ℕ) 
   pub within : Within script 0 links
   pub cards : (i : ℕ) → i < links → toAt script i < length first
   pub blank : Blank first next links
-
--- Of the links from link lo on and below link hi, how many have the kind k.
-unfoldable pub kindCount : List ℕ → ℕ → ℕ → ℕ → ℕ
-kindCount script k lo zero = 0
-kindCount script k lo (suc i) = kindCount script k lo i + cond (leb lo i) (cond (eqb k (kindAt script i)) 1 0) 0
-
--- The links from link lo on and below link hi are in the script, and each kind of theirs has a count, which is 0.
-pub record LeavingAsked (script : List ℕ) (lo hi : ℕ) (counts : List ℕ) : Type 0 where
-  pub within : Within script lo hi
-  pub kinds : (i : ℕ) → lo ≤ i → i < hi → kindAt script i < length counts
-  pub zeros : (k : ℕ) → k < length counts → getD counts k 0 ≡ 0
 
 -- The links to a card are chained, they are in the script, and each kind of theirs has a count, which is 0.
 pub record ArrivingAsked (script first next : List ℕ) (links card : ℕ) (counts : List ℕ) : Type 0 where

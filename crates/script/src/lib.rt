@@ -1,12 +1,13 @@
 // Reading a script (a graph): its cards (nodes) and links (edges), the links of a card, and the cards with links.
 //   index     where the links from each card start, and the links to each card as a chain
-//   count     how many links of each kind a card has, from it and to it
+//   count     how many links of a kind a card has, from it and to it
 mod count;
 mod index;
 
 use board::fill;
 pub use count::count_arriving;
-pub use count::count_leaving;
+pub use count::count_off;
+pub use count::run_length;
 pub use index::chain;
 pub use index::link_starts;
 use template::TemplateAnswer;

@@ -29,7 +29,7 @@ pub enum SheetRead {
 }
 
 // Whether one of the entries names a shape.
-fn some_named(entries: &[u8]) -> bool
+pub fn some_named(entries: &[u8]) -> bool
     ensures { λ r. ⌜ (r ≡ false → (k : ℕ) → k < length (now (entries .entry)) → getD (now (entries .entry)) k 0 ≡ 0) ⌝ }
 {
     let mut k = 0;

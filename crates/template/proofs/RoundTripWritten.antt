@@ -1,5 +1,6 @@
 -- What is written is read: a part, a shape, and the shapes of a template.
 --   PartReady        what the part must be where it is read: with so many levels left, and with a row
+--   limit-read       the word for a high is read as that high
 --   part-written     the words of a part are read as the part, up to the place after them
 --   shape-opens, shape-starts   the words of a shape tell whether it is open, and where its part stands
 --   shapes-written   the words of shapes up to a template's end are read as their parts; shapes-open: and just those
@@ -37,7 +38,7 @@ limits-pass low (at-most high) h =
     simp (le-ltb _ _ a, ne-eqb _ _ d, le-ltb _ _ b, le-leb _ _ c)
 limits-pass low no-limit h = simp (le-ltb _ _ h)
 
-limit-read : (low : ℕ) (high : Limit) → LimitsIn low high → limitOf (writeLimit high) ≡ high
+pub limit-read : (low : ℕ) (high : Limit) → LimitsIn low high → limitOf (writeLimit high) ≡ high
 limit-read low (at-most high) h =
     let (a, b, c) = h in
     let d : high ≡ noLimit → ⊥ = omega arith in

@@ -187,7 +187,7 @@ pub fn open_at(words: &[u16], at: usize) -> bool
 }
 
 // Where the part of that shape starts: after the 18 of an open one, else after the count.
-fn part_at(words: &[u16], at: usize) -> usize
+pub fn part_at(words: &[u16], at: usize) -> usize
     requires { ⌜ at + 1 < length (now words) ⌝ }
     ensures { λ r. ⌜ r ≡ partAt (now (words .entry)) at ⌝ }
 {

@@ -17,7 +17,7 @@ pub struct Input {
     pub naive: bool,
 }
 
-/// The sheets on which both typings are timed. Only (d) and (e) name links that arrive.
+/// The first sheets on which both typings are timed. Only (d) and (e) name links that arrive.
 pub fn all() -> Result<Vec<Input>, String> {
     let programme = sheet::split(PROGRAMME).map_err(|refusal| format!("the worked example: {refusal}"))?;
     let input = |name, files, naive| Input { name, files, naive };
@@ -49,5 +49,19 @@ pub fn kept() -> [Input; 2] {
     [
         input("(f) all limits, no pair struck", heavy::densest().template),
         input("(g) the same, all shapes open", heavy::densest_open().template),
+    ]
+}
+
+/// Sheets of all limits with nested shapes, on which both typings are timed too: stars over choices, and alls of
+/// stars and pluses over alls of links.
+pub fn nested() -> [Input; 2] {
+    let input = |name, files| Input {
+        name,
+        files,
+        naive: true,
+    };
+    [
+        input("(h) all limits, choices", heavy::nested::choices()),
+        input("(i) all limits, stars over groups", heavy::nested::groups()),
     ]
 }

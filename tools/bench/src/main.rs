@@ -27,9 +27,11 @@ fn main() -> ExitCode {
             return ExitCode::from(2);
         }
     };
+    let nested = inputs::nested();
     print_head();
     // All sheets are timed, whether or not one before differs.
-    let differ = inputs.iter().filter(|input| !time(input)).count();
+    let timed = inputs.iter().chain(&nested);
+    let differ = timed.filter(|input| !time(input)).count();
     println!();
     if inputs.iter().any(|input| !input.naive) {
         println!(
@@ -37,7 +39,8 @@ fn main() -> ExitCode {
         );
     }
     println!();
-    let refused = time_judging(&inputs);
+    let kept = inputs::kept();
+    let refused = time_judging(inputs.iter().chain(&kept).chain(&nested));
     println!();
     if refused > 0 {
         println!("A largest typing is not accepted.");
@@ -52,12 +55,10 @@ fn main() -> ExitCode {
     ExitCode::SUCCESS
 }
 
-/// Times the judge on these sheets and on those with the most pairs to judge; how many it did not accept.
-fn time_judging(inputs: &[Input]) -> usize {
+/// Times the judge on these sheets; how many of their largest typings it did not accept.
+fn time_judging<'a>(inputs: impl Iterator<Item = &'a Input>) -> usize {
     judging::print_head();
-    let kept = inputs::kept();
-    let all = inputs.iter().chain(&kept);
-    all.filter(|input| !judging::time(input)).count()
+    inputs.filter(|input| !judging::time(input)).count()
 }
 
 /// What the columns are.

@@ -1,4 +1,7 @@
-//! The sheets that take longest, for timing.
+//! The sheets that take longest, for timing. `nested` has those whose shapes are choices, and stars and pluses of
+//! groups.
+
+pub mod nested;
 
 use super::parts::{filler, outgoing};
 use super::{bookings, scripts};
@@ -82,12 +85,17 @@ fn dense(ways: &[Way], template: Template) -> Files {
             links.insert((card, *kind, random.word(0, MOST_CARDS - 1)));
         }
     }
+    booked(&template, &links)
+}
+
+/// All cards with these links, and as many bookings as can be, one for each card.
+fn booked(template: &Template, links: &scripts::Links) -> Files {
     let booked: Vec<(Card, Shape)> = (0..MOST_BOOKINGS)
         .map(|card| (Card(card), Shape(card % MOST_SHAPES)))
         .collect();
     Files {
-        template: template::write(&template),
-        script: scripts::words(MOST_CARDS, &links),
+        template: template::write(template),
+        script: scripts::words(MOST_CARDS, links),
         bookings: bookings::words(&booked),
     }
 }

@@ -6,6 +6,7 @@
 //! | `edges`    | each refusal of a grid from both sides                                     |
 //! | `arriving` | links that arrive                                                          |
 //! | `open`     | open shapes                                                                |
+//! | `runs`     | counting the links of a card                                               |
 //! | `orders`   | several faults at once: which one is told                                  |
 //! | `typings`  | both typings of some sheets, typings between them, and what is a pair off  |
 //! | `limits`   | everything at its limit                                                    |
@@ -17,10 +18,11 @@ pub mod grids;
 pub mod limits;
 pub mod open;
 pub mod orders;
+pub mod runs;
 pub mod samples;
 pub mod typings;
 
-use super::counted;
+use super::{counted, flat, in_turn};
 use crate::random::Random;
 use crate::refusal::Refusal;
 use crate::samples::Counted;
@@ -97,6 +99,7 @@ pub fn fixed() -> Vec<JudgeCase> {
         edges::edges(),
         arriving::arriving(),
         open::open(),
+        runs::runs(),
         orders::orders(),
         typings::typings(),
         limits::limits(),
@@ -130,14 +133,28 @@ fn counts_of(counted: Vec<Counted>) -> Vec<JudgeCase> {
 
 /// The cases of one seed: the fixed ones first, then as many random ones as are asked for.
 pub fn cases(seed: u64, count: usize) -> impl Iterator<Item = JudgeCase> {
-    let mut random = Random::new(seed);
     fixed()
         .into_iter()
-        .chain(std::iter::repeat_with(move || case(&mut random)))
+        .chain(in_turn(seed, case, flat_case))
         .take(count)
 }
 
-/// One random case: a whole sheet, or one with a faulty file.
+/// One random case that is about counting: a whole sheet.
+fn flat_case(random: &mut Random) -> JudgeCase {
+    let scale = flat::scale(random);
+    let files = flat::flat(random, scale);
+    let (name, grid) = match read(&files) {
+        Ok((setting, booked)) => grids::whole(random, &setting, &booked),
+        Err(refusal) => panic!("a generated sheet has a fault, {refusal}"),
+    };
+    JudgeCase {
+        name: format!("flat-{}-{name}", scale.name),
+        files,
+        grid,
+    }
+}
+
+/// One random case that isn't about counting: a whole sheet, or one with a faulty file.
 pub fn case(random: &mut Random) -> JudgeCase {
     let is_whole = random.chance(5, 6);
     loop {

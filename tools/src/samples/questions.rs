@@ -1,13 +1,15 @@
 //! Questions for *Fit counts*, answered by enumeration of bags: fixed ones, and small random ones.
 
 use super::{one_shape, opened, spaced, turned};
-use crate::fit::{self, lines::written};
+use crate::fit::{self, intervals::fits, lines::written};
 use crate::generate::arriving::GUESTS;
-use crate::generate::openings;
 use crate::generate::parts::{draw, outgoing, small_bounds, Drawn, PartMaker};
+use crate::generate::{openings, runs};
 use crate::labels::{Label, Labelled};
+use crate::numbers::Shape;
 use crate::random::Random;
-use crate::template::{self, Definition, Part, Template, MOST_COUNT, MOST_KINDS};
+use crate::template::{self, Definition, Link, Part, Template, MOST_COUNT, MOST_KINDS};
+use crate::typing::Setting;
 
 /// A question for *Fit counts*.
 #[derive(Clone, Debug)]
@@ -22,7 +24,7 @@ pub struct Question {
 
 /// The questions that are the same for every seed: the samples both ways, closed and open, alone and with counts that
 /// are ignored; the page's items and guests; as many counts as there should be, and others; the first count that is
-/// too large; and open shapes.
+/// too large; open shapes; and the shapes of the sheets of runs.
 pub fn fixed() -> Vec<Question> {
     let mut questions = Vec::new();
     for (_, shape, counts) in [turned(), opened()].concat() {
@@ -50,6 +52,7 @@ pub fn fixed() -> Vec<Question> {
         questions.extend(too_large(&one_shape(2, shape(outgoing(0, 0, 0, None)))));
     }
     questions.extend(open());
+    questions.extend(of_runs());
     questions
 }
 
@@ -122,6 +125,36 @@ fn open() -> Vec<Question> {
     let rows = rows.into_iter();
     rows.map(|(template, shape, counts)| asked(template, shape, counts))
         .collect()
+}
+
+/// The shapes of the sheets of runs, but for the last ones, with the counts of a card that fits and of one that
+/// doesn't by turns.
+fn of_runs() -> Vec<Question> {
+    let to_itself = |link: Link| Link {
+        shape: Shape(0),
+        ..link
+    };
+    let mut questions = Vec::new();
+    for (_, files) in runs::small() {
+        let Ok(setting) = Setting::read(&files.template, &files.script) else {
+            continue;
+        };
+        let (kinds, shapes) = (setting.template.kinds, &setting.template.definitions);
+        let of_card = |card| setting.script.counts_of(card, kinds);
+        for shape in &shapes[..shapes.len() - 1] {
+            let is_fitting = questions.len() % 2 == 0;
+            let fitting = setting
+                .cards()
+                .map(of_card)
+                .filter(|counts| fits(shape, counts) == is_fitting);
+            if let Some(counts) = fitting.last() {
+                let part = shape.part.with_links(&to_itself);
+                let alone = one_shape(kinds, Definition { part, ..*shape });
+                questions.push(asked(&alone, 0, counts.values()));
+            }
+        }
+    }
+    questions
 }
 
 /// A random question with 1 to 3 kinds, parts that name up to 3 labels, and counts 0 to 4 of them.

@@ -1,15 +1,17 @@
 -- The proof of the cycle of calls {part, run}. The measure is the words left, times more than a count of parts can be,
 -- and the count of a run.
 -- Assumes nothing.
-use Prim.Native.Nat.{ℕ, _<_, _≤_, _+_, _-_, _*_}
+use Prim.Native.Nat.{ℕ, _<_, _+_, _-_, _*_}
+use mathlib.Core.Path.{refl}
 use borrow.Author.Needs.{needs}
 use native.Mathlib.Omega.{arith}
 use lib.ListN.{length}
-use Rattle.words.specs.Limits.{maxTemplate}
 use Rattle.counts.proofs.Sizes.{next-bound}
 use Rattle.counts.proofs.Evaluations.{part-small, run-small}
 use Rattle.counts.proofs.Steps.{part-deep, part-past, part-nothing, part-low, part-middle, part-high}
-use Rattle.counts.proofs.Steps.{part-single, part-group, part-link, run-none, run-more}
+use Rattle.counts.proofs.Steps.{part-single, part-group, part-link, run-none, run-more, rest-at, rest-none}
+use Rattle.counts.proofs.Steps.{run-joined}
+use Rattle.counts.proofs.Stretches.{stretch-end}
 use borrow.Fn.Kinds.{In}
 use borrow.Fn.PlainCycle.{Measures, is, falls, and}
 use Rattle.counts.proofs.part.Reads as part
@@ -19,42 +21,42 @@ use Rattle.counts.proofs.run.Reads as run
 use Rattle.counts.proofs.run.Kinds as run-kinds
 use Rattle.counts.proofs.+part+run.Lts-run as run-lts
 use Rattle.counts.proofs.join.Reads as join-reads
+use Rattle.counts.proofs.join_links.Reads as join-links-reads
 use Rattle.counts.proofs.link.Reads as link-reads
 use Rattle.counts.proofs.none.Reads as none-reads
 use Rattle.counts.proofs.nothing.Reads as nothing-reads
 use Rattle.words.proofs.wide.Reads as wide-reads
+use Rattle.counts.proofs.stretch.Reads as stretch-reads
 use Rattle.counts.proofs.word.Reads as word-reads
 use Rattle.counts.proofs.wrap.Reads as wrap-reads
 use Rattle.counts.proofs.+part+run.{statement}
 use Rattle.counts.proofs.+part+run.Tie.{close}
 
-abbrev μ-part : Measures 2 part-kinds.ps ℕ
-μ-part κs a = 65537 * (length (a .0 .now) - a .1 .1 .0)
+abbrev μ-part : Measures 3 part-kinds.ps ℕ
+μ-part κs a = 65537 * (length (a .0 .now) - a .1 .1 .1 .0)
 
-abbrev μ-run : Measures 2 run-kinds.ps ℕ
-μ-run κs a = 65537 * (length (a .0 .now) - a .1 .1 .0) + a .1 .1 .1 .1 .0 + 1
+abbrev μ-run : Measures 3 run-kinds.ps ℕ
+μ-run κs a = 65537 * (length (a .0 .now) - a .1 .1 .1 .0) + a .1 .1 .1 .1 .1 .0 + 1
 
 -- what `part` is given at the measure t, and what a call of it asks below t
-abbrev part-at : ℕ → In 2 part-kinds.ps
-part-at t = and 2 part-kinds.ps (is 2 part-kinds.ps μ-part t) part.Pre
+abbrev part-at : ℕ → In 3 part-kinds.ps
+part-at t = and 3 part-kinds.ps (is 3 part-kinds.ps μ-part t) part.Pre
 
-abbrev part-below : ℕ → In 2 part-kinds.ps
-part-below t = and 2 part-kinds.ps (falls 2 part-kinds.ps _<_ μ-part t) part.Pre
+abbrev part-below : ℕ → In 3 part-kinds.ps
+part-below t = and 3 part-kinds.ps (falls 3 part-kinds.ps _<_ μ-part t) part.Pre
 
 -- what `run` is given at the measure t, and what a call of it asks below t
-abbrev run-at : ℕ → In 2 run-kinds.ps
-run-at t = and 2 run-kinds.ps (is 2 run-kinds.ps μ-run t) run.Pre
+abbrev run-at : ℕ → In 3 run-kinds.ps
+run-at t = and 3 run-kinds.ps (is 3 run-kinds.ps μ-run t) run.Pre
 
-abbrev run-below : ℕ → In 2 run-kinds.ps
-run-below t = and 2 run-kinds.ps (falls 2 run-kinds.ps _<_ μ-run t) run.Pre
+abbrev run-below : ℕ → In 3 run-kinds.ps
+run-below t = and 3 run-kinds.ps (falls 3 run-kinds.ps _<_ μ-run t) run.Pre
 
 -- the contracts that `part` goes by
 abbrev part-claims : ℕ → part-lts.Claims
 part-claims t = (
   nothing-reads.Asked,
   nothing-reads.Learnt,
-  wide-reads.Asked,
-  wide-reads.Learnt,
   link-reads.Asked,
   link-reads.Learnt,
   part-below t,
@@ -72,12 +74,18 @@ abbrev run-claims : ℕ → run-lts.Claims
 run-claims t = (
   none-reads.Asked,
   none-reads.Learnt,
+  stretch-reads.Asked,
+  stretch-reads.Learnt,
   part-below t,
   part.Post,
   run-below t,
   run.Post,
   join-reads.Asked,
   join-reads.Learnt,
+  wide-reads.Asked,
+  wide-reads.Learnt,
+  join-links-reads.Asked,
+  join-links-reads.Learnt,
 )
 
 module _ (t : ℕ) where
@@ -108,16 +116,12 @@ module _ (t : ℕ) where
   part-returns-3 : part-lts.Need-returns-3 (part-claims t) (part-at t) part.Post
   part-returns-3 c = part-high _ _ _ _ _ (omega arith) (omega arith) (omega arith) (c .nothing3 .ensures _ _)
 
-  part-wide-requires : part-lts.Need-wide-requires (part-claims t) (part-at t) part.Post
-  part-wide-requires c κs = search needs
-
   part-link-requires : part-lts.Need-link-requires (part-claims t) (part-at t) part.Post
   part-link-requires c κs = search needs
 
   part-returns-4 : part-lts.Need-returns-4 (part-claims t) (part-at t) part.Post
   part-returns-4 c =
-      part-link _ _ _ _ _ (omega arith) (omega arith) _ (c .before .wide .ensures .same) (omega arith) (omega arith)
-      (c .link .ensures)
+      part-link _ _ _ _ _ (omega arith) (omega arith) _ refl (omega arith) (omega arith) (c .link .ensures)
 
   part-add-nothing-2 : part-lts.Need-add-nothing-2 (part-claims t) (part-at t) part.Post
   part-add-nothing-2 c = search needs
@@ -190,7 +194,10 @@ module _ (t : ℕ) where
 
   run-returns : run-lts.Need-returns (run-claims t) (run-at t) run.Post
   run-returns c =
-      run-none _ _ _ _ _ (c .before .before .before .before .args .code) _ (omega arith) (c .none .ensures _ _)
+      run-none _ _ _ _ _ (c .before .before .before .before .before .args .code) _ (omega arith) (c .none .ensures _ _)
+
+  run-stretch-requires : run-lts.Need-stretch-requires (run-claims t) (run-at t) run.Post
+  run-stretch-requires c κs = search needs
 
   run-part-requires : run-lts.Need-part-requires (run-claims t) (run-at t) run.Post
   run-part-requires c κs = search needs
@@ -200,33 +207,101 @@ module _ (t : ℕ) where
 
   run-run-requires : run-lts.Need-run-requires (run-claims t) (run-at t) run.Post
   run-run-requires c κs =
-      let a = c .before .before .before .before .args in
-      omega (arith, next-bound (a .words .now) (a .left) (a .at), c .part .ensures .next)
+      let s = c .before .before .before .before .before .before .before in
+      (omega (arith, next-bound (s .args .words .now) (s .args .left) (s .args .at), c .part .ensures .next), s .pre .1)
 
   run-join-requires : run-lts.Need-join-requires (run-claims t) (run-at t) run.Post
   run-join-requires c κs =
-      let a = c .before .before .before .before .before .args in
-      let b : length (a .words .now) ≤ maxTemplate = omega arith in
+      let s = c .before .before .before .before .before .before .before .before in
+      let short = s .pre .1 .short in
       record {
-        first = part-small _ _ _ b _ _ (c .before .part .ensures);
-        second = run-small _ _ _ b _ _ (a .code) _ (c .run .ensures);
+        first = part-small _ _ _ short _ _ (c .before .part .ensures);
+        second = run-small _ _ _ short _ _ (s .args .code) _ (c .run .ensures);
       }
 
   run-returns-2 : run-lts.Need-returns-2 (run-claims t) (run-at t) run.Post
   run-returns-2 c =
-      run-more _ _ _ _ _ (c .before .before .before .before .before .before .args .code) _ _ _ (omega arith)
-      (c .before .before .part .ensures) (c .before .run .ensures) (c .join .ensures)
+      run-more _ _ _ _ _ (c .before .before .before .before .before .before .before .before .before .args .code) _ _ _
+      (omega arith) (c .before .before .part .ensures) (c .before .run .ensures) (c .join .ensures)
+
+  run-wide-requires : run-lts.Need-wide-requires (run-claims t) (run-at t) run.Post
+  run-wide-requires c κs = search needs
+
+  run-mul-next : run-lts.Need-mul-next (run-claims t) (run-at t) run.Post
+  run-mul-next c = search needs
+
+  run-add-next : run-lts.Need-add-next (run-claims t) (run-at t) run.Post
+  run-add-next c =
+      let s = c .before .before .before .before .before .before .before in
+      let end = stretch-end _ _ _ _ _ (c .before .before .stretch .ensures) (s .pre .1 .short) in
+      search needs
+
+  run-none-requires-2 : run-lts.Need-none-requires-2 (run-claims t) (run-at t) run.Post
+  run-none-requires-2 c κs = search needs
+
+  run-join-links-requires : run-lts.Need-join-links-requires (run-claims t) (run-at t) run.Post
+  run-join-links-requires c κs =
+      let s = c .before .before .before .before .before .before .before .before .before in
+      let links = c .before .before .before .before .stretch .ensures in
+      record {
+        ready = s .pre .1;
+        each = links .each;
+        left = s .args .left;
+        parts = 0;
+        level = links .level (omega arith);
+        after = rest-none _ _ _ _ (s .args .code) _ _ _ (omega arith) (c .none2 .ensures _ _);
+      }
+
+  run-returns-3 : run-lts.Need-returns-3 (run-claims t) (run-at t) run.Post
+  run-returns-3 c =
+      let s = c .before .before .before .before .before .before .before .before .before .before in
+      let links = c .before .before .before .before .before .stretch .ensures in
+      run-joined _ _ _ _ (s .args .code) _ _ 0 _ _ (links .level (omega arith)) (omega arith)
+      (rest-none _ _ _ _ (s .args .code) _ _ _ (omega arith) (c .before .none2 .ensures _ _)) (c .join-links .ensures)
+
+  run-sub-run-2 : run-lts.Need-sub-run-2 (run-claims t) (run-at t) run.Post
+  run-sub-run-2 c = c .before .before .before .stretch .ensures .few
+
+  run-run-requires-2 : run-lts.Need-run-requires-2 (run-claims t) (run-at t) run.Post
+  run-run-requires-2 c κs =
+      let s = c .before .before .before .before .before .before .before .before in
+      let links = c .before .before .before .stretch .ensures in
+      let first = links .each 0 (omega arith) in
+      (omega (arith, first .inside, links .few), s .pre .1)
+
+  run-join-links-requires-2 : run-lts.Need-join-links-requires-2 (run-claims t) (run-at t) run.Post
+  run-join-links-requires-2 c κs =
+      let s = c .before .before .before .before .before .before .before .before .before in
+      let links = c .before .before .before .before .stretch .ensures in
+      record {
+        ready = s .pre .1;
+        each = links .each;
+        left = s .args .left;
+        parts = _;
+        level = links .level (omega arith);
+        after = rest-at _ _ _ _ (s .args .code) _ _ _ _ (omega arith) (c .run2 .ensures);
+      }
+
+  run-returns-4 : run-lts.Need-returns-4 (run-claims t) (run-at t) run.Post
+  run-returns-4 c =
+      let s = c .before .before .before .before .before .before .before .before .before .before in
+      let links = c .before .before .before .before .before .stretch .ensures in
+      run-joined _ _ _ _ (s .args .code) _ _ _ _ _ (links .level (omega arith)) (omega (arith, links .few))
+      (rest-at _ _ _ _ (s .args .code) _ _ _ _ (omega arith) (c .before .run2 .ensures)) (c .join-links2 .ensures)
 
 pub +part+run-spec : {M : Type 1} → statement M
 +part+run-spec =
     close μ-part μ-run
     (λ t. part-lts.spec (part-claims t) (part-at t) part.Post (part-nothing-requires t) (part-returns t)
     (part-nothing-requires-2 t) (part-returns-2 t) (part-mul-code t) (part-shared-slice-read-code t)
-    (part-add-nothing t) (part-nothing-requires-3 t) (part-returns-3 t) (part-wide-requires t)
+    (part-add-nothing t) (part-nothing-requires-3 t) (part-returns-3 t)
     (part-link-requires t) (part-returns-4 t) (part-add-nothing-2 t) (part-nothing-requires-4 t)
     (part-add-part t) (part-sub-part t) (part-part-requires t) (part-wrap-requires t) (part-add-nothing-3 t)
     (part-nothing-requires-5 t) (part-add-run t) (part-sub-run t) (part-add-word t) (part-word-requires t)
     (part-run-requires t) (part-add-nothing-4 t) (part-nothing-requires-6 t) (part-returns-5 t)
     (part-returns-6 t) (part-returns-7 t) (part-returns-8 t) (part-returns-9 t))
     (λ t. run-lts.spec (run-claims t) (run-at t) run.Post (run-none-requires t) (run-returns t)
-    (run-part-requires t) (run-sub-run t) (run-run-requires t) (run-join-requires t) (run-returns-2 t))
+    (run-stretch-requires t) (run-part-requires t) (run-sub-run t) (run-run-requires t) (run-join-requires t)
+    (run-returns-2 t) (run-wide-requires t) (run-mul-next t) (run-add-next t) (run-none-requires-2 t)
+    (run-join-links-requires t) (run-returns-3 t) (run-sub-run-2 t) (run-run-requires-2 t)
+    (run-join-links-requires-2 t) (run-returns-4 t))

@@ -62,23 +62,23 @@ spread-requires c κs =
     let high = template-accepted _ t e .kinds-high in
     record { few = omega arith; each-way = omega arith; zeros = refl }
 
-sub-fits : tie.Need-sub-fits
-sub-fits c = search needs
+sub-list-fits : tie.Need-sub-list-fits
+sub-list-fits c = search needs
 
-part-fits-start : tie.Need-part-fits-start
-part-fits-start c = search needs
+part-list-fits-start : tie.Need-part-list-fits-start
+part-list-fits-start c = search needs
 
-part-fits-end : tie.Need-part-fits-end
-part-fits-end c =
+part-list-fits-end : tie.Need-part-list-fits-end
+part-list-fits-end c =
     let (t, e, kinds, shapes) = template-read _ _ _ (entry (c .before .before .before) .pre .said) in
     let high = template-accepted _ t e .shapes-high in
     omega arith
 
-slice-aggregate-fits : tie.Need-slice-aggregate-fits
-slice-aggregate-fits c = search needs
+slice-aggregate-list-fits : tie.Need-slice-aggregate-list-fits
+slice-aggregate-list-fits c = search needs
 
-fits-requires : tie.Need-fits-requires
-fits-requires c κs =
+list-fits-requires : tie.Need-list-fits-requires
+list-fits-requires c κs =
     let spread = c .before .before .before in
     let found = spread .before .before in
     let start = entry found in
@@ -97,7 +97,8 @@ returns-4 c =
     let over = found .before .before .before in
     let (t, e, kinds, shapes) = template-read _ _ _ (entry found .pre .said) in
     fit-yes _ _ _ t e (omega arith) (omega arith) _ (over .first-over .ensures) (found .before .before .if3 .left) _ _ _
-    (omega arith) (spread .spread .ensures) (found .shape-place .ensures) _ (c .before .fits2 .ensures) (c .if4 .taken)
+    (omega arith) (spread .spread .ensures) (found .shape-place .ensures) _
+    (c .before .list-fits .ensures) (c .if4 .taken)
 
 returns-5 : tie.Need-returns-5
 returns-5 c =
@@ -106,7 +107,8 @@ returns-5 c =
     let over = found .before .before .before in
     let (t, e, kinds, shapes) = template-read _ _ _ (entry found .pre .said) in
     fit-no _ _ _ t e (omega arith) (omega arith) _ (over .first-over .ensures) (found .before .before .if3 .left) _ _ _
-    (omega arith) (spread .spread .ensures) (found .shape-place .ensures) _ (c .before .fits2 .ensures) (c .if4 .left)
+    (omega arith) (spread .spread .ensures) (found .shape-place .ensures) _
+    (c .before .list-fits .ensures) (c .if4 .left)
 
 pub fit-accepted-spec : {M : Type 1} → statement M
 fit-accepted-spec =
@@ -124,10 +126,10 @@ fit-accepted-spec =
     shape-place-requires
     slice-aggregate-spread
     spread-requires
-    sub-fits
-    part-fits-start
-    part-fits-end
-    slice-aggregate-fits
-    fits-requires
+    sub-list-fits
+    part-list-fits-start
+    part-list-fits-end
+    slice-aggregate-list-fits
+    list-fits-requires
     returns-4
     returns-5)

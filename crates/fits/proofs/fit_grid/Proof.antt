@@ -1,94 +1,119 @@
--- `fits::fit_grid` meets its contract. The invariant: the cards before the loop's have their rows. The measure is the
--- count of cards left. Assumes nothing.
-use Prim.Native.Nat.{ℕ, _*_, _-_, _≤_}
-use mathlib.Core.Path.{ap₂, _∙_}
-use native.Mathlib.Omega.{arith}
+-- `fits::fit_grid` meets its contract. The invariant: the loop is at the shape's place, and the shapes before it have
+-- their columns. The measure is the count of shapes left. Assumes nothing.
 use borrow.Author.Needs.{needs}
-use Rattle.words.specs.Limits.{maxShapes}
-use Rattle.words.specs.Sizes.{maxGrid}
-use Rattle.fits.proofs.Cells.{RowsFitted, rows-start, row-inside, row-length, rows-next, rows-end, pairs-bound}
+use Prim.Native.Nat.{_-_, _<_}
+use native.Mathlib.Omega.{arith}
+use denote.Ref.{now}
+use Rattle.sheet.specs.Opened.{templateAs}
+use Rattle.fits.proofs.Rows.{row-inside, row-named}
+use Rattle.fits.proofs.Planning.{ShapeIn, shape-in}
+use Rattle.fits.proofs.Cells.{ShapesFitted, shapes-start, shapes-next, shapes-end}
 use Rattle.fits.proofs.fit_grid.Statement.{statement}
 use Rattle.fits.proofs.fit_grid.Tie as tie
 
 abbrev Inv-loop : tie.InvT-loop
-Inv-loop template script names starts first next e grid₀ cards shapes n₀ grid n =
-    RowsFitted template script e cards shapes grid n
+Inv-loop template script names starts first next e grid₀ shapes at₀ t₀ grid at t =
+    ShapesFitted template script e grid at t
 
 abbrev μ-loop : tie.MeasureT-loop
-μ-loop template script names starts first next e grid₀ cards shapes n₀ grid n = cards - n
+μ-loop template script names starts first next e grid₀ shapes at₀ t₀ grid at t = shapes - t
 
--- The function's start, from the point where both counts are read.
-abbrev start : tie.After-wide2 Inv-loop μ-loop → tie.Start Inv-loop μ-loop
-start a = a .before .before .before .before .before .before .before .before .before
+-- The function's start, from where the count of shapes is read.
+abbrev start : tie.After-wide Inv-loop μ-loop → tie.Start Inv-loop μ-loop
+start a = a .before .before .before .before .before .before .before .before
 
--- How many pairs lie before the card that the loop is at.
-bounds : (c : tie.In-loop Inv-loop μ-loop) →
-    let shapes = c .before .before .wide2 .result in
-    (c .before .loop .n * shapes ≤ maxGrid) × (shapes ≤ maxShapes)
-bounds c =
-    let a = c .before .before in
-    let opened = start a .pre .sheet .known .opened in
-    pairs-bound _ _ _ _ _ _ opened (a .before .wide .ensures .same) (a .wide2 .ensures .same) (omega arith)
+-- The loop's shape is one of the template's.
+below : (c : tie.In-loop Inv-loop μ-loop) → c .before .loop .t < start (c .before .before) .args .e .shapes
+below c = omega (arith, c .before .before .wide .ensures .same)
+
+-- Where its words lie, and its row.
+shape-of : (c : tie.In-loop Inv-loop μ-loop) →
+    ShapeIn (now (start (c .before .before) .args .template)) (c .before .loop .at)
+shape-of c =
+    let o = start (c .before .before) .pre .sheet .known .opened in
+    shape-in _ (templateAs _ _ (o .parts)) (o .template-read) _ (below c) _ (c .before .loop .inv .place)
 
 wide-requires : tie.Need-wide-requires Inv-loop μ-loop
 wide-requires c κs = search needs
 
+loop-holds : tie.Need-loop-holds Inv-loop μ-loop
+loop-holds c = shapes-start _ _ (start c .args .e) _ (start c .pre .size)
+
+mul-base : tie.Need-mul-base Inv-loop μ-loop
+mul-base c =
+    let s = start (c .before .before) in
+    let row = row-inside _ _ _ (s .args .e) (s .pre .sheet .known) _ (below c) in
+    let room = s .pre .sheet .known .room in
+    search needs
+
+add-end : tie.Need-add-end Inv-loop μ-loop
+add-end c =
+    let s = start (c .before .before) in
+    let row = row-inside _ _ _ (s .args .e) (s .pre .sheet .known) _ (below c) in
+    let room = s .pre .sheet .known .room in
+    search needs
+
+sub-fit-shape : tie.Need-sub-fit-shape Inv-loop μ-loop
+sub-fit-shape c = search needs
+
+part-fit-shape-start : tie.Need-part-fit-shape-start Inv-loop μ-loop
+part-fit-shape-start c = search needs
+
+part-fit-shape-end : tie.Need-part-fit-shape-end Inv-loop μ-loop
+part-fit-shape-end c =
+    let s = start (c .before .before) in
+    let row = row-inside _ _ _ (s .args .e) (s .pre .sheet .known) _ (below c) in
+    search needs
+
+fit-shape-requires : tie.Need-fit-shape-requires Inv-loop μ-loop
+fit-shape-requires c κs =
+    let i = c .before .before in
+    let l = i .before in
+    let s = start (l .before) in
+    let ready = s .pre .sheet in
+    record {
+      opened = ready .known .opened;
+      leaving = ready .leaving;
+      arriving = ready .arriving;
+      named = row-named _ _ _ (s .args .e) (ready .known) _ (below i) _ (l .loop .inv .place);
+      size = l .loop .inv .size;
+    }
+
+add-at : tie.Need-add-at Inv-loop μ-loop
+add-at c = let i = shape-of (c .before .before .before .before .before) in search needs
+
+mul-wide : tie.Need-mul-wide Inv-loop μ-loop
+mul-wide c = let i = shape-of (c .before .before .before .before .before) in search needs
+
+shared-slice-read-wide : tie.Need-shared-slice-read-wide Inv-loop μ-loop
+shared-slice-read-wide c = let i = shape-of (c .before .before .before .before .before .before) in search needs
+
 wide-requires-2 : tie.Need-wide-requires-2 Inv-loop μ-loop
 wide-requires-2 c κs = search needs
 
-loop-holds : tie.Need-loop-holds Inv-loop μ-loop
-loop-holds c =
-    rows-start _ _ _ _ _ _ (rw (c .before .wide .ensures .same, c .wide2 .ensures .same) (start c .pre .size))
+add-at-2 : tie.Need-add-at-2 Inv-loop μ-loop
+add-at-2 c = let i = shape-of (c .before .before .before .before .before .before .before) in search needs
 
-mul-base : tie.Need-mul-base Inv-loop μ-loop
-mul-base c = let b = bounds c in search needs
-
-add-end : tie.Need-add-end Inv-loop μ-loop
-add-end c = let b = bounds c in search needs
-
-sub-fit-row : tie.Need-sub-fit-row Inv-loop μ-loop
-sub-fit-row c = search needs
-
-part-fit-row-start : tie.Need-part-fit-row-start Inv-loop μ-loop
-part-fit-row-start c = search needs
-
-part-fit-row-end : tie.Need-part-fit-row-end Inv-loop μ-loop
-part-fit-row-end c =
-    let b = row-inside _ _ _ _ _ _ _ (c .before .loop .inv) (omega arith) in
-    search needs
-
-fit-row-requires : tie.Need-fit-row-requires Inv-loop μ-loop
-fit-row-requires c κs =
-    let l = c .before .before in
-    let a = l .before in
-    let size = row-length _ _ _ _ _ _ _ (l .loop .inv) (omega arith) in
-    let shapes = a .wide2 .ensures .same in
-    record { sheet = start a .pre .sheet; below = omega arith; size = size ∙ shapes }
-
-add-n : tie.Need-add-n Inv-loop μ-loop
-add-n c = search needs
+add-t : tie.Need-add-t Inv-loop μ-loop
+add-t c = search needs
 
 loop-less : tie.Need-loop-less Inv-loop μ-loop
 loop-less c = search needs
 
 loop-again : tie.Need-loop-again Inv-loop μ-loop
 loop-again c =
-    let r = c .before .before in
-    let a = r .before .before .before in
-    rows-next _ _ _ _ _ _ _ (a .loop .inv) (omega arith) (r .fit-row .last .1 .1 .1 .1 .1 .1 .1 .1 .0)
-    (c .before .grid .given .0) (a .before .wide2 .ensures .same) (r .fit-row .ensures)
+    let i = c .before .before .before .before .before .before .before in
+    let l = i .before in
+    shapes-next _ _ (start (l .before) .args .e) _ _ _ _ (l .loop .inv) (below i) (c .wide2 .ensures .same) _
+    (c .before .before .before .before .fit-shape .ensures)
 
 same-length : tie.Need-same-length Inv-loop μ-loop
-same-length c =
-    let a = c .before .before in
-    let size = ap₂ (λ (x y : ℕ). x * y) (a .before .wide .ensures .same) (a .wide2 .ensures .same) in
-    search needs
+same-length c = search needs
 
 returns : tie.Need-returns Inv-loop μ-loop
 returns c =
-    let a = c .before .before in
-    rows-end _ _ _ _ _ _ _ (c .before .loop .inv) (omega arith) (a .before .wide .ensures .same)
-    (a .wide2 .ensures .same)
+    let l = c .before in
+    shapes-end _ _ (start (l .before) .args .e) _ _ _ (l .loop .inv) (omega (arith, l .before .wide .ensures .same))
 
 pub fit-grid-spec : {M : Type 1} → statement M
 fit-grid-spec =
@@ -97,15 +122,19 @@ fit-grid-spec =
     Inv-loop
     μ-loop
     wide-requires
-    wide-requires-2
     loop-holds
     mul-base
     add-end
-    sub-fit-row
-    part-fit-row-start
-    part-fit-row-end
-    fit-row-requires
-    add-n
+    sub-fit-shape
+    part-fit-shape-start
+    part-fit-shape-end
+    fit-shape-requires
+    add-at
+    mul-wide
+    shared-slice-read-wide
+    wide-requires-2
+    add-at-2
+    add-t
     loop-less
     loop-again
     same-length

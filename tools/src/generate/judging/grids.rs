@@ -21,6 +21,16 @@ pub fn grid(random: &mut Random, setting: &Setting, booked: &[Pair]) -> (&'stati
     }
 }
 
+/// A grid whose size and bytes are right.
+pub fn whole(random: &mut Random, setting: &Setting, booked: &[Pair]) -> (&'static str, Grid) {
+    match random.below(8) {
+        0..=2 => sound(random, setting, booked),
+        3..=5 => ("flipped", flipped(random, setting, booked)),
+        6 => ("fitting", fitting(setting)),
+        _ => ("all", vec![1; setting.size()]),
+    }
+}
+
 /// A grid that is sound if the bookings can be met.
 fn sound(random: &mut Random, setting: &Setting, booked: &[Pair]) -> (&'static str, Grid) {
     match random.below(8) {

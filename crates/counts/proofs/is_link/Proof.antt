@@ -1,0 +1,47 @@
+-- `is_link` meets its contract. Assumes nothing.
+use lib.ListN.{getD}
+use native.Mathlib.Omega.{arith}
+use mathlib.Core.Bool.{false≢true}
+use borrow.Author.Tests.{ltb-true}
+use borrow.Author.Needs.{needs}
+use Rattle.counts.proofs.is_link.Statement.{statement}
+use Rattle.counts.proofs.is_link.Tie as tie
+
+returns : tie.Need-returns
+returns c e = absurd (false≢true e)
+
+mul-if2 : tie.Need-mul-if2
+mul-if2 c = search needs
+
+shared-slice-read-if2 : tie.Need-shared-slice-read-if2
+shared-slice-read-if2 c = search needs
+
+returns-2 : tie.Need-returns-2
+returns-2 c e = absurd (false≢true e)
+
+mul-result : tie.Need-mul-result
+mul-result c = search needs
+
+shared-slice-read-result : tie.Need-shared-slice-read-result
+shared-slice-read-result c = search needs
+
+returns-3 : tie.Need-returns-3
+returns-3 c e =
+    let a = c .before .before .before .before .args in
+    record {
+      inside = omega arith;
+      low = omega arith;
+      high = omega (arith, ltb-true (getD (a .words .now) (a .at) 0) 384 e);
+    }
+
+pub is-link-spec : {M : Type 1} → statement M
+is-link-spec =
+    tie.close
+    (tie.spec
+    returns
+    mul-if2
+    shared-slice-read-if2
+    returns-2
+    mul-result
+    shared-slice-read-result
+    returns-3)

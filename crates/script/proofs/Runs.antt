@@ -1,0 +1,325 @@
+-- The links of one card, three words each, which stand sorted by kind.
+-- third               how many links so many words are; kinds-all: their kinds are counted over all of them
+-- kinds-none, kinds-some, kinds-bound   how many have a kind: none where no link has it, one at least, no more than all
+-- RunTo               the links counted of a run; run-start, run-more, run-ends: the first, one more, the whole run
+-- run-counted         the first run of a kind is all that have it
+-- CountedOff          where counting a kind stands; off-start, off-same, off-other, off-above, off-done: its steps
+-- amount-counted, amount-listed, amount-bound   the count of a label
+-- card-kind, card-rise, card-many, card-kinds   a card's part of a script: its kinds, that they rise, how many links
+-- there are, and how many have each kind
+-- Assumes nothing.
+use Prim.Native.Nat.{ℕ, zero, suc, _+_, _-_, _*_, _/_, _≤_, _<_}
+use mathlib.Core.Path.{_≡_, refl, sym, ap, _∙_}
+use mathlib.Core.Logic.{⊎-elim}
+use mathlib.Core.Bool.{Bool, true, false}
+use mathlib.Core.List.{List}
+use native.Mathlib.Omega.{arith}
+use native.Mathlib.Nat.{add-zero, add-suc, div-eq-of-eq-mul-right}
+use native.Mathlib.Numerals.{add-one}
+use lib.ListN.{length, getD, take, drop, length-take, length-drop}
+use lib.Seq.{getD-take, getD-drop}
+use lib.Dec.{eqb}
+use borrow.Author.Tests.{lt-ltb, le-ltb, eq-eqb, ne-eqb}
+use Rattle.words.specs.Limits.{maxLabels, maxLinks}
+use Rattle.words.proofs.Bools.{le-or-lt, eq-or-ne}
+use Rattle.bags.specs.Label.{outgoing}
+use Rattle.board.specs.Grid.{tally}
+use Rattle.board.proofs.Tally.{tally-zero, tally-hit, tally-miss, tally-le, tally-none, tally-pos}
+use Rattle.script.specs.Link.{fromAt, kindAt, below}
+use Rattle.script.specs.Steps.{Ascending, Within}
+use Rattle.script.specs.Counts.{wayCount}
+use Rattle.script.specs.Runs.{kindIn, kindsIn, amount, KindsRise, RunOf, RunAsked}
+use Rattle.script.proofs.Order.{starts-rise, kinds-rise}
+use Rattle.script.proofs.Cards.{below-le, below-low, below-high, starts-exact, part-within}
+use Rattle.script.proofs.Counts.{way-count-same, way-count-kind, way-count-skip}
+
+-- ---- how many have a kind
+-- Three words are a link.
+pub third : (links : List ℕ) (many : ℕ) → length links ≡ 3 * many → length links / 3 ≡ many
+third links many size = div-eq-of-eq-mul-right (omega arith) size
+
+-- Link i has a kind.
+abbrev ofKind : List ℕ → ℕ → ℕ → Bool
+ofKind links kind i = eqb (kindIn links i) kind
+
+-- The links of a kind are counted over all links.
+kinds-all : (links : List ℕ) (r : KindsRise links) (kind : ℕ)
+    → kindsIn links kind ≡ tally (ofKind links kind) (r .many)
+unfolding kindsIn
+kinds-all links r kind = ap (tally (ofKind links kind)) (third links (r .many) (r .size))
+
+-- None where no link has the kind, at least one where one has it, and no more than a script has.
+pub kinds-none : (links : List ℕ) (r : KindsRise links) (kind : ℕ)
+    → ((i : ℕ) → i < r .many → kindIn links i ≡ kind → ⊥) → kindsIn links kind ≡ 0
+kinds-none links r kind none-has =
+    kinds-all links r kind
+    ∙ tally-none (ofKind links kind) (r .many) (λ i l. ne-eqb (kindIn links i) kind (none-has i l))
+
+pub kinds-some : (links : List ℕ) (r : KindsRise links) (i : ℕ) → i < r .many
+    → 1 ≤ kindsIn links (kindIn links i)
+kinds-some links r i l =
+    let kind = kindIn links i in
+    omega (arith, kinds-all links r kind, tally-pos (ofKind links kind) (r .many) i l (eq-eqb kind kind refl))
+
+pub kinds-bound : (links : List ℕ) → KindsRise links → (kind : ℕ) → kindsIn links kind ≤ maxLinks
+kinds-bound links r kind =
+    omega (arith, kinds-all links r kind, tally-le (ofKind links kind) (r .many), r .few)
+
+-- ---- a run of one kind
+-- Of numbers side by side none passes a test, or each does.
+tally-past : (p : ℕ → Bool) (a d : ℕ) → ((i : ℕ) → a ≤ i → i < a + d → p i ≡ false) → tally p (a + d) ≡ tally p a
+tally-past p a zero f = rw add-zero refl
+tally-past p a (suc d) f =
+    rw (add-suc, ← add-one)
+    (tally-miss p (a + d) (f (a + d) (omega arith) (omega arith)) ∙ tally-past p a d (λ i l b. f i l (omega arith)))
+
+tally-row : (p : ℕ → Bool) (a d : ℕ) → ((i : ℕ) → a ≤ i → i < a + d → p i ≡ true) → tally p (a + d) ≡ tally p a + d
+tally-row p a zero f = rw (add-zero a) (omega arith)
+tally-row p a (suc d) f =
+    rw (add-suc a d, ← add-one (a + d))
+    (omega (
+      arith,
+      tally-hit p (a + d) (f (a + d) (omega arith) (omega arith)),
+      tally-row p a d (λ i l b. f i l (omega arith)),
+    ))
+
+-- The kind's word of link i stands at a place.
+pub kind-at : (links : List ℕ) (i at : ℕ) → at ≡ 1 + 3 * i → getD links at 0 ≡ kindIn links i
+unfolding kindIn
+kind-at links i at e = ap (λ (x : ℕ). getD links x 0) e
+
+-- The links from link `first` on, so many of them, are of a kind.
+pub record RunTo (links : List ℕ) (first kind count : ℕ) : Type 0 where
+  pub some : 1 ≤ count
+  pub inside : 3 * (first + count) ≤ length links
+  pub same : (i : ℕ) → first ≤ i → i < first + count → kindIn links i ≡ kind
+
+-- The first link, one link more, and the end: the links are all passed, or the next one is of another kind.
+pub run-start : {links : List ℕ} {at kind : ℕ} → RunAsked links at kind
+    → (first : ℕ) → at ≡ 1 + 3 * first → RunTo links first kind 1
+run-start {links} asked first e = record {
+  some = omega arith;
+  inside = omega (arith, asked .rise .size, asked .inside);
+  same = λ i l b. let q : i ≡ asked .first = omega (arith, asked .place) in ap (kindIn links) q ∙ asked .kind-is;
+}
+
+pub run-more : {links : List ℕ} {first kind count : ℕ} → KindsRise links → RunTo links first kind count
+    → 3 * (first + count) < length links → kindIn links (first + count) ≡ kind → RunTo links first kind (count + 1)
+run-more {links} {first} {count = count} rise run l e = record {
+  some = omega arith;
+  inside = omega (arith, rise .size);
+  same = λ i a b. ⊎-elim
+      (λ h. let q : i ≡ first + count = omega arith in ap (kindIn links) q ∙ e)
+      (λ h. run .same i a h)
+      (le-or-lt (first + count) i);
+}
+
+pub run-ends : {links : List ℕ} {first kind count : ℕ} → KindsRise links → RunTo links first kind count
+    → (3 * (first + count) < length links → kindIn links (first + count) ≡ kind → ⊥) → RunOf links first kind count
+run-ends {links} {first} {kind} {count} rise run ends = record {
+  some = run .some;
+  inside = run .inside;
+  same = run .same;
+  other = λ l.
+      let up = rise .rising first (first + count) (omega arith) (omega (arith, rise .size)) in
+      let low = run .same first (omega arith) (omega (arith, run .some)) in
+      ⊎-elim (λ h. absurd (ends l (omega arith))) (λ h. h) (le-or-lt (kindIn links (first + count)) kind);
+}
+
+-- Where a run's kind is above those of all links before it, it is all of its kind.
+pub run-counted : (links : List ℕ) → KindsRise links → (first kind count : ℕ) → RunOf links first kind count
+    → ((i : ℕ) → i < first → kindIn links i < kind) → kindsIn links kind ≡ count
+run-counted links r first kind count run before =
+    let p = ofKind links kind in
+    let end = first + count in
+    let e : end + (r .many - end) ≡ r .many = omega (arith, run .inside, r .size) in
+    let none-before = tally-none p first (λ i l. ne-eqb (kindIn links i) kind (λ q. omega (arith, before i l))) in
+    let row = tally-row p first count (λ i l b. eq-eqb (kindIn links i) kind (run .same i l b)) in
+    let after : (i : ℕ) → end ≤ i → i < end + (r .many - end) → p i ≡ false =
+    λ i l b.
+    let next = run .other (omega (arith, r .size)) in
+    ne-eqb (kindIn links i) kind (λ q. omega (arith, next, r .rising end i l (omega arith))) in
+    let past = tally-past p end (r .many - end) after in
+    kinds-all links r kind ∙ sym (ap (tally p) e) ∙ omega (arith, past, row, none-before)
+
+-- ---- counting a kind off
+-- Counting stands before a link: of those before it so many have the kind.
+pub record CountedOff (links : List ℕ) (kind found at : ℕ) : Type 0 where
+  pub link : ℕ
+  pub place : at ≡ 1 + 3 * link
+  pub inside : 3 * link ≤ length links
+  pub counted : found ≡ tally (ofKind links kind) link
+
+-- No link is passed yet.
+pub off-start : (links : List ℕ) (kind : ℕ) → CountedOff links kind 0 1
+off-start links kind = record {
+  link = 0;
+  place = refl;
+  inside = omega arith;
+  counted = sym (tally-zero (ofKind links kind));
+}
+
+module _ {links : List ℕ} {kind found at : ℕ} (rise : KindsRise links) (off : CountedOff links kind found at) where
+  -- One link more, which has the kind, or has not.
+  pub off-same : at < length links → getD links at 0 ≡ kind → CountedOff links kind (found + 1) (at + 3)
+  off-same l e =
+      let i = off .link in
+      let hit = eq-eqb (kindIn links i) kind (sym (kind-at links i at (off .place)) ∙ e) in
+      record {
+        link = i + 1;
+        place = omega (arith, off .place);
+        inside = omega (arith, off .place, rise .size);
+        counted = omega (arith, off .counted, tally-hit (ofKind links kind) i hit);
+      }
+
+  pub off-other : at < length links → (getD links at 0 ≡ kind → ⊥) → CountedOff links kind found (at + 3)
+  off-other l ne =
+      let i = off .link in
+      let miss = ne-eqb (kindIn links i) kind (λ q. ne (kind-at links i at (off .place) ∙ q)) in
+      record {
+        link = i + 1;
+        place = omega (arith, off .place);
+        inside = omega (arith, off .place, rise .size);
+        counted = omega (arith, off .counted, tally-miss (ofKind links kind) i miss);
+      }
+
+  -- The count is a word.
+  pub off-small : found ≤ maxLinks
+  off-small = omega (arith, off .counted, tally-le (ofKind links kind) (off .link), off .inside, rise .size, rise .few)
+
+  -- At a link whose kind is above, and past the last link, all are found.
+  pub off-above : at < length links → kind < getD links at 0 → found ≡ kindsIn links kind
+  off-above l h =
+      let i = off .link in
+      let p = ofKind links kind in
+      let e : i + (rise .many - i) ≡ rise .many = omega (arith, off .inside, rise .size) in
+      let after : (j : ℕ) → i ≤ j → j < i + (rise .many - i) → p j ≡ false =
+      λ j a b.
+      let up = rise .rising i j a (omega arith) in
+      ne-eqb (kindIn links j) kind (λ q. omega (arith, kind-at links i at (off .place))) in
+      off .counted ∙ sym (tally-past p i (rise .many - i) after) ∙ ap (tally p) e ∙ sym (kinds-all links rise kind)
+
+  pub off-done : length links ≤ at → found ≡ kindsIn links kind
+  off-done l =
+      let e : off .link ≡ rise .many = omega (arith, off .place, off .inside, rise .size) in
+      off .counted ∙ ap (tally (ofKind links kind)) e ∙ sym (kinds-all links rise kind)
+
+-- ---- the count of a label
+-- It is counted off the links or listed, and is a word.
+pub amount-counted : (links listed : List ℕ) (k : ℕ) → k < maxLabels - length listed
+    → amount links listed k ≡ kindsIn links k
+unfolding amount
+amount-counted links listed k l = rw (lt-ltb k (maxLabels - length listed) l) refl
+
+pub amount-listed : (links listed : List ℕ) (k : ℕ) → maxLabels - length listed ≤ k
+    → amount links listed k ≡ getD listed (k - (maxLabels - length listed)) 0
+unfolding amount
+amount-listed links listed k l = rw (le-ltb k (maxLabels - length listed) l) refl
+
+pub amount-bound : (links listed : List ℕ) → KindsRise links → ((k : ℕ) → getD listed k 0 < 65536)
+    → (k : ℕ) → amount links listed k < 65536
+amount-bound links listed rise small k =
+    let counted = maxLabels - length listed in
+    ⊎-elim (λ h. omega (arith, amount-listed links listed k h, small (k - counted)))
+    (λ h. omega (arith, amount-counted links listed k h, kinds-bound links rise k))
+    (le-or-lt counted k)
+
+-- ---- a card's part of a script
+-- The words of the links from link lo on and below link hi, as the code takes them out.
+abbrev part : List ℕ → ℕ → ℕ → List ℕ
+part script lo hi = take (2 + 3 * hi - (2 + 3 * lo)) (drop (2 + 3 * lo) script)
+
+-- The kind of link i of the part is that of link lo + i of the script.
+pub card-kind : (script : List ℕ) (lo hi i : ℕ) → 2 + 3 * hi ≤ length script → lo + i < hi
+    → kindIn (part script lo hi) i ≡ kindAt script (lo + i)
+unfolding kindIn kindAt
+card-kind script lo hi i end l =
+    let e : 2 + 3 * lo + (1 + 3 * i) ≡ 3 + 3 * (lo + i) = omega arith in
+    getD-take (2 + 3 * hi - (2 + 3 * lo)) (drop (2 + 3 * lo) script) (1 + 3 * i) 0 (omega arith)
+    ∙ getD-drop (2 + 3 * lo) script (1 + 3 * i) 0
+    ∙ ap (λ (x : ℕ). getD script x 0) e
+
+-- The part has three words for each link.
+part-size : (script : List ℕ) (lo hi : ℕ) → Within script lo hi → length (part script lo hi) ≡ 3 * (hi - lo)
+part-size script lo hi within =
+    simp (length-take, length-drop) (omega (arith, within .order, within .end))
+
+module _ (script : List ℕ) (m : ℕ) (a : Ascending script m) (n lo hi : ℕ)
+    (low : lo ≡ below script n m) (high : hi ≡ below script (n + 1) m)
+  where
+    -- The links of the part start at the card, and those before and after it do not.
+    starts-here : (i : ℕ) → lo ≤ i → i < hi → fromAt script i ≡ n
+    starts-here i l h =
+        starts-exact script m (starts-rise script m a) n i (omega (arith, below-le script (n + 1) m)) .1
+        (omega arith, omega arith)
+
+    starts-before : (i : ℕ) → 0 ≤ i → i < 0 + lo → fromAt script i ≡ n → ⊥
+    starts-before i l h e = omega (arith, below-low script m (starts-rise script m a) n i (omega arith))
+
+    starts-after : (i : ℕ) → hi ≤ i → i < hi + (m - hi) → fromAt script i ≡ n → ⊥
+    starts-after i l h e =
+        omega (arith, below-high script m (starts-rise script m a) (n + 1) i (omega arith) (omega arith))
+
+    -- Their kinds rise, and there are as many as from lo to hi.
+    pub card-rise : KindsRise (part script lo hi)
+    card-rise =
+        let within = part-within script m a n lo hi low high in
+        record {
+          many = hi - lo;
+          size = part-size script lo hi within;
+          few = omega (arith, within .few);
+          rising = λ i j l h.
+              let here = starts-here (lo + i) (omega arith) (omega arith) in
+              let there = starts-here (lo + j) (omega arith) (omega arith) in
+              let top = below-le script (n + 1) m in
+              omega (
+                arith,
+                card-kind script lo hi i (within .end) (omega arith),
+                card-kind script lo hi j (within .end) (omega arith),
+                kinds-rise script m a (lo + i) (lo + j) (omega arith) (omega arith) (here ∙ sym there),
+              );
+        }
+
+    pub card-many : card-rise .many ≡ hi - lo
+    unfolding card-rise
+    card-many = refl
+
+    -- The first d links of the part, counted in it and in the script.
+    counted-in : (k d : ℕ) → lo + d ≤ hi
+        → tally (ofKind (part script lo hi) k) d ≡ wayCount outgoing script n k (lo + d)
+    unfolding wayCount
+    counted-in k zero h =
+        let e : 0 + lo ≡ lo + 0 = omega arith in
+        tally-zero (ofKind (part script lo hi) k) ∙ sym (way-count-skip outgoing script n k 0 lo starts-before)
+        ∙ ap (wayCount outgoing script n k) e
+    counted-in k (suc d) h =
+        let within = part-within script m a n lo hi low high in
+        let p = ofKind (part script lo hi) k in
+        let kind-is = card-kind script lo hi d (within .end) (omega arith) in
+        let here = starts-here (lo + d) (omega arith) (omega arith) in
+        let rest = counted-in k d (omega arith) in
+        rw (add-suc, ← add-one d)
+        (⊎-elim
+        (λ e. omega (
+          arith,
+          tally-hit p d (eq-eqb (kindIn (part script lo hi) d) k e),
+          way-count-same outgoing script n k (lo + d) here (sym e ∙ kind-is),
+        ))
+        (λ ne. omega (
+          arith,
+          tally-miss p d (ne-eqb (kindIn (part script lo hi) d) k ne),
+          way-count-kind outgoing script n k (lo + d) (λ q. ne (kind-is ∙ sym q)),
+        ))
+        (eq-or-ne (kindIn (part script lo hi) d) k))
+
+    -- The part has as many links of a kind as start at the card.
+    pub card-kinds : (k : ℕ) → kindsIn (part script lo hi) k ≡ wayCount outgoing script n k m
+    card-kinds k =
+        let within = part-within script m a n lo hi low high in
+        let top = below-le script (n + 1) m in
+        let inner : lo + (hi - lo) ≡ hi = omega (arith, within .order) in
+        let outer : hi + (m - hi) ≡ m = omega arith in
+        let count = wayCount outgoing script n k in
+        kinds-all (part script lo hi) card-rise k ∙ ap (tally (ofKind (part script lo hi) k)) card-many
+        ∙ counted-in k (hi - lo) (omega (arith, within .order))
+        ∙ ap count inner ∙ sym (way-count-skip outgoing script n k hi (m - hi) starts-after) ∙ ap count outer
