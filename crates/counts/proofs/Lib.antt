@@ -3,7 +3,8 @@
 -- where its words end. ShapePlaces: where a shape starts. Counts: counts of labels. Spreading: a list of counts spread
 -- over all labels. Stretches: links at the front of a run. Listing: counts that all stand in a list. Evaluations: what
 -- the evaluator's leaves answer. Steps: the evaluator's way through a part. Wrapping: the wrappers that a part starts
--- with. Fitting: what "Fit counts" answers. Ignoring: what it does not look at. Numbers: its refusals.
+-- with. OwnCounts: the counts of a card's own links. Fitting: what "Fit counts" answers. Ignoring: what it does not
+-- look at. Numbers: its refusals.
 pub mod Agreement
 pub mod Places
 pub mod ShapePlaces
@@ -15,6 +16,7 @@ pub mod Listing
 pub mod Evaluations
 pub mod Steps
 pub mod Wrapping
+pub mod OwnCounts
 pub mod Fitting
 pub mod Ignoring
 pub mod Numbers

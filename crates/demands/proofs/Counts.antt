@@ -2,33 +2,33 @@
 --   counts-fit-exactly   "Fit counts" says 1 exactly where counts belong to the bag language
 --   card-fits-exactly    the counts of a card's own links are those of the neighbours that a shape looks at
 -- Assumes nothing.
-use Prim.Native.Nat.{ℕ, _+_, _-_, _*_, _≤_, _<_}
+use Prim.Native.Nat.{ℕ, _*_, _≤_, _<_}
 use mathlib.Core.Path.{_≡_, sym, ap, _∙_, subst, fun-ext}
 use mathlib.Core.Logic.{⊎-elim, _↔_}
 use mathlib.Core.List.{List, [], _∷_}
 use native.Mathlib.Omega.{arith}
-use lib.ListN.{length, getD, List·getD-eq-default}
+use lib.ListN.{length, getD}
 use Rattle.words.specs.Limits.{maxKinds, maxCount}
 use Rattle.words.specs.Said.{Said, values}
 use Rattle.words.specs.Reading.{accepted}
 use Rattle.words.proofs.Bools.{le-or-lt}
-use Rattle.bags.specs.Label.{outgoing, incoming, labelOf}
 use Rattle.bags.specs.Part.{Part}
 use Rattle.bags.specs.Bag.{Fits}
 use Rattle.bags.specs.Look.{seen, listed}
 use Rattle.bags.specs.Proposition.{labelCount}
-use Rattle.bags.proofs.Naming.{OfKindBelow, names-kind}
-use Rattle.bags.proofs.Looking.{looks-cases, seen-alike, looked-count, listed-outgoing, listed-none, listed-incoming}
+use Rattle.bags.proofs.Naming.{names-kind}
+use Rattle.bags.proofs.Looking.{looks-cases, seen-alike, looked-count, listed-none}
 use Rattle.template.specs.Template.{opens, Template, readTemplate}
 use Rattle.script.specs.Link.{neighbours}
 use Rattle.script.specs.Counts.{cardCounts}
-use Rattle.script.proofs.Counts.{way-count, way-count-bound, card-counts-length, card-counts-out, card-counts-in}
+use Rattle.script.proofs.Counts.{card-counts-length}
 use Rattle.sheet.specs.Sheet.{Sheet, partOf, opensOf, neighboursOf}
 use Rattle.sheet.proofs.Accepted.{SheetAccepted}
 use Rattle.counts.specs.Fit.{FitSays}
 use Rattle.counts.proofs.Counts.{over-none}
+use Rattle.counts.proofs.OwnCounts.{own-outgoing, own-named, own-low}
 use Rattle.counts.proofs.Fitting.{question, fit-asked, yes-exact, no-exact}
-use Rattle.typing.proofs.Instance.{countsOf, kind-in, none-past}
+use Rattle.typing.proofs.Instance.{countsOf, none-past}
 use Rattle.demands.specs.Demands.{Formed}
 use Rattle.demands.proofs.Formed.{formed-template, formed-read}
 
@@ -55,34 +55,13 @@ module _ {words : List ℕ} {kinds : ℕ} {s : Sheet} (read : SheetAccepted word
   abbrev counts : List ℕ
   counts = cardCounts (s .script) n (s .links) kinds
 
-  few : kinds ≤ maxKinds
-  few = read .shapes .kinds-high
-
-  -- the list has the count of each label of a kind,
-  out-listed : (k : ℕ) → k < kinds → countsOf s n k ≡ listed kinds counts k
-  out-listed k l =
-      let own : k ≡ labelOf outgoing k = omega arith in
-      ap (countsOf s n) own
-      ∙ way-count outgoing (s .script) n k (s .links) (omega (arith, few)) (kind-in read)
-      ∙ sym (listed-outgoing kinds counts few k l ∙ card-counts-out (s .script) n (s .links) kinds k l)
-
-  in-listed : (k : ℕ) → k < kinds → countsOf s n (labelOf incoming k) ≡ listed kinds counts (labelOf incoming k)
-  in-listed k l =
-      way-count incoming (s .script) n k (s .links) (omega (arith, few)) (kind-in read)
-      ∙ sym (listed-incoming kinds counts k ∙ card-counts-in (s .script) n (s .links) kinds k l)
-
-  -- and of each outgoing one
+  -- the list has the count of each outgoing label
   low-listed : (k : ℕ) → k < maxKinds → countsOf s n k ≡ listed kinds counts k
   low-listed k h = ⊎-elim
       (λ l. none-past read n k l h
       ∙ sym (listed-none kinds counts k l h (omega (arith, card-counts-length (s .script) n (s .links) kinds))))
-      (λ l. out-listed k l)
+      (own-outgoing (read .shapes .kinds-high) (read .links) n k)
       (le-or-lt kinds k)
-
-  named-listed : (k : ℕ) → OfKindBelow kinds k → countsOf s n k ≡ listed kinds counts k
-  named-listed k (outgoing, kind, l, e) = low-listed k (omega (arith, few, e))
-  named-listed k (incoming, kind, l, e) =
-      subst (λ (x : ℕ). countsOf s n x ≡ listed kinds counts x) (sym e) (in-listed kind l)
 
   -- so what a shape looks at counts alike
   looked-listed : (t : ℕ) → t < s .shapes
@@ -92,35 +71,10 @@ module _ {words : List ℕ} {kinds : ℕ} {s : Sheet} (read : SheetAccepted word
       let o = opensOf s t in
       fun-ext (looked-count o part (neighbours (s .script) n (s .links)))
       ∙ seen-alike o part (countsOf s n) (listed kinds counts) (λ k e. ⊎-elim
-      (λ m. named-listed k (names-kind kinds part (read .shapes .kinds-below t lt) k m))
+      (λ m. own-named (read .shapes .kinds-high) (read .links) n k
+      (names-kind kinds part (read .shapes .kinds-below t lt) k m))
       (λ h. low-listed k (h .1))
       (looks-cases o part k e))
-
-  -- no count is over that of the links
-  in-low : (k : ℕ) → kinds ≤ k → k < 2 * kinds → getD counts k 0 ≤ maxCount
-  in-low k h l =
-      let again : kinds + (k - kinds) ≡ k = omega arith in
-      subst (λ (x : ℕ). getD counts x 0 ≤ maxCount) again (omega (
-        arith,
-        card-counts-in (s .script) n (s .links) kinds (k - kinds) (omega arith),
-        way-count-bound incoming (s .script) n (k - kinds) (s .links),
-        read .links .links-bound,
-      ))
-
-  out-low : (k : ℕ) → k < kinds → getD counts k 0 ≤ maxCount
-  out-low k l = omega (
-    arith,
-    card-counts-out (s .script) n (s .links) kinds k l,
-    way-count-bound outgoing (s .script) n k (s .links),
-    read .links .links-bound,
-  )
-
-  low-counts : (k : ℕ) → getD counts k 0 ≤ maxCount
-  low-counts k =
-      let full = card-counts-length (s .script) n (s .links) kinds in ⊎-elim
-      (λ past. omega (arith, List·getD-eq-default counts 0 {n = k} (omega (arith, full))))
-      (λ l. ⊎-elim (λ h. in-low k h l) (out-low k) (le-or-lt kinds k))
-      (le-or-lt (2 * kinds) k)
 
 pub card-fits-exactly : (template script : List ℕ) (s : Sheet) (formed : Formed template script s)
     → (n t : ℕ) → n < s .cards → t < s .shapes
@@ -137,5 +91,6 @@ card-fits-exactly template script s formed n t ln lt =
       λ k. ap (λ (w : ℕ → ℕ). w k) (looked-listed read n t lt),
       λ said x. subst (λ (w : ℕ → ℕ). (said ≡ values (1 ∷ [])) ↔ Fits (s .shapes) (partOf s t) w) (sym same)
           (counts-fit-exactly template _ (formed-template template script s formed) t lt counts
-          (card-counts-length (s .script) n (s .links) kinds) (low-counts read n) said x .0),
+          (card-counts-length (s .script) n (s .links) kinds) (own-low (read .shapes .kinds-high) (read .links) n)
+          said x .0),
     )

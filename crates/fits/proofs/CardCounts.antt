@@ -1,5 +1,4 @@
 -- The counts of a card's links, as they are counted off, are those of its neighbours.
--- way-is        a label counts among the neighbours what its kind counts one way
 -- card-under    the kinds of a card's links are the template's
 -- ListedBack    the counts of incoming kinds are listed where they matter
 -- back-asked    what counting the links to a card asks
@@ -34,7 +33,6 @@ use Rattle.script.specs.Counts.{wayCount}
 use Rattle.script.specs.Runs.{amount, KindsRise}
 use Rattle.script.proofs.Reading.{script-accepted}
 use Rattle.script.proofs.Cards.{part-within, below-le}
-use Rattle.script.proofs.Counts.{way-count}
 use Rattle.script.proofs.Runs.{card-kind, card-rise, card-many, card-kinds, amount-counted, amount-listed}
 use Rattle.sheet.specs.declared.Extent.{Extent}
 use Rattle.sheet.specs.Opened.{templateAs, Opened}
@@ -42,6 +40,7 @@ use Rattle.flat.specs.Meeting.{KindsUnder}
 use Rattle.counts.specs.Trees.{treeAt}
 use Rattle.counts.specs.Machine.{RowOf}
 use Rattle.counts.proofs.Agreement.{shape-tree}
+use Rattle.counts.proofs.OwnCounts.{own-way}
 use Rattle.fits.specs.declared.Plan.{Plan}
 use Rattle.fits.specs.Plans.{PlanOf}
 use Rattle.fits.specs.Fitting.{Named, WaysSeen, BackAsked, CountedBack, byteAt, PairFits}
@@ -82,12 +81,10 @@ module _ (template script : List ℕ) (e : Extent) (opened : Opened template scr
       template-accepted template (templateAs (e .kinds) (e .shapes) (opened .parts)) (opened .template-read) .kinds-high
 
   -- a label counts among the neighbours what its kind counts one way
-  pub way-is : (n : ℕ) (way : Way) (k : ℕ) → k < e .kinds →
+  way-is : (n : ℕ) (way : Way) (k : ℕ) → k < e .kinds →
       labelCount (neighbours script n (e .links)) (labelOf way k) ≡ wayCount way script n k (e .links)
-  way-is n way k l =
-      let w = script-accepted (e .kinds) script (countsOf (e .cards) (e .links)) (opened .script-read) in
-      way-count way script n k (e .links) (omega (arith, few-kinds))
-      (λ i h. omega (arith, w .kind-below i h, few-kinds))
+  way-is =
+      own-way few-kinds (script-accepted (e .kinds) script (countsOf (e .cards) (e .links)) (opened .script-read))
 
   module _ (n : ℕ) (l : n < e .cards) (starts : List ℕ) (s : StartsOf script starts (e .cards) (e .links)) (lo hi : ℕ)
       (p : lo ≡ getD starts n 0) (q : hi ≡ getD starts (n + 1) 0) where

@@ -1,30 +1,26 @@
 -- What testing the pairs of a sheet by counts leaves is what "Fit counts" answers for the counts of each card's links.
--- own-outgoing, own-named   the list of a card's counts has that of each outgoing kind, and of each label of a kind
--- own-low                   no count in it is over 8,192
--- counted-asked             "Fit counts" refuses nothing, asked of these and a shape of the sheet
--- counted-exact             they fit exactly where the test of the card's neighbours says so
--- counted-off               the byte of a pair is what "Fit counts" says; counted-unique: it says no other
--- counted-accepted          and no refusal
+-- counted-asked      of a card's counts and a shape of its sheet "Fit counts" refuses nothing
+-- counted-exact      the counts fit exactly where the test of the card's neighbours says so
+-- counted-off        the byte of a pair is what "Fit counts" says; counted-unique: it says no other
+-- counted-accepted   and no refusal
 -- Assumes nothing.
-use Prim.Native.Nat.{ℕ, _+_, _-_, _*_, _≤_, _<_}
-use mathlib.Core.Path.{_≡_, sym, ap, subst, _∙_}
-use mathlib.Core.Logic.{inl, inr, ⊎-elim, _↔_}
+use Prim.Native.Nat.{ℕ, _+_, _*_, _<_}
+use mathlib.Core.Path.{_≡_, ap}
+use mathlib.Core.Logic.{inl, inr, _↔_}
 use mathlib.Core.Bool.{Bool, true, cond}
 use mathlib.Core.List.{List, [], _∷_}
 use native.Mathlib.Omega.{arith}
-use lib.ListN.{length, getD}
-use Rattle.words.specs.Limits.{maxCount}
+use lib.ListN.{getD}
 use Rattle.words.specs.Said.{Said, values, refusal}
 use Rattle.words.specs.Reading.{accepted}
-use Rattle.words.proofs.Bools.{never-both, bool-case, le-or-lt}
+use Rattle.words.proofs.Bools.{never-both, bool-case}
 use Rattle.words.proofs.Said.{values-refusal}
-use Rattle.bags.specs.Label.{outgoing, incoming, labelOf}
 use Rattle.bags.specs.Part.{Part}
 use Rattle.bags.specs.Look.{listed}
 use Rattle.bags.specs.Interval.{fits}
 use Rattle.bags.specs.Proposition.{labelCount}
-use Rattle.bags.proofs.Naming.{OfKindBelow, names-kind}
-use Rattle.bags.proofs.Looking.{listed-outgoing, listed-incoming, fits-alike}
+use Rattle.bags.proofs.Naming.{names-kind}
+use Rattle.bags.proofs.Looking.{fits-alike}
 use Rattle.bags.proofs.Decide.{list-decided}
 use Rattle.template.specs.Template.{Template, opens, readTemplate}
 use Rattle.template.proofs.Accepted as shapes
@@ -32,99 +28,60 @@ use Rattle.script.specs.Link.{neighbours}
 use Rattle.script.specs.Script.{countsOf}
 use Rattle.script.specs.Counts.{cardCounts}
 use Rattle.script.proofs.Reading as links
-use Rattle.script.proofs.Counts.{way-count-bound, card-counts-length, card-counts-out, card-counts-in}
+use Rattle.script.proofs.Counts.{card-counts-length}
 use Rattle.sheet.specs.declared.Extent.{Extent}
 use Rattle.sheet.specs.Opened.{templateAs, Opened}
 use Rattle.counts.specs.Fit.{fitQuestion, Fitting, FitSays}
 use Rattle.counts.proofs.Counts.{over-none}
+use Rattle.counts.proofs.OwnCounts.{own-outgoing, own-named, own-low}
 use Rattle.counts.proofs.Fitting.{question, fit-asked, fit-one-answer}
 use Rattle.fits.specs.Fitting.{Fitted}
-use Rattle.fits.proofs.CardCounts.{way-is}
 
--- A card of a sheet that is read.
-module _ (template script : List ℕ) (e : Extent) (opened : Opened template script e) (n : ℕ) where
-  abbrev whole : Template
-  whole = templateAs (e .kinds) (e .shapes) (opened .parts)
+-- A card, and a shape of a sheet that is read.
+module _ (template script : List ℕ) (e : Extent) (opened : Opened template script e) (n t : ℕ) (below : t < e .shapes)
+  where
+    abbrev whole : Template
+    whole = templateAs (e .kinds) (e .shapes) (opened .parts)
 
-  template-is : shapes.Accepted template whole
-  template-is = shapes.template-accepted template whole (opened .template-read)
-
-  script-is : links.Accepted (e .kinds) script (e .cards) (e .links)
-  script-is = links.script-accepted (e .kinds) script (countsOf (e .cards) (e .links)) (opened .script-read)
-
-  abbrev counts : List ℕ
-  counts = cardCounts script n (e .links) (e .kinds)
-
-  counts-length : length counts ≡ 2 * e .kinds
-  counts-length = card-counts-length script n (e .links) (e .kinds)
-
-  -- ---- the counts in the list
-  -- how often each label counts among the card's neighbours
-  abbrev around : ℕ → ℕ
-  around = labelCount (neighbours script n (e .links))
-
-  own-outgoing : (k : ℕ) → k < e .kinds → around k ≡ listed (e .kinds) counts k
-  own-outgoing k l =
-      let own : k ≡ labelOf outgoing k = omega arith in
-      ap around own ∙ way-is template script e opened n outgoing k l
-      ∙ sym (listed-outgoing (e .kinds) counts (template-is .kinds-high) k l
-      ∙ card-counts-out script n (e .links) (e .kinds) k l)
-
-  own-named : (k : ℕ) → OfKindBelow (e .kinds) k → around k ≡ listed (e .kinds) counts k
-  own-named k (outgoing, kind, l, q) = own-outgoing k (omega arith)
-  own-named k (incoming, kind, l, q) =
-      subst (λ (x : ℕ). around x ≡ listed (e .kinds) counts x) (sym q)
-      (way-is template script e opened n incoming kind l
-      ∙ sym (listed-incoming (e .kinds) counts kind ∙ card-counts-in script n (e .links) (e .kinds) kind l))
-
-  -- the count of an incoming kind stands in the second half
-  low-incoming : (k : ℕ) → k < e .kinds → getD counts (e .kinds + k) 0 ≤ maxCount
-  low-incoming k l = omega (
-    arith,
-    card-counts-in script n (e .links) (e .kinds) k l,
-    way-count-bound incoming script n k (e .links),
-    script-is .links-bound,
-  )
-
-  own-low : (i : ℕ) → i < length counts → getD counts i 0 ≤ maxCount
-  own-low i l = ⊎-elim
-      (λ past.
-      let again : e .kinds + (i - e .kinds) ≡ i = omega arith in
-      subst (λ (x : ℕ). getD counts x 0 ≤ maxCount) again
-      (low-incoming (i - e .kinds) (omega (arith, counts-length))))
-      (λ first. omega (
-        arith,
-        card-counts-out script n (e .links) (e .kinds) i first,
-        way-count-bound outgoing script n i (e .links),
-        script-is .links-bound,
-      ))
-      (le-or-lt (e .kinds) i)
-
-  -- ---- a shape
-  module _ (t : ℕ) (below : t < e .shapes) where
     abbrev part : Part
     part = getD (opened .parts) t Part.nothing
 
-    -- the test of the card's neighbours, as `Fitted` has it
+    abbrev counts : List ℕ
+    counts = cardCounts script n (e .links) (e .kinds)
+
+    -- how often each label counts among the card's neighbours
+    abbrev around : ℕ → ℕ
+    around = labelCount (neighbours script n (e .links))
+
+    -- the test of these, as `Fitted` has it
     abbrev tested : Bool
     tested = fits (opens template t) (e .kinds) part around
 
+    template-is : shapes.Accepted template whole
+    template-is = shapes.template-accepted template whole (opened .template-read)
+
+    script-is : links.Accepted (e .kinds) script (e .cards) (e .links)
+    script-is = links.script-accepted (e .kinds) script (countsOf (e .cards) (e .links)) (opened .script-read)
+
     counted-asked : fitQuestion template t counts ≡ accepted (question template whole t counts)
     counted-asked =
-        fit-asked template t counts whole (opened .template-read) below counts-length
-        (omega (arith, over-none counts own-low))
+        let low = over-none counts (λ i l. own-low (template-is .kinds-high) script-is n i) in
+        fit-asked template t counts whole (opened .template-read) below
+        (card-counts-length script n (e .links) (e .kinds)) (omega (arith, low))
 
     -- the counts in the list are tested as the neighbours are
     tested-alike : tested ≡ fits (opens template t) (e .kinds) part (listed (e .kinds) counts)
     tested-alike =
-        fits-alike around (listed (e .kinds) counts) (opens template t) part (e .kinds) own-outgoing
-        (λ k m. own-named k (names-kind (e .kinds) part (template-is .kinds-below t below) k m))
+        let few = template-is .kinds-high in
+        fits-alike around (listed (e .kinds) counts) (opens template t) part (e .kinds) (own-outgoing few script-is n)
+        (λ k m. own-named few script-is n k (names-kind (e .kinds) part (template-is .kinds-below t below) k m))
 
     counted-exact : Fitting (question template whole t counts) ↔ (tested ≡ true)
     counted-exact =
         rw tested-alike
         (list-decided (e .shapes) (opens template t) part (e .kinds) counts (template-is .kinds-high)
-        (omega (arith, counts-length)) (template-is .single t below) (template-is .shapes-below t below))
+        (omega (arith, card-counts-length script n (e .links) (e .kinds))) (template-is .single t below)
+        (template-is .shapes-below t below))
 
     -- what is said of them goes by that test
     tested-said : FitSays template t counts (values (cond tested 1 0 ∷ []))

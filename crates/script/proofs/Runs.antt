@@ -1,10 +1,10 @@
 -- The links of one card, three words each, which stand sorted by kind.
 -- third               how many links so many words are; kinds-all: their kinds are counted over all of them
--- kinds-none, kinds-some, kinds-bound   how many have a kind: none where no link has it, one at least, no more than all
+-- kinds-none, kinds-some   how many have a kind: none where no link has it, one at least
 -- RunTo               the links counted of a run; run-start, run-more, run-ends: the first, one more, the whole run
 -- run-counted         the first run of a kind is all that have it
 -- CountedOff          where counting a kind stands; off-start, off-same, off-other, off-above, off-done: its steps
--- amount-counted, amount-listed, amount-bound   the count of a label
+-- amount-counted, amount-listed   the count of a label
 -- card-kind, card-rise, card-many, card-kinds   a card's part of a script: its kinds, that they rise, how many links
 -- there are, and how many have each kind
 -- Assumes nothing.
@@ -60,10 +60,6 @@ pub kinds-some : (links : List ℕ) (r : KindsRise links) (i : ℕ) → i < r .m
 kinds-some links r i l =
     let kind = kindIn links i in
     omega (arith, kinds-all links r kind, tally-pos (ofKind links kind) (r .many) i l (eq-eqb kind kind refl))
-
-pub kinds-bound : (links : List ℕ) → KindsRise links → (kind : ℕ) → kindsIn links kind ≤ maxLinks
-kinds-bound links r kind =
-    omega (arith, kinds-all links r kind, tally-le (ofKind links kind) (r .many), r .few)
 
 -- ---- a run of one kind
 -- Of numbers side by side none passes a test, or each does.
@@ -215,14 +211,6 @@ pub amount-listed : (links listed : List ℕ) (k : ℕ) → maxLabels - length l
     → amount links listed k ≡ getD listed (k - (maxLabels - length listed)) 0
 unfolding amount
 amount-listed links listed k l = rw (le-ltb k (maxLabels - length listed) l) refl
-
-pub amount-bound : (links listed : List ℕ) → KindsRise links → ((k : ℕ) → getD listed k 0 < 65536)
-    → (k : ℕ) → amount links listed k < 65536
-amount-bound links listed rise small k =
-    let counted = maxLabels - length listed in
-    ⊎-elim (λ h. omega (arith, amount-listed links listed k h, small (k - counted)))
-    (λ h. omega (arith, amount-counted links listed k h, kinds-bound links rise k))
-    (le-or-lt counted k)
 
 -- ---- a card's part of a script
 -- The words of the links from link lo on and below link hi, as the code takes them out.

@@ -1,10 +1,9 @@
 -- What reading a template and a script says of the sheet that they make.
 -- sheet-opened                     both are read
 -- sheet-template, sheet-script     the sheet is turned down for its template, or for its script
--- opened-shaped                    the template is read and has so many kinds and shapes
 -- Assumes nothing.
 use Prim.Native.Nat.{ℕ}
-use mathlib.Core.Path.{_≡_, refl, sym, ap, ap₂, _∙_, subst₂}
+use mathlib.Core.Path.{_≡_, refl, sym, ap, ap₂, _∙_}
 use mathlib.Core.List.{List, [], _∷_}
 use Rattle.words.specs.Said.{values, refusal}
 use Rattle.words.specs.Reading.{accepted, turnedDown, saidOf}
@@ -15,7 +14,7 @@ use Rattle.script.specs.Script.{readScript, scriptValues}
 use Rattle.script.proofs.Answers.{script-read}
 use Rattle.sheet.specs.Sheet.{readSheet}
 use Rattle.sheet.specs.declared.Extent.{Extent}
-use Rattle.sheet.specs.Opened.{templateAs, Opened, Shaped}
+use Rattle.sheet.specs.Opened.{templateAs, Opened}
 
 module _ (template script : List ℕ) where
   -- Both are read.
@@ -49,9 +48,3 @@ module _ (template script : List ℕ) where
       let turned = ap (λ (k : ℕ). readScript k script) (sym same-kinds)
       ∙ said-turned scriptValues (readScript kinds script) number place q in
       rw (read, turned) refl
-
-  -- The template of a sheet that is read has so many kinds and shapes.
-  pub opened-shaped : (e : Extent) (kinds shapes : ℕ) → Opened template script e → kinds ≡ e .kinds → shapes ≡ e .shapes
-      → Shaped template kinds shapes
-  opened-shaped e kinds shapes o p q =
-      subst₂ (Shaped template) (sym p) (sym q) (record { parts = o .parts; read = o .template-read })

@@ -5,7 +5,6 @@
 -- Known         what a step on a sheet that is read asks: both files, the table of names, and its room
 -- ReadAs        what reading the two finds: known, or the first refusal
 -- WaysAsked     what looking for incoming kinds in the table asks
--- Shaped        a template that is read, and how many kinds and shapes it has
 -- Assumes nothing.
 use Prim.Native.Nat.{ℕ, _≤_, _<_}
 use mathlib.Core.Path.{_≡_}
@@ -61,8 +60,3 @@ pub record WaysAsked (names : List ℕ) (kinds shapes : ℕ) : Type 0 where
   pub room : length names ≡ tableSize
   pub few-kinds : kinds ≤ maxKinds
   pub few-shapes : shapes ≤ maxShapes
-
--- The template is read and has so many kinds and shapes.
-pub record Shaped (template : List ℕ) (kinds shapes : ℕ) : Type 0 where
-  pub parts : List Part
-  pub read : readTemplate template ≡ accepted (templateAs kinds shapes parts)

@@ -1,5 +1,5 @@
--- `join_links` meets its contract. The invariant: the links from the loop's on and the rest are evaluated. The measure is
--- the count of links left. Assumes nothing.
+-- `join_links` meets its contract. The invariant: the links from the loop's on and the rest are evaluated. The measure
+-- is the count of links left. Assumes nothing.
 use Prim.Native.Nat.{ℕ, _+_, _-_, _*_, _≤_}
 use mathlib.Core.Path.{_≡_, refl, subst}
 use denote.Ref.{now}

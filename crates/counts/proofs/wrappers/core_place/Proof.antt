@@ -1,5 +1,5 @@
--- `wrappers::core_place` meets its contract. The invariant: the codes before the loop's place are those of wrappers. The
--- measure is the count of words left. Assumes nothing.
+-- `wrappers::core_place` meets its contract. The invariant: the codes before the loop's place are those of wrappers.
+-- The measure is the count of words left. Assumes nothing.
 use Prim.Native.Nat.{_-_}
 use native.Mathlib.Omega.{arith}
 use Rattle.counts.specs.Wrappers.{CoreAt}

@@ -1,5 +1,5 @@
--- `wrappers::wrap_all` meets its contract. The invariant: the part at the loop's place is evaluated, if the core is. The
--- measure is the place. Assumes nothing.
+-- `wrappers::wrap_all` meets its contract. The invariant: the part at the loop's place is evaluated, if the core is.
+-- The measure is the place. Assumes nothing.
 use Prim.Native.Nat.{ℕ, _+_, _-_, _≤_}
 use mathlib.Core.Path.{_≡_, refl, subst}
 use denote.Ref.{now}
