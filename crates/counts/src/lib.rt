@@ -74,16 +74,16 @@ fn word(words: &[u16], at: usize) -> u16
 
 // The count of a label: the list has those of the last labels, and the kinds before them are counted off a card's
 // links.
-fn count_of(links: &[u16], counts: &[u16], label: u16) -> u16
-    requires { ⌜ Source (now links) (now counts) ⌝ }
-    ensures { λ r. ⌜ r ≡ amount (now (links .entry)) (now (counts .entry)) label ⌝ }
+fn count_of(links: &[u16], listed: &[u16], label: u16) -> u16
+    requires { ⌜ Source (now links) (now listed) ⌝ }
+    ensures { λ r. ⌜ r ≡ amount (now (links .entry)) (now (listed .entry)) label ⌝ }
 {
-    let first = MAX_LABELS - counts.len();
+    let first = MAX_LABELS - listed.len();
     let at = wide(label);
     if at < first {
         return count_off(links, label);
     }
-    word(counts, at - first)
+    word(listed, at - first)
 }
 
 // Nothing, before the place `next`.
@@ -98,12 +98,12 @@ fn nothing(next: usize) -> Eval
 }
 
 // The link of this label whose code is at `at`.
-fn link(words: &[u16], links: &[u16], counts: &[u16], at: usize, label: u16) -> Eval
-    requires { ⌜ (at < maxTemplate) × Source (now links) (now counts) ⌝ }
-    ensures { λ r. ⌜ Evaluates (amount (now (links .entry)) (now (counts .entry))) at
+fn link(words: &[u16], links: &[u16], listed: &[u16], at: usize, label: u16) -> Eval
+    requires { ⌜ (at < maxTemplate) × Source (now links) (now listed) ⌝ }
+    ensures { λ r. ⌜ Evaluates (amount (now (links .entry)) (now (listed .entry))) at
         (linkAt (now (words .entry)) at label) r ⌝ }
 {
-    let w = count_of(links, counts, label);
+    let w = count_of(links, listed, label);
     let low = word(words, at + 2);
     if w == 0 {
         return Eval {
@@ -172,9 +172,9 @@ fn join(code: u16, first: Eval, rest: Eval) -> Eval
 }
 
 // The part at `at`, where `left` levels of parts are still allowed. Most parts are links: they are looked for first.
-fn part(words: &[u16], links: &[u16], counts: &[u16], at: usize, left: usize) -> Eval
-    requires { ⌜ Ready (now words) (now links) (now counts) ⌝ }
-    ensures { λ r. ⌜ Evaluates (amount (now (links .entry)) (now (counts .entry))) at
+fn part(words: &[u16], links: &[u16], listed: &[u16], at: usize, left: usize) -> Eval
+    requires { ⌜ Ready (now words) (now links) (now listed) ⌝ }
+    ensures { λ r. ⌜ Evaluates (amount (now (links .entry)) (now (listed .entry))) at
         (treeAt left (now (words .entry)) at) r ⌝ }
 {
     if left == 0 {
@@ -188,16 +188,16 @@ fn part(words: &[u16], links: &[u16], counts: &[u16], at: usize, left: usize) ->
         if 384 <= code {
             return nothing(at + 1);
         }
-        return link(words, links, counts, at, code - 256);
+        return link(words, links, listed, at, code - 256);
     }
     match code {
         0 => nothing(at + 1),
-        1..=3 => wrap(code, part(words, links, counts, at + 1, left - 1)),
+        1..=3 => wrap(code, part(words, links, listed, at + 1, left - 1)),
         4..=15 => nothing(at + 1),
         16..=17 => run(
             words,
             links,
-            counts,
+            listed,
             at + 2,
             left - 1,
             word(words, at + 1),
@@ -242,14 +242,14 @@ fn stretch(words: &[u16], at: usize, left: usize, parts: u16) -> u16
 fn join_links(
     words: &[u16],
     links: &[u16],
-    counts: &[u16],
+    listed: &[u16],
     at: usize,
     count: u16,
     code: u16,
     rest: Eval,
 ) -> Eval
-    requires { ⌜ JoinAsked (now words) (now links) (now counts) at count code rest ⌝ }
-    ensures { λ r. ⌜ JoinsLinks (amount (now (links .entry)) (now (counts .entry))) (now (words .entry)) at count code
+    requires { ⌜ JoinAsked (now words) (now links) (now listed) at count code rest ⌝ }
+    ensures { λ r. ⌜ JoinsLinks (amount (now (links .entry)) (now (listed .entry))) (now (words .entry)) at count code
         rest r ⌝ }
 {
     let mut whole = rest;
@@ -257,7 +257,7 @@ fn join_links(
     while 0 < i {
         i -= 1;
         let place = at + 4 * i;
-        let first = link(words, links, counts, place, words[place] - 256);
+        let first = link(words, links, listed, place, words[place] - 256);
         whole = join(code, first, whole);
     }
     whole
@@ -267,14 +267,14 @@ fn join_links(
 fn run(
     words: &[u16],
     links: &[u16],
-    counts: &[u16],
+    listed: &[u16],
     at: usize,
     left: usize,
     parts: u16,
     code: u16,
 ) -> Eval
-    requires { ⌜ Ready (now words) (now links) (now counts) ⌝ }
-    ensures { λ r. ⌜ Evaluates (amount (now (links .entry)) (now (counts .entry))) at
+    requires { ⌜ Ready (now words) (now links) (now listed) ⌝ }
+    ensures { λ r. ⌜ Evaluates (amount (now (links .entry)) (now (listed .entry))) at
         (onto (gathered code) (treesAt (treeAt left (now (words .entry))) parts at)) r ⌝ }
 {
     if parts == 0 {
@@ -282,17 +282,17 @@ fn run(
     }
     let count = stretch(words, at, left, parts);
     if count == 0 {
-        let first = part(words, links, counts, at, left);
+        let first = part(words, links, listed, at, left);
         let next = first.next;
-        let rest = run(words, links, counts, next, left, parts - 1, code);
+        let rest = run(words, links, listed, next, left, parts - 1, code);
         return join(code, first, rest);
     }
     let next = at + 4 * wide(count);
     if count == parts {
-        return join_links(words, links, counts, at, count, code, none(code, next));
+        return join_links(words, links, listed, at, count, code, none(code, next));
     }
-    let rest = run(words, links, counts, next, left, parts - count, code);
-    join_links(words, links, counts, at, count, code, rest)
+    let rest = run(words, links, listed, next, left, parts - count, code);
+    join_links(words, links, listed, at, count, code, rest)
 }
 
 // Where the count of words of a shape stands.
@@ -339,12 +339,12 @@ fn first_over(counts: &[u16]) -> usize
 }
 
 // Whether the counts of the labels of the part at `at` fit it.
-pub fn part_fits(words: &[u16], links: &[u16], counts: &[u16], at: usize) -> bool
-    requires { ⌜ Ready (now words) (now links) (now counts) ⌝ }
+pub fn part_fits(words: &[u16], links: &[u16], listed: &[u16], at: usize) -> bool
+    requires { ⌜ Ready (now words) (now links) (now listed) ⌝ }
     ensures { λ r. ⌜ r ≡ inside 1 (interval (treeAt maxDepth (now (words .entry)) at .value)
-        (amount (now (links .entry)) (now (counts .entry)))) ⌝ }
+        (amount (now (links .entry)) (now (listed .entry)))) ⌝ }
 {
-    let whole = part(words, links, counts, at, MAX_DEPTH);
+    let whole = part(words, links, listed, at, MAX_DEPTH);
     let span = whole.span;
     has_one(span)
 }

@@ -28,10 +28,10 @@ returns-2 : tie.Need-returns-2
 returns-2 c =
     let label = c .before .before .wide in
     let s = c .before .before .before .before .before in
-    let counts = s .args .counts .now in
-    let place : label .result - (maxLabels - length counts) ≡ s .args .label - (maxLabels - length counts)
+    let listed = s .args .listed .now in
+    let place : label .result - (maxLabels - length listed) ≡ s .args .label - (maxLabels - length listed)
     = omega (arith, label .ensures .same) in
-    c .word .ensures ∙ ap (λ (n : ℕ). getD counts n 0) place ∙ sym (amount-listed _ _ _ (omega arith))
+    c .word .ensures ∙ ap (λ (n : ℕ). getD listed n 0) place ∙ sym (amount-listed _ _ _ (omega arith))
 
 pub count-of-spec : {M : Type 1} → statement M
 count-of-spec =

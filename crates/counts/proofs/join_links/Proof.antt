@@ -13,11 +13,11 @@ use Rattle.counts.proofs.join_links.Statement.{statement}
 use Rattle.counts.proofs.join_links.Tie as tie
 
 abbrev Inv-loop : tie.InvT-loop
-Inv-loop words links counts at count code whole₀ i₀ whole i =
-    (i ≤ count) × JoinedFrom (amount links counts) words at count code whole₀ i whole
+Inv-loop words links listed at count code whole₀ i₀ whole i =
+    (i ≤ count) × JoinedFrom (amount links listed) words at count code whole₀ i whole
 
 abbrev μ-loop : tie.MeasureT-loop
-μ-loop words links counts at count code whole₀ i₀ whole i = i
+μ-loop words links listed at count code whole₀ i₀ whole i = i
 
 -- The function's start, from the loop.
 abbrev start : tie.At-loop Inv-loop μ-loop → tie.Start Inv-loop μ-loop
@@ -79,7 +79,7 @@ loop-again : tie.Need-loop-again Inv-loop μ-loop
 loop-again c =
     let l = c .before .before .before .before in
     let s = start l in
-    let w = amount (s .args .links .now) (s .args .counts .now) in
+    let w = amount (s .args .links .now) (s .args .listed .now) in
     let next : l .loop .i ≡ l .loop .i - 1 + 1 = omega arith in (
       omega (arith, l .loop .inv .0),
       joined-more w _ _ _ (s .args .code) _ (l .loop .i - 1) _ _ _ _ (omega (arith, l .loop .inv .0))
