@@ -45,7 +45,7 @@
 /* The version of this header; prep_version gives the library's. */
 #define PREP_VERSION_MAJOR 3
 #define PREP_VERSION_MINOR 0
-#define PREP_VERSION_PATCH 1
+#define PREP_VERSION_PATCH 2
 #define PREP_VERSION (PREP_VERSION_MAJOR * 10000 + PREP_VERSION_MINOR * 100 + PREP_VERSION_PATCH)
 
 /* The format's limits, for callers that set arrays aside. */

@@ -155,7 +155,11 @@ const COMMANDS: &[Command] = &[
     Command {
         name: "compare",
         forms: &[&["PROGRAM", "SEED", "COUNT"]],
-        options: &[],
+        options: &[Switch {
+            name: "--alike",
+            value: None,
+            about: "only random sheets on which many cards are alike or nearly so",
+        }],
         about: "run PROGRAM on COUNT inputs and compare its text with ours",
         more: "The exit code is 1 if texts differ.",
         run: run_compare,
@@ -409,7 +413,11 @@ fn run_judge_cases(given: &Given) -> Result<Outcome, String> {
 
 fn run_compare(given: &Given) -> Result<Outcome, String> {
     let (seed, count) = (given.number(1, "SEED")?, given.number(2, "COUNT")?);
-    let outcome = compare::compare(given.at(0), seed, count, &mut io::stdout())?;
+    let cases: Box<dyn Iterator<Item = generate::Case>> = match given.has("--alike") {
+        true => Box::new(generate::alike_cases(seed, count)),
+        false => Box::new(generate::cases(seed, count)),
+    };
+    let outcome = compare::compare(given.at(0), seed, cases, &mut io::stdout())?;
     Ok(noticed(outcome.differ > 0))
 }
 

@@ -1,6 +1,6 @@
 //! Runs another sheet printer on random inputs and compares what it writes with our text.
 
-use crate::generate::{self, Case};
+use crate::generate::Case;
 use crate::sheet;
 use std::io::Write;
 use std::path::PathBuf;
@@ -16,14 +16,19 @@ pub struct Outcome {
     pub differ: usize,
 }
 
-/// Runs the program on `count` inputs of this seed. Each difference is told with a line; its input is kept.
-/// Words after the first in `program` are its arguments.
-pub fn compare(program: &str, seed: u64, count: usize, tell: &mut dyn Write) -> Result<Outcome, String> {
+/// Runs the program on these inputs, which were made with this seed. Each difference is told with a line; its input is
+/// kept. Words after the first in `program` are its arguments.
+pub fn compare(
+    program: &str,
+    seed: u64,
+    cases: impl Iterator<Item = Case>,
+    tell: &mut dyn Write,
+) -> Result<Outcome, String> {
     let mut outcome = Outcome {
         compared: 0,
         differ: 0,
     };
-    for (number, case) in generate::cases(seed, count).enumerate() {
+    for (number, case) in cases.enumerate() {
         let ours = sheet::print(&case.bytes);
         let theirs = run(program, &case.bytes)?;
         outcome.compared += 1;

@@ -8,6 +8,7 @@
 //! | `matched`  | sheets whose shapes are made to fit their links                   |
 //! | `openings` | open shapes of random templates, and links that they ignore       |
 //! | `flat`     | sheets about counting the links of a card, by flat shapes mostly  |
+//! | `alike`    | sheets with many cards that are alike or nearly so                |
 //! | `sparse`   | cards that few links touch or none, with and without a shape      |
 //! | `bookings` | bookings that are met, and others                                 |
 //! | `heavy`    | the sheets that take longest, for timing                          |
@@ -24,6 +25,7 @@
 //! | `runs`     | counting the links of a card, the same in every run               |
 //! | `judging`  | sheets with grids for *Judge a grid*, fixed and random ones       |
 
+pub mod alike;
 pub mod arriving;
 pub mod blanks;
 pub mod bookings;
@@ -133,29 +135,45 @@ fn fixed_cases() -> impl Iterator<Item = Case> {
         arriving::arriving(),
         open::open(),
         runs::runs(),
+        alike::fixed::fixed(),
     ];
     lists.into_iter().flatten()
 }
 
 /// The inputs of one seed: the fixed ones first, then as many random ones as are asked for.
 pub fn cases(seed: u64, count: usize) -> impl Iterator<Item = Case> {
-    fixed_cases().chain(in_turn(seed, case, flat::case)).take(count)
+    fixed_cases()
+        .chain(in_turn(seed, case, flat::case, alike::case))
+        .take(count)
 }
 
-/// One in so many random inputs is about counting.
-const TURN: usize = 6;
+/// Random inputs of one seed with alike cards, and no others.
+pub fn alike_cases(seed: u64, count: usize) -> impl Iterator<Item = Case> {
+    let mut random = Random::new(seed ^ ALIKE);
+    (0..count).map(move |_| alike::case(&mut random))
+}
 
-/// Random inputs of one seed. Those about counting come by turns, from a source of their own, so that the others don't
-/// depend on them.
-fn in_turn<T>(seed: u64, any: fn(&mut Random) -> T, flat: fn(&mut Random) -> T) -> impl Iterator<Item = T> {
-    let (mut random, mut of_flat) = (Random::new(seed), Random::new(!seed));
-    (1_usize..).map(move |number| match number % TURN {
-        0 => flat(&mut of_flat),
+/// What a seed and the seed for alike cards differ in.
+const ALIKE: u64 = 0x5555_5555_5555_5555;
+
+/// Random inputs of one seed. Of each seven the sixth is about counting and the seventh has alike cards; these come from
+/// sources of their own, so that the others don't depend on them.
+fn in_turn<T>(
+    seed: u64,
+    any: fn(&mut Random) -> T,
+    flat: fn(&mut Random) -> T,
+    alike: fn(&mut Random) -> T,
+) -> impl Iterator<Item = T> {
+    let (mut random, mut of_flat, mut of_alike) =
+        (Random::new(seed), Random::new(!seed), Random::new(seed ^ ALIKE));
+    (1_usize..).map(move |number| match number % 7 {
+        6 => flat(&mut of_flat),
+        0 => alike(&mut of_alike),
         _ => any(&mut random),
     })
 }
 
-/// One random input that isn't about counting.
+/// One random input that is neither about counting nor about alike cards.
 pub fn case(random: &mut Random) -> Case {
     match random.below(100) {
         0..=21 => sound(random, "derived", derived),

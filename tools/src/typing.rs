@@ -6,7 +6,7 @@
 //! | `met`         | when a pair is met; sound typings, and typings in between         |
 //! | `rounds`      | the largest typing, round by round as the definition says         |
 //! | `links`       | the largest typing, breadth-first from strike to strike           |
-//! | `counting`    | whether a card's counts fit a shape, card after card              |
+//! | `counting`    | whether a card's counts fit a shape, card after card; all pairs   |
 //! | `bookings`    | reads a booking list, refusals 30 to 33                           |
 //! | `closure`     | the smallest typing                                               |
 //! | `judge`       | judges a grid, refusals 61 to 63                                  |
@@ -141,8 +141,7 @@ pub fn smallest(
     booking_words: &[u16],
     grid: &mut [u8],
 ) -> Result<Smallest, Refusal> {
-    let setting = Setting::read(template, script)?;
-    let booked = bookings::read(&setting, booking_words)?;
+    let (setting, booked) = read(template, script, booking_words)?;
     if grid.len() != setting.size() {
         return Err(Refusal::at(40, 0));
     }
@@ -151,27 +150,31 @@ pub fn smallest(
     Ok(answer)
 }
 
-/// Both typings, unless template, script or bookings are refused, in this order.
+/// Both typings, unless template, script or bookings are refused, in this order. The counts of each pair are tested
+/// once, and both typings share that.
 pub fn both(template: &[u16], script: &[u16], booking_words: &[u16]) -> Result<Both, Refusal> {
-    both_by(links::largest, template, script, booking_words)
-}
-
-/// The same, the largest typing round by round as the definition says.
-pub fn both_by_rounds(template: &[u16], script: &[u16], booking_words: &[u16]) -> Result<Both, Refusal> {
-    both_by(rounds::largest, template, script, booking_words)
-}
-
-fn both_by(
-    method: fn(&Setting) -> (Largest, Grid),
-    template: &[u16],
-    script: &[u16],
-    booking_words: &[u16],
-) -> Result<Both, Refusal> {
-    let setting = Setting::read(template, script)?;
-    let booked = bookings::read(&setting, booking_words)?;
+    let (setting, booked) = read(template, script, booking_words)?;
+    let fits = counting::all(&setting);
     Ok(Both {
         shapes: setting.template.shapes(),
-        largest: method(&setting),
+        largest: links::largest_where(&setting, &fits),
+        smallest: closure::smallest_where(&setting, &booked, &fits),
+    })
+}
+
+/// The same, the largest typing round by round as the definition says. The two typings share nothing.
+pub fn both_by_rounds(template: &[u16], script: &[u16], booking_words: &[u16]) -> Result<Both, Refusal> {
+    let (setting, booked) = read(template, script, booking_words)?;
+    Ok(Both {
+        shapes: setting.template.shapes(),
+        largest: rounds::largest(&setting),
         smallest: closure::smallest(&setting, &booked),
     })
+}
+
+/// Reads the template, the script and then the bookings.
+fn read(template: &[u16], script: &[u16], booking_words: &[u16]) -> Result<(Setting, Vec<Pair>), Refusal> {
+    let setting = Setting::read(template, script)?;
+    let booked = bookings::read(&setting, booking_words)?;
+    Ok((setting, booked))
 }

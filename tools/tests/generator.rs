@@ -1,6 +1,7 @@
 //! The generator: the same seed gives the same inputs, whole sheets are well-formed, the limits are reached, and
 //! every refusal comes up.
 
+use prep_tools::generate::alike::alike;
 use prep_tools::generate::flat::flat;
 use prep_tools::generate::matched::matched;
 use prep_tools::generate::{self, damage, derived, loose, special, FULL, MIDDLE, SMALL, TINY};
@@ -25,15 +26,18 @@ fn the_same_seed_gives_the_same_inputs() {
 }
 
 #[test]
-fn one_in_six_random_inputs_is_about_counting() {
+fn random_inputs_about_counting_and_alike_cards_come_by_turns() {
     let fixed = generate::fixed();
     let mut others = Random::new(5);
-    for (number, case) in (1..).zip(generate::cases(5, fixed + 120).skip(fixed)) {
-        match number % 6 {
-            0 => assert!(case.name.starts_with("flat-"), "{}", case.name),
+    let mut alike = generate::alike_cases(5, 20);
+    for (number, case) in (1..).zip(generate::cases(5, fixed + 140).skip(fixed)) {
+        match number % 7 {
+            0 => assert_eq!(Some(case), alike.next()),
+            6 => assert!(case.name.starts_with("flat-"), "{}", case.name),
             _ => assert_eq!(case, generate::case(&mut others)),
         }
     }
+    assert_eq!(alike.next(), None);
 }
 
 #[test]
@@ -41,7 +45,7 @@ fn whole_sheets_are_well_formed() {
     let mut random = Random::new(31);
     for scale in [TINY, SMALL, MIDDLE, FULL] {
         for _ in 0..12 {
-            for make in [derived, matched, loose, flat] {
+            for make in [derived, matched, loose, flat, alike] {
                 let bytes = make(&mut random, scale).bytes();
                 if let Err(refusal) = sheet::typings(&bytes) {
                     panic!("a {} sheet is turned down, {refusal}", scale.name);

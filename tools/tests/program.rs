@@ -109,6 +109,21 @@ fn compare_finds_no_difference_to_ourselves() {
 }
 
 #[test]
+fn compare_takes_alike_cards_alone() {
+    let printer = format!("{PROGRAM} print -");
+    let output = run(&["compare", &printer, "3", "40", "--alike"]);
+    assert_eq!(text(&output), "40 compared, 0 differ\n");
+    let output = run(&["compare", &format!("{PROGRAM} samples"), "3", "2", "--alike"]);
+    let printed = text(&output);
+    assert_eq!(printed.lines().last(), Some("2 compared, 2 differ"));
+    for line in printed.lines().filter(|line| line.contains("prep-tools-")) {
+        let (path, name) = line.split_once(": ").expect("a file and a name");
+        assert!(name.starts_with("alike-"), "{line}");
+        fs::remove_file(path).expect("the file can be removed");
+    }
+}
+
+#[test]
 fn compare_keeps_the_inputs_that_differ() {
     let output = run(&["compare", &format!("{PROGRAM} samples"), "3", "2"]);
     let printed = text(&output);

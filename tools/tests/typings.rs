@@ -1,20 +1,22 @@
 //! Both typings: rounds against links, choices against the one choice that counts, and what both promise.
 
 use prep_tools::generate::arriving::{BOTH_ENDS, GUESTS};
-use prep_tools::generate::heavy::{densest, densest_both_ways, densest_open, ring};
+use prep_tools::generate::heavy::{densest, densest_both_ways, densest_open, hub, ring, wrapped::wrapped};
 use prep_tools::generate::open::{ONE_MORE, STRICT, TOLERANT};
 use prep_tools::generate::special::{chain, longest};
 use prep_tools::generate::turns::{chain_back, longest_back, zigzag};
 use prep_tools::generate::{self, MIDDLE, SMALL, TINY};
 use prep_tools::labels::{Label, Way};
-use prep_tools::numbers::{Card, Shape};
+use prep_tools::numbers::{Card, Kind, Shape};
 use prep_tools::random::Random;
 use prep_tools::script::{links_of_card, End};
 use prep_tools::sheet::{self, Files};
 use prep_tools::template::{Definition, Part};
 use prep_tools::typing::judge::can_be_tried;
 use prep_tools::typing::met::{chosen_for, holds, lies_below, met, met_by_choices, sound};
-use prep_tools::typing::{bookings, closure, links, rounds, Largest, Pair, Setting, Smallest};
+use prep_tools::typing::{self, bookings, closure, counting, links, rounds};
+use prep_tools::typing::{Largest, Pair, Setting, Smallest};
+use std::collections::BTreeSet;
 
 /// Random sheets that are well-formed, with their settings.
 fn sheets(seed: u64, count: usize) -> Vec<(Files, Setting)> {
@@ -379,6 +381,73 @@ fn the_densest_sheet_loses_nothing_if_its_shapes_are_open() {
     assert!(setting.template.definitions.iter().all(is_dense));
     assert_eq!(links::largest(&setting).0, answer(1, 0, 0));
     assert!(setting.pairs().any(|pair| ignores(&setting, pair)));
+}
+
+#[test]
+fn the_hub_has_links_from_all_cards_and_loses_nothing() {
+    let (dense, files) = (densest(), hub());
+    assert_eq!(
+        (&files.template, &files.bookings),
+        (&dense.template, &dense.bookings)
+    );
+    assert_eq!(files.script[..2], [1024, 8192]);
+    let setting = setting(&files);
+    for card in setting.cards() {
+        let links = setting.script.links.iter().filter(|link| link.from == card);
+        assert!(links
+            .map(|link| (link.kind.0, link.to))
+            .eq((0..8).map(|kind| (kind, Card(0)))));
+    }
+    assert_eq!(links::largest(&setting).0, answer(1, 0, 0));
+}
+
+/// How many stars, pluses and optionals there are around a link; none if there is anything else around it.
+fn wrappers(part: &Part) -> Option<usize> {
+    match part {
+        Part::Star(inner) | Part::Plus(inner) | Part::Optional(inner) => Some(1 + wrappers(inner)?),
+        Part::Link(_) => Some(0),
+        _ => None,
+    }
+}
+
+#[test]
+fn the_wrapped_sheet_is_at_every_limit() {
+    let files = wrapped();
+    assert_eq!((files.template.len(), files.bookings.len()), (4096, 2049));
+    assert_eq!(
+        (&files.template[..2], &files.script[..2]),
+        (&[64, 32][..], &[1024, 8192][..])
+    );
+    let setting = setting(&files);
+    for part in setting.template.parts() {
+        assert_eq!((part.depth(), part.links().len()), (12, 8));
+        let Part::All(parts) = part else {
+            panic!("{part:?} is no all")
+        };
+        assert!(parts[..8].iter().all(|part| wrappers(part) == Some(10)));
+    }
+    let kinds = |card| {
+        let links = setting.script.links.iter().filter(|link| link.from == card);
+        links.map(|link| link.kind).collect::<Vec<_>>()
+    };
+    let lists: BTreeSet<Vec<Kind>> = setting.cards().map(kinds).collect();
+    assert!(lists.len() > 700, "{} lists of kinds", lists.len());
+    assert!(lists.iter().all(|kinds| kinds.len() == 8 && kinds[7] < Kind(8)));
+    let fits = counting::all(&setting);
+    let fitting = fits.iter().filter(|fits| **fits).count();
+    assert!((100..fits.len() - 100).contains(&fitting), "{fitting} pairs fit");
+}
+
+#[test]
+fn both_typings_are_those_of_the_calls_apart() {
+    for (files, setting) in sheets(27, 200) {
+        let booked = bookings::read(&setting, &files.bookings).expect("generated bookings are well-formed");
+        let both = typing::both(&files.template, &files.script, &files.bookings).expect("a sheet is read");
+        assert_eq!(both.largest, links::largest(&setting), "{files:?}");
+        assert_eq!(both.smallest, closure::smallest(&setting, &booked), "{files:?}");
+        let by_rounds = typing::both_by_rounds(&files.template, &files.script, &files.bookings);
+        assert_eq!(by_rounds, Ok(both), "{files:?}");
+    }
 }
 
 #[test]

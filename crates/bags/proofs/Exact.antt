@@ -4,8 +4,8 @@
 --   optional-interval    an optional part has the interval of the choice of nothing and the part
 --   fits-exact           counts fit exactly where 1 is in the interval and the labels not named count 0
 -- Assumes nothing.
-use Prim.Native.Nat.{ℕ, _+_}
-use mathlib.Core.Path.{_≡_, refl, sym, _∙_, ap, ap₂}
+use Prim.Native.Nat.{ℕ}
+use mathlib.Core.Path.{_≡_, refl, sym, _∙_, ap}
 use mathlib.Core.Logic.{_⊎_, inl, inr, ⊎-elim, _↔_}
 use mathlib.Core.Bool.{Bool, true, false, true≢false}
 use native.Mathlib.Omega.{arith}
@@ -20,6 +20,7 @@ use Rattle.bags.proofs.Powers.{power-one, one-power}
 use Rattle.bags.proofs.Totals.{empty-supported, part-supported, one-supported, each-supported}
 use Rattle.bags.proofs.Naming.{names-dec}
 use Rattle.bags.proofs.Intervals.{Proper, range-proper, link-proper, meet-proper, add-proper}
+use Rattle.bags.proofs.Joining.{add-none}
 use Rattle.bags.proofs.Repetitions.{Zero, Exact, exact-same, exact-empty, exact-no-bag, exact-union}
 use Rattle.bags.proofs.Repetitions.{exact-sums, exact-star, exact-plus, exact-link}
 
@@ -78,7 +79,7 @@ module _ (w : ℕ → ℕ) where
     part-proper (all ps) = meet-run-proper ps
     part-proper (link label shape low high) = link-proper (w label) low high
 
-    add-run-proper : (ps : Parts) → Proper (addRun ps w)
+    pub add-run-proper : (ps : Parts) → Proper (addRun ps w)
     add-run-proper none = omega arith
     add-run-proper (more p ps) = add-proper (interval p w) (addRun ps w) (part-proper p) (add-run-proper ps)
 
@@ -139,14 +140,6 @@ module _ (w : ℕ → ℕ) where
           exact-sums w S (Bags p) (BagsOfEach ps) (Names p) (RunNames ps) (u .2)
           (part-supported S p) (each-supported S ps)
           (interval p w) (meetRun ps w) (interval-exact p (u .0) (s .0)) (meet-run-exact ps (u .1) (s .1))
-
-add-none : (I : Interval) → add I (within 0 0) ≡ I
-add-none empty = refl
-add-none (within lo hi) =
-    let l : lo + 0 ≡ lo = omega arith in
-    let h : hi + 0 ≡ hi = omega arith in
-    ap₂ within l h
-add-none (from lo) = let l : lo + 0 ≡ lo = omega arith in ap from l
 
 pub optional-interval : (p : Part) (w : ℕ → ℕ)
     → interval (optional p) w ≡ interval (choice (more nothing (more p none))) w

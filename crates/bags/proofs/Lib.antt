@@ -19,4 +19,6 @@ pub mod Samples
 pub mod Choosing
 pub mod Spans
 pub mod Flatness
+pub mod Zeros
+pub mod Joining
 pub mod Adequate

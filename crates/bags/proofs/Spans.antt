@@ -7,7 +7,7 @@
 use Prim.Native.Nat.{ℕ, zero, suc, _+_, _-_, _/_, _≤_, _<_, min, max}
 use mathlib.Core.Path.{_≡_, refl, sym, _∙_, ap, ap₂}
 use mathlib.Core.Logic.{_⊎_, ⊎-elim}
-use mathlib.Core.Bool.{Bool, true, false, _&&_}
+use mathlib.Core.Bool.{Bool, true, false, _&&_, cond}
 use native.Mathlib.Omega.{arith}
 use native.Mathlib.Nat.{not-suc-le-zero, div-le-self, div-lt-iff-lt-mul}
 use native.Mathlib.Decide.{ℕ-discrete}
@@ -15,7 +15,7 @@ use lib.Dec.{ltb, leb, eqb}
 use borrow.Author.Tests.{ltb-true, ltb-false, lt-ltb, le-ltb, eqb-true, eqb-false, eq-eqb, ne-eqb, le-leb, lt-leb}
 use Rattle.bags.specs.Part.{Limit, at-most, no-limit, limitUnless, limitOf}
 use Rattle.bags.specs.Interval.{Interval, empty, within, from, inside, keep, range, meet, add, lowRoom}
-use Rattle.bags.specs.Interval.{highRoom, linkInterval, oneUp, oneToHighest, starInterval, plusInterval}
+use Rattle.bags.specs.Interval.{highRoom, linkInterval, lowered, wrapInterval}
 use Rattle.bags.specs.Span.{top, seenAs, view, Small}
 use Rattle.bags.specs.declared.Span.{Span}
 
@@ -253,65 +253,56 @@ high-any (at-most (suc h)) =
     let z : (0 + h) / suc h ≡ 0 = omega arith in
     ap from z
 
+pub zero-from : (low : ℕ) (high : Limit) → low ≡ 0 → linkInterval 0 low high ≡ from 0
+zero-from zero high e = ap (meet (from 0)) (high-any high)
+zero-from (suc l) high e = let z : ⊥ = omega arith in absurd z
+
+pub zero-only : (low : ℕ) (high : Limit) → 0 < low → linkInterval 0 low high ≡ within 0 0
+zero-only zero high h = absurd (not-suc-le-zero h)
+zero-only (suc l) high h =
+    let z : 0 / suc l ≡ 0 = omega (arith, div-le-self 0 (suc l)) in
+    ap₂ meet (ap (within 0) z) (high-any high)
+
 pub zero-any : (low : ℕ) (high : Limit) → low ≡ 0 → view (span 0 top) ≡ linkInterval 0 low high
-zero-any zero high e = view-from (span 0 top) (omega arith) refl ∙ sym (ap (meet (from 0)) (high-any high))
-zero-any (suc l) high e = let z : ⊥ = omega arith in absurd z
+zero-any low high e = view-from (span 0 top) (omega arith) refl ∙ sym (zero-from low high e)
 
 pub zero-alone : (low : ℕ) (high : Limit) → 0 < low → view (span 0 0) ≡ linkInterval 0 low high
-zero-alone zero high h = absurd (not-suc-le-zero h)
-zero-alone (suc l) high h =
-    let z : 0 / suc l ≡ 0 = omega (arith, div-le-self 0 (suc l)) in
-    view-within (span 0 0) (omega arith) (λ f. let g : 0 ≡ top = f in omega arith)
-    ∙ sym (ap₂ meet (ap (within 0) z) (high-any high))
+zero-alone low high h =
+    view-within (span 0 0) (omega arith) (λ f. let g : 0 ≡ top = f in omega arith) ∙ sym (zero-only low high h)
 
--- star_span, plus_span, optional_span.
-pub star-zero : (zero : Bool) (x : Span) → zero ≡ true → view (span 0 top) ≡ starInterval zero (view x)
-star-zero z x e = view-from (span 0 top) (omega arith) refl ∙ sym (ap (λ (t : Bool). starInterval t (view x)) e)
+-- wrap_span.
+pub wrap-empty : (lowers frees : Bool) (x : Span) → x .hi < x .lo → view x ≡ wrapInterval lowers frees (view x)
+wrap-empty a b x h = let v = view-empty x h in v ∙ sym (ap (wrapInterval a b) v)
 
-pub star-empty : (zero : Bool) (x : Span) → zero ≡ false → x .hi < x .lo → view x ≡ starInterval zero (view x)
-star-empty z x e h = let v = view-empty x h in v ∙ sym (ap₂ starInterval e v)
+lowered-le : (lowers : Bool) (lo : ℕ) → lowered lowers lo ≤ lo
+lowered-le true lo = omega arith
+lowered-le false lo = omega arith
 
-pub star-some : (zero : Bool) (x : Span) → zero ≡ false → x .lo ≤ x .hi → view (span 1 top) ≡ starInterval zero (view x)
-star-some z x e h =
-    view-from (span 1 top) (omega arith) refl ∙ sym (ap (λ (t : Bool). starInterval t (view x)) e ∙ by-seen (seen x))
+pub wrap-some : (lowers frees : Bool) (x : Span) (lo hi : ℕ) → x .lo ≤ x .hi → x .hi ≤ top →
+    lo ≡ lowered lowers (x .lo) → hi ≡ cond frees top (x .hi) → view (span lo hi) ≡ wrapInterval lowers frees (view x)
+wrap-some a b x lo hi h t el eh = by-seen b (seen x) eh
   where
-    by-seen : Seen x → oneUp (view x) ≡ from 1
-    by-seen (is-empty g d) = let z : ⊥ = omega arith in absurd z
-    by-seen (is-from g k d) = ap oneUp d
-    by-seen (is-within g k d) = ap oneUp d
+    less : lo ≤ x .lo
+    less = omega (arith, lowered-le a (x .lo))
 
-pub plus-zero : (zero : Bool) (x : Span) → zero ≡ true → view x ≡ plusInterval zero (view x)
-plus-zero z x e = sym (ap (λ (t : Bool). plusInterval t (view x)) e)
+    by-seen : (f : Bool) → Seen x → hi ≡ cond f top (x .hi) → view (span lo hi) ≡ wrapInterval a f (view x)
+    by-seen f (is-empty g d) e = let z : ⊥ = omega arith in absurd z
+    by-seen true (is-from g k d) e =
+        view-from (span lo hi) (omega (arith, less)) e ∙ ap from el ∙ sym (ap (wrapInterval a true) d)
+    by-seen false (is-from g k d) e =
+        view-from (span lo hi) (omega (arith, less)) (e ∙ k) ∙ ap from el ∙ sym (ap (wrapInterval a false) d)
+    by-seen true (is-within g k d) e =
+        view-from (span lo hi) (omega (arith, less)) e ∙ ap from el ∙ sym (ap (wrapInterval a true) d)
+    by-seen false (is-within g k d) e =
+        view-within (span lo hi) (omega (arith, less)) (λ q. k (sym e ∙ q)) ∙ ap₂ within el e
+        ∙ sym (ap (wrapInterval a false) d)
 
-pub plus-empty : (zero : Bool) (x : Span) → zero ≡ false → x .hi < x .lo → view x ≡ plusInterval zero (view x)
-plus-empty z x e h = let v = view-empty x h in v ∙ sym (ap₂ plusInterval e v)
-
-pub plus-some : (zero : Bool) (x : Span) → zero ≡ false → x .lo ≤ x .hi
-    → view (span 1 (x .hi)) ≡ plusInterval zero (view x)
-plus-some z x e h = by-seen (seen x) ∙ sym (ap (λ (t : Bool). plusInterval t (view x)) e)
-  where
-    by-seen : Seen x → view (span 1 (x .hi)) ≡ oneToHighest (view x)
-    by-seen (is-empty g d) = let z : ⊥ = omega arith in absurd z
-    by-seen (is-from g k d) = view-from (span 1 (x .hi)) (omega arith) k ∙ sym (ap oneToHighest d)
-    by-seen (is-within g k d) = view-range (span 1 (x .hi)) k ∙ sym (ap oneToHighest d)
-
-pub plus-small : (n : ℕ) (x : Span) → 1 ≤ n → Small n x → Small n (span 1 (x .hi))
+pub wrap-small : (lowers frees : Bool) (x : Span) (lo hi n : ℕ) → lo ≡ lowered lowers (x .lo) →
+    hi ≡ cond frees top (x .hi) → Small n x → Small n (span lo hi)
 unfolding Small
-plus-small n x h s = (h, s .1)
-
-pub optional-empty : (x : Span) → x .hi < x .lo → view x ≡ add (from 0) (view x)
-optional-empty x h = let v = view-empty x h in v ∙ sym (ap (add (from 0)) v)
-
-pub optional-some : (x : Span) → x .lo ≤ x .hi → x .hi ≤ top → view (span (x .lo) top) ≡ add (from 0) (view x)
-optional-some x h t = view-from (span (x .lo) top) (omega arith) refl ∙ sym (by-seen (seen x))
-  where
-    low : 0 + x .lo ≡ x .lo
-    low = omega arith
-
-    by-seen : Seen x → add (from 0) (view x) ≡ from (x .lo)
-    by-seen (is-empty g d) = let z : ⊥ = omega arith in absurd z
-    by-seen (is-from g k d) = ap (add (from 0)) d ∙ ap from low
-    by-seen (is-within g k d) = ap (add (from 0)) d ∙ ap from low
+wrap-small a true x lo hi n el eh s = (omega (arith, lowered-le a (x .lo)), λ d. absurd (d eh))
+wrap-small a false x lo hi n el eh s =
+    (omega (arith, lowered-le a (x .lo)), λ d. let h : x .hi ≤ n = s .1 (λ q. d (eh ∙ q)) in omega arith)
 
 -- has_one.
 pub one-above : (x : Span) → 1 < x .lo → false ≡ inside 1 (view x)

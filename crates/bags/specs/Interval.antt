@@ -3,13 +3,14 @@
 --   Interval, In, inside     a set of numbers of repetitions, and whether a number is in it
 --   meet, add                the intersection, and the sums of a number of each
 --   linkInterval, starInterval, plusInterval   those of a link, and of a star and a plus over a part's
+--   wrapInterval             that of any stars, pluses and optionals over a part's, taken together
 --   interval                 the interval of a part for some counts
 --   othersZero, fits         whether outgoing labels that a part does not name count 0; whether counts fit a shape,
 --                            open or closed, by the interval of its part
 -- This is a way to decide whether counts fit, for the evaluator and for tests; the promise is Bag's Fits.
 -- Assumes nothing.
 use Prim.Native.Nat.{ℕ, zero, suc, _+_, _/_, _≤_, min, max}
-use mathlib.Core.Bool.{Bool, true, false, _&&_, _||_}
+use mathlib.Core.Bool.{Bool, true, false, _&&_, _||_, cond}
 use lib.Dec.{leb, eqb}
 use Rattle.bags.specs.Part.{Limit, at-most, no-limit, Part, nothing, star, plus, optional, choice, all, link}
 use Rattle.bags.specs.Part.{Parts, none, more, names}
@@ -98,6 +99,17 @@ starInterval false I = oneUp I
 abbrev pub plusInterval : Bool → Interval → Interval
 plusInterval true I = I
 plusInterval false I = oneToHighest I
+
+-- The lowest number of a part's interval below a star or a plus: what is above 1 falls to 1.
+abbrev pub lowered : Bool → ℕ → ℕ
+lowered lowers lo = cond lowers (min lo 1) lo
+
+-- The interval of a part below stars, pluses and optionals, from its own: whether one of them is a star or a plus,
+-- which lower it, and whether one is a star or an optional, which free it of a limit.
+abbrev pub wrapInterval : Bool → Bool → Interval → Interval
+wrapInterval lowers frees empty = empty
+wrapInterval lowers frees (within lo hi) = cond frees (from (lowered lowers lo)) (within (lowered lowers lo) hi)
+wrapInterval lowers frees (from lo) = from (lowered lowers lo)
 
 -- Whether the counts of all labels of a part are 0.
 abbrev mutual

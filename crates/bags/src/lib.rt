@@ -1,9 +1,10 @@
 // Intervals of repetitions as two numbers (docs/FORMAT.md, "Bags and counts"; section 8.2 of the paper).
 ghost use mathlib.Core.Path.{_≡_};
-ghost use Prim.Native.Nat.{ℕ, _≤_, _+_, min, max};
-ghost use Rattle.bags.specs.Interval.{inside, meet, add, from, lowRoom, highRoom, linkInterval, starInterval};
-ghost use Rattle.bags.specs.Interval.{plusInterval};
-ghost use Rattle.bags.specs.Span.{view, Small, Addable};
+ghost use mathlib.Core.Bool.{cond};
+ghost use Prim.Native.Nat.{ℕ, _+_, min, max};
+ghost use Rattle.bags.specs.Interval.{inside, meet, add, lowRoom, highRoom, linkInterval, lowered};
+ghost use Rattle.bags.specs.Interval.{wrapInterval};
+ghost use Rattle.bags.specs.Span.{top, view, Small, Addable};
 ghost use Rattle.bags.specs.Part.{Limit, limitOf};
 use words::NO_LIMIT;
 
@@ -126,43 +127,39 @@ pub fn zero_span(low: u16) -> Span
     Span { lo: 0, hi: 0 }
 }
 
-// The span of a star over a part with the span x, where zero says whether the counts of its labels are all 0.
-pub fn star_span(zero: bool, x: Span) -> Span
-    ensures view { λ r. ⌜ view r ≡ starInterval zero (view x) ⌝ }
-    ensures small { λ r. ⌜ ((n : ℕ) → 1 ≤ n → Small n x → Small n r) ⌝ }
+// The lo of a span below wrappers: below a star or a plus what is above 1 falls to 1.
+fn low_end(lowers: bool, lo: u32) -> u32
+    ensures { λ r. ⌜ r ≡ lowered lowers lo ⌝ }
 {
-    if zero {
-        return Span { lo: 0, hi: TOP };
+    if lowers {
+        return smaller(lo, 1);
     }
-    if x.hi < x.lo {
-        return x;
-    }
-    Span { lo: 1, hi: TOP }
+    lo
 }
 
-// The span of a plus, likewise.
-pub fn plus_span(zero: bool, x: Span) -> Span
-    ensures view { λ r. ⌜ view r ≡ plusInterval zero (view x) ⌝ }
-    ensures small { λ r. ⌜ ((n : ℕ) → 1 ≤ n → Small n x → Small n r) ⌝ }
+// The hi of a span below wrappers: below a star or an optional it has no limit.
+fn high_end(frees: bool, hi: u32) -> u32
+    ensures { λ r. ⌜ r ≡ cond frees top hi ⌝ }
 {
-    if zero {
-        return x;
+    if frees {
+        return TOP;
     }
-    if x.hi < x.lo {
-        return x;
-    }
-    Span { lo: 1, hi: x.hi }
+    hi
 }
 
-// The span of a choice of nothing and a part with the span x.
-pub fn optional_span(x: Span) -> Span
-    ensures view { λ r. ⌜ view r ≡ add (from 0) (view x) ⌝ }
+// The span of a part below stars, pluses and optionals, from its own: whether one of them is a star or a plus, and
+// whether one is a star or an optional.
+pub fn wrap_span(lowers: bool, frees: bool, x: Span) -> Span
+    ensures view { λ r. ⌜ view r ≡ wrapInterval lowers frees (view x) ⌝ }
     ensures small { λ r. ⌜ ((n : ℕ) → Small n x → Small n r) ⌝ }
 {
     if x.hi < x.lo {
         return x;
     }
-    Span { lo: x.lo, hi: TOP }
+    Span {
+        lo: low_end(lowers, x.lo),
+        hi: high_end(frees, x.hi),
+    }
 }
 
 // Whether 1 is inside.

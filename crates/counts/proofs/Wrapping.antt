@@ -1,89 +1,177 @@
 -- The wrappers that a part starts with, code by code.
--- core-start, core-more         no wrapper, and one more
--- wrapped-start, wrapped-more   the answer for no wrapper around the core, and for one more
--- core-evaluates                the answer for a core whose interval is known
--- core-names                    a part names what its core names
+-- effect-none, effect-more   what no wrapper makes of the core's interval, and one more
+-- FrontTo       the wrappers up to a place; front-start, front-more, front-stops: from the first to the last
+-- core-at, core-same   where the core of a part within words starts, and that it is the one known
+-- core-fitted   whether 1 is in the interval of a part, from its core's
+-- wrapped-part  the answer for a part, from that for its core
+-- core-names    a part names what its core names
 -- Assumes nothing.
 use Prim.Native.Nat.{ℕ, zero, suc, _+_, _-_, _*_, _≤_, _<_}
-use mathlib.Core.Path.{_≡_, refl, sym, ap, subst, _∙_}
+use mathlib.Core.Path.{_≡_, refl, sym, ap, ap₂, subst, _∙_}
+use mathlib.Core.Bool.{Bool, false, _||_, not}
 use mathlib.Core.Logic.{⊎-elim}
 use mathlib.Core.List.{List}
 use native.Mathlib.Omega.{arith}
 use native.Mathlib.Numerals.{add-one}
 use lib.ListN.{length, getD}
 use lib.Dec.{eqb}
-use Rattle.words.proofs.Bools.{cond-case, last-or-below}
+use Rattle.words.proofs.Bools.{cond-case, last-or-below, le-or-lt, eq-or-ne}
 use Rattle.bags.specs.Part.{Part, names}
-use Rattle.bags.specs.Interval.{Interval, inside}
+use Rattle.bags.specs.Interval.{inside, allZero, interval, wrapInterval}
+use Rattle.bags.specs.Span.{view, Small}
 use Rattle.bags.specs.declared.Span.{Span}
+use Rattle.bags.proofs.Exact.{part-proper}
+use Rattle.bags.proofs.Zeros.{all-zero-test}
+use Rattle.bags.proofs.Joining.{wrap-star, wrap-plus, wrap-optional, wrap-none, wrap-twice}
 use Rattle.bags.proofs.Spans.{small-more}
-use Rattle.bags.proofs.Flatness.{zero-span}
 use Rattle.template.specs.Reading.{Code, wrapped}
-use Rattle.template.specs.Template.{Placed}
+use Rattle.template.specs.Template.{Placed, onto}
 use Rattle.template.proofs.Laws.{code-single}
 use Rattle.counts.specs.declared.Eval.{Eval}
+use Rattle.counts.specs.declared.wrappers.Front.{Front}
 use Rattle.counts.specs.Trees.{treeAt}
-use Rattle.counts.specs.Evaluation.{Evaluates, Wraps}
-use Rattle.counts.specs.Wrappers.{WrapAsked, CoreAt, CoreSpan}
+use Rattle.counts.specs.Evaluation.{Evaluates}
+use Rattle.counts.specs.Wrappers.{WrapAsked, CoreAt, Effect, FrontOf}
 use Rattle.counts.proofs.Places.{tree-by}
-use Rattle.counts.proofs.Evaluations.{eval}
-use Rattle.counts.proofs.Steps.{part-single}
+use Rattle.counts.proofs.Sizes.{next-bound}
 
-module _ (words : List ℕ) (start end : ℕ) where
-  pub core-start : start ≤ end → end ≤ length words → CoreAt words start end start
-  core-start a b = record {
-    wrap = record { order = omega arith; inside = omega arith; codes = λ k l h. absurd (omega arith) };
-    within = a;
-  }
+-- ---- what wrappers make of an interval
+-- A star and a plus lower it, a star and an optional free it of its limit.
+single-wrapped : (code : ℕ) → 1 ≤ code → code ≤ 3 → (p : Part) (w : ℕ → ℕ) →
+    interval (wrapped code p) w ≡ wrapInterval (not (eqb code 3)) (not (eqb code 2)) (interval p w)
+single-wrapped code a b p w = ⊎-elim
+    (λ (e : code ≡ 1). rw e (wrap-star (allZero p w) (interval p w) (all-zero-test p w)))
+    (λ first. ⊎-elim
+    (λ (e : code ≡ 2). rw e (wrap-plus (allZero p w) (interval p w) (part-proper w p) (all-zero-test p w)))
+    (λ second.
+    let e : code ≡ 3 = omega (arith, first, second) in
+    rw e (wrap-optional (interval p w)))
+    (eq-or-ne code 2))
+    (eq-or-ne code 1)
 
-  pub core-more : (at : ℕ) → CoreAt words start end at → at < end → end ≤ length words → 1 ≤ getD words at 0 →
-      getD words at 0 ≤ 3 → CoreAt words start end (at + 1)
-  core-more at c l b low high =
-      let wrap = c .wrap in
+module _ (words : List ℕ) (start : ℕ) where
+  pub effect-none : Effect words start start false false
+  effect-none =
+      let same : (left : ℕ) → left + (start - start) ≡ left = λ left. omega arith in
       record {
-        wrap = record {
-          order = omega (arith, wrap .order);
-          inside = omega arith;
-          codes = λ k h g. ⊎-elim
-              (λ (e : k ≡ at). subst (λ (n : ℕ). (1 ≤ getD words n 0) × (getD words n 0 ≤ 3)) (sym e) (low, high))
-              (λ below. wrap .codes k h below)
-              (last-or-below (rw (add-one at) at g));
-        };
-        within = omega arith;
+        next = λ left. rw (same left) refl;
+        span = λ left w. rw (same left) (wrap-none (interval (treeAt left words start .value) w));
       }
 
--- The answer for the part at a place before the core, from the answer for the core.
-module _ (w : ℕ → ℕ) (words : List ℕ) (core left : ℕ) where
-  pub wrapped-start : (at : ℕ) (e : Eval) → at ≡ core → Evaluates w core (treeAt left words core) e →
-      Evaluates w at (treeAt (left + (core - at)) words at) e
-  wrapped-start at e q v =
-      let none : left ≡ left + (core - core) = omega arith in
-      subst (λ (n : ℕ). Evaluates w n (treeAt (left + (core - n)) words n) e) (sym q)
-      (subst (λ (n : ℕ). Evaluates w core (treeAt n words core) e) none v)
+  pub effect-more : (core : ℕ) (lowers frees a b : Bool) → Effect words start core lowers frees → start ≤ core →
+      core < length words → 1 ≤ getD words core 0 → getD words core 0 ≤ 3 →
+      a ≡ (lowers || not (eqb (getD words core 0) 3)) → b ≡ (frees || not (eqb (getD words core 0) 2)) →
+      Effect words start (core + 1) a b
+  effect-more core lowers frees a b f o l low high p q =
+      let code = getD words core 0 in
+      let more : (left : ℕ) → left + (core + 1 - start) ≡ left + 1 + (core - start) = λ left. omega arith in
+      let fewer : (left : ℕ) → left + 1 - 1 ≡ left = λ left. omega arith in
+      let tree : (left : ℕ) → treeAt (left + 1) words core ≡ onto (wrapped code) (treeAt left words (core + 1)) =
+      λ left.
+      sym (tree-by words core (left + 1) (omega arith) l (Code.single (wrapped code)) (code-single code low high))
+      ∙ ap (λ (n : ℕ). onto (wrapped code) (treeAt n words (core + 1))) (fewer left) in
+      record {
+        next = λ left.
+            ap (λ (n : ℕ). treeAt n words start .next) (more left) ∙ f .next (left + 1)
+            ∙ ap (λ (t : Placed Part). t .next) (tree left);
+        span = λ left w.
+            ap (λ (n : ℕ). interval (treeAt n words start .value) w) (more left) ∙ f .span (left + 1) w
+            ∙ ap (λ (t : Placed Part). wrapInterval lowers frees (interval (t .value) w)) (tree left)
+            ∙ ap (wrapInterval lowers frees) (single-wrapped code low high (treeAt left words (core + 1) .value) w)
+            ∙ wrap-twice lowers frees (not (eqb code 3)) (not (eqb code 2))
+            (interval (treeAt left words (core + 1) .value) w)
+            ∙ ap₂ (λ (x y : Bool). wrapInterval x y (interval (treeAt left words (core + 1) .value) w)) (sym p) (sym q);
+      }
 
-  pub wrapped-more : (at : ℕ) (inner e : Eval) → 0 < at → at ≤ core → core ≤ length words →
-      1 ≤ getD words (at - 1) 0 → getD words (at - 1) 0 ≤ 3 → Wraps (getD words (at - 1) 0) inner e →
-      Evaluates w at (treeAt (left + (core - at)) words at) inner →
-      Evaluates w (at - 1) (treeAt (left + (core - (at - 1))) words (at - 1)) e
-  wrapped-more at inner e l h b low high wraps v =
-      let here : at ≡ at - 1 + 1 = omega arith in
-      let fewer : left + (core - at) ≡ left + (core - (at - 1)) - 1 = omega arith in
-      part-single w words (left + (core - (at - 1))) (at - 1) e (omega arith) (omega arith) inner low high
-      (subst (λ (n : ℕ). Evaluates w n (treeAt (left + (core - (at - 1)) - 1) words n) inner) here
-      (subst (λ (n : ℕ). Evaluates w at (treeAt n words at) inner) fewer v))
-      wraps
+  -- ---- the wrappers from a place on
+  -- What holds before a place, which is at most the end.
+  pub record FrontTo (end core : ℕ) (lowers frees : Bool) : Type 0 where
+    pub order : start ≤ core
+    pub within : core ≤ end
+    pub codes : (k : ℕ) → start ≤ k → k < core → (k < length words) × (1 ≤ getD words k 0) × (getD words k 0 ≤ 3)
+    pub effect : Effect words start core lowers frees
 
--- The core's interval, with whether all its labels count 0.
-pub core-evaluates : (words : List ℕ) (left core end : ℕ) (w : ℕ → ℕ) (x : Span) → CoreSpan words left core end w x →
-    Evaluates w core (treeAt left words core) (eval end (eqb (x .lo) 0) x)
-core-evaluates words left core end w x c =
-    let room : 65535 ≤ 65535 * (treeAt left words core .next - core) = omega (arith, c .next, c .above) in
-    record {
-      next = sym (c .next);
-      zero = zero-span x ∙ ap (λ (I : Interval). inside 0 I) (c .same) ∙ sym (c .zero);
-      span = c .same;
-      small = small-more 65535 (65535 * (treeAt left words core .next - core)) x room (c .small);
+  pub front-start : (end : ℕ) → start ≤ end → FrontTo end start false false
+  front-start end h =
+      record { order = omega arith; within = h; codes = λ k l b. absurd (omega arith); effect = effect-none }
+
+  module _ (end core : ℕ) (lowers frees : Bool) (f : FrontTo end core lowers frees) where
+    pub front-more : (a b : Bool) → core < end → core < length words → 1 ≤ getD words core 0 → getD words core 0 ≤ 3 →
+        a ≡ (lowers || not (eqb (getD words core 0) 3)) → b ≡ (frees || not (eqb (getD words core 0) 2)) →
+        FrontTo end (core + 1) a b
+    front-more a b h l low high p q = record {
+      order = omega (arith, f .order);
+      within = omega arith;
+      codes = λ k g i. ⊎-elim
+          (λ (e : k ≡ core). subst (λ (n : ℕ). (n < length words) × (1 ≤ getD words n 0) × (getD words n 0 ≤ 3)) (sym e)
+          (l, low, high))
+          (λ below. f .codes k g below)
+          (last-or-below (rw (add-one core) at i));
+      effect = effect-more core lowers frees a b (f .effect) (f .order) l low high p q;
     }
+
+    -- no wrapper stands at the place, or the end is reached
+    pub front-stops : (most : ℕ) → end ≤ start + most →
+        (core < start + most → core < length words → 1 ≤ getD words core 0 → 4 ≤ getD words core 0) →
+        FrontOf words start most (record { core = core; lowers = lowers; frees = frees })
+    front-stops most h stop = record {
+      order = f .order;
+      few = omega (arith, f .within);
+      codes = f .codes;
+      ends = stop;
+      effect = f .effect;
+    }
+
+-- ---- cores
+module _ (words : List ℕ) (start : ℕ) (front : Front) where
+  pub core-at : (end : ℕ) → start ≤ end → end ≤ length words → FrontOf words start (end - start) front →
+      CoreAt words start end (front .core)
+  core-at end a b f = record {
+    wrap = record {
+      order = f .order;
+      inside = omega (arith, f .few);
+      codes = λ k l h. (f .codes k l h .1, f .codes k l h .2);
+    };
+    within = omega (arith, f .few);
+  }
+
+  pub core-same : (core : ℕ) → WrapAsked words start core → FrontOf words start (core - start) front →
+      front .core ≡ core
+  core-same core wrap f = ⊎-elim
+      (λ (h : front .core + 1 ≤ core).
+      let (low, high) = wrap .codes (front .core) (f .order) (omega arith) in
+      let over = f .ends (omega (arith, wrap .order)) (omega (arith, wrap .inside)) low in
+      absurd (omega arith))
+      (λ h. omega (arith, f .few, wrap .order))
+      (le-or-lt (front .core + 1) core)
+
+  -- Whether 1 is in the interval of a part, from the interval of its core.
+  pub core-fitted : (core : ℕ) → WrapAsked words start core → FrontOf words start (core - start) front →
+      (x around : Span) → view around ≡ wrapInterval (front .lowers) (front .frees) (view x) → (one : Bool) →
+      one ≡ inside 1 (view around) → (w : ℕ → ℕ) (left : ℕ) → view x ≡ interval (treeAt left words core .value) w →
+      one ≡ inside 1 (interval (treeAt (left + (core - start)) words start .value) w)
+  core-fitted core wrap f x around v one h w left e =
+      let effect = subst (λ (n : ℕ). Effect words start n (front .lowers) (front .frees)) (core-same core wrap f)
+      (f .effect) in
+      h ∙ ap (inside 1) (v ∙ ap (wrapInterval (front .lowers) (front .frees)) e ∙ sym (effect .span left w))
+
+  -- The answer for a part, from that for its core.
+  pub wrapped-part : (w : ℕ → ℕ) (left levels : ℕ) (core r : Eval) → FrontOf words start left front →
+      levels ≡ left - (front .core - start) → Evaluates w (front .core) (treeAt levels words (front .core)) core →
+      r .next ≡ core .next → view (r .span) ≡ wrapInterval (front .lowers) (front .frees) (view (core .span)) →
+      ((n : ℕ) → Small n (core .span) → Small n (r .span)) → Evaluates w start (treeAt left words start) r
+  wrapped-part w left levels core r f q v n i s =
+      let all : levels + (front .core - start) ≡ left = omega (arith, f .few, f .order) in
+      let inner = treeAt levels words (front .core) in
+      let next : treeAt left words start .next ≡ inner .next =
+      ap (λ (m : ℕ). treeAt m words start .next) (sym all) ∙ f .effect .next levels in
+      record {
+        next = n ∙ v .next ∙ sym next;
+        span = i ∙ ap (wrapInterval (front .lowers) (front .frees)) (v .span)
+            ∙ sym (f .effect .span levels w) ∙ ap (λ (m : ℕ). interval (treeAt m words start .value) w) all;
+        small = s _ (small-more (65535 * (inner .next - front .core)) (65535 * (treeAt left words start .next - start))
+            (core .span) (omega (arith, next, f .order, next-bound words levels (front .core) .0)) (v .small));
+      }
 
 -- A wrapper names what the part in it names.
 wrapped-names : (code : ℕ) (p : Part) (k : ℕ) → names (wrapped code p) k ≡ names p k

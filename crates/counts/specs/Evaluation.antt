@@ -1,57 +1,69 @@
 -- What the interval evaluator answers for a part at a place (section 8.2 of the paper); no part of a promise.
--- Evaluates      the next place, whether all counts of the part's labels are 0, and the part's interval
--- Wraps, Joins   the answer for a part around another, and for a first part with the rest of a run
--- LinkHere       a link stands at a place; Stretch: so many parts of a run, from the first on, are links
--- JoinsLinks     the answer for so many links with the rest of a run
+-- Evaluates   the next place, and the part's interval
+-- joined      the interval of some parts of a choice or of all with others
+-- Begins      the answer for the first parts of a run
+-- LinkHere    a link stands at a place, whole
+-- PlainHere   no choice, no all and no wrapper stands at a place; GroupHere: a choice or an all does
+-- TakesLinks  the answer for the first parts of a run and the links after them
 -- Assumes nothing.
 use Prim.Native.Nat.{ℕ, _+_, _-_, _*_, _≤_, _<_}
 use mathlib.Core.Path.{_≡_}
+use mathlib.Core.Bool.{cond}
 use mathlib.Core.List.{List}
 use lib.ListN.{length, getD}
-use Rattle.bags.specs.Part.{Part, Parts}
-use Rattle.bags.specs.Interval.{allZero, interval}
+use lib.Dec.{eqb}
+use Rattle.bags.specs.Part.{Part}
+use Rattle.bags.specs.Interval.{Interval, add, meet, interval}
 use Rattle.bags.specs.Span.{view, Small}
-use Rattle.template.specs.Reading.{wrapped, gathered}
-use Rattle.template.specs.Template.{Placed, onto}
+use Rattle.template.specs.Reading.{gathered}
+use Rattle.template.specs.Template.{Placed}
 use Rattle.counts.specs.Trees.{treesAt, treeAt}
 use Rattle.counts.specs.declared.Eval.{Eval}
+use Rattle.counts.specs.declared.Taken.{Taken}
 
 -- The evaluator's answer for the part that stands at `at`, where `count` has the count of each label. The ends of its
 -- span are at most 65,535 for each word of the part, so that no sum of them overflows.
 pub record Evaluates (count : ℕ → ℕ) (at : ℕ) (t : Placed Part) (e : Eval) : Type 0 where
   pub next : e .next ≡ t .next
-  pub zero : e .zero ≡ allZero (t .value) count
   pub span : view (e .span) ≡ interval (t .value) count
   pub small : Small (65535 * (t .next - at)) (e .span)
 
--- From the answer for a part comes that for the star, plus or optional part around it, whose code stands before it.
-abbrev pub Wraps : ℕ → Eval → Eval → Type 0
-Wraps code inner e =
-    (w : ℕ → ℕ) (at : ℕ) (t : Placed Part) → at < t .next → Evaluates w (at + 1) t inner →
-    Evaluates w at (onto (wrapped code) t) e
+-- Some parts of a choice (16) or of all (17), and others after them.
+abbrev pub joined : ℕ → Interval → Interval → Interval
+joined code I J = cond (eqb code 16) (add I J) (meet I J)
 
--- From the answers for the first part of a choice or of all and for the rest comes that for them together.
-abbrev pub Joins : ℕ → Eval → Eval → Eval → Type 0
-Joins code first rest e =
-    (w : ℕ → ℕ) (at : ℕ) (t : Placed Part) (u : Placed Parts) → at ≤ t .next → t .next ≤ u .next →
-    Evaluates w at t first → Evaluates w (t .next) (onto (gathered code) u) rest →
-    Evaluates w at (onto (gathered code) (onto (Parts.more (t .value)) u)) e
+-- The answer for the first parts of a run, so many of them: with whatever parts come next it makes the answer for all.
+pub record Begins (count : ℕ → ℕ) (words : List ℕ) (left at code done : ℕ) (e : Eval) : Type 0 where
+  pub order : at ≤ e .next
+  pub next : (more : ℕ) →
+      treesAt (treeAt left words) (done + more) at .next ≡ treesAt (treeAt left words) more (e .next) .next
+  pub span : (more : ℕ) →
+      interval (gathered code (treesAt (treeAt left words) (done + more) at .value)) count
+      ≡ joined code (view (e .span))
+      (interval (gathered code (treesAt (treeAt left words) more (e .next) .value)) count)
+  pub small : Small (65535 * (e .next - at)) (e .span)
 
--- A link's code stands at a place.
+-- A link stands at a place, with the three words after its code.
 pub record LinkHere (words : List ℕ) (at : ℕ) : Type 0 where
-  pub inside : at < length words
+  pub inside : at + 3 < length words
   pub low : 256 ≤ getD words at 0
   pub high : getD words at 0 ≤ 383
 
--- Of so many parts from a place on the first are links, four words each, if a level of parts is left.
-pub record Stretch (words : List ℕ) (at left parts count : ℕ) : Type 0 where
-  pub few : count ≤ parts
-  pub level : 0 < count → 0 < left
-  pub each : (i : ℕ) → i < count → LinkHere words (at + 4 * i)
+-- Where a level of parts is left, no code of a wrapper, of a choice or of an all stands at a place.
+abbrev pub PlainHere : List ℕ → ℕ → ℕ → Type 0
+PlainHere words at left =
+    0 < left → at < length words → ((1 ≤ getD words at 0 → 4 ≤ getD words at 0)
+    × (16 ≤ getD words at 0 → 18 ≤ getD words at 0))
 
--- From the answer for the rest of a run comes that for so many links before it and the rest.
-abbrev pub JoinsLinks : (ℕ → ℕ) → List ℕ → ℕ → ℕ → ℕ → Eval → Eval → Type 0
-JoinsLinks w words at count code rest e =
-    (left parts : ℕ) → 0 < left →
-    Evaluates w (at + 4 * count) (onto (gathered code) (treesAt (treeAt left words) parts (at + 4 * count))) rest →
-    Evaluates w at (onto (gathered code) (treesAt (treeAt left words) (parts + count) at)) e
+-- A choice or an all stands at a place, and a level of parts is left.
+pub record GroupHere (words : List ℕ) (at left : ℕ) : Type 0 where
+  pub level : 0 < left
+  pub inside : at < length words
+  pub low : 16 ≤ getD words at 0
+  pub high : getD words at 0 ≤ 17
+
+-- Of so many parts some are taken, all of them links: with these the answer for the parts before is one for more.
+pub record TakesLinks (count : ℕ → ℕ) (words : List ℕ) (left parts code : ℕ) (before : Eval) (r : Taken) : Type 0 where
+  pub few : r .count ≤ parts
+  pub begins : (at done : ℕ) → Begins count words left at code done before →
+      Begins count words left at code (done + r .count) (r .eval)

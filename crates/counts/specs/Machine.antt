@@ -1,6 +1,6 @@
 -- What the inner functions of "Fit counts" ask; no part of a promise.
 -- Source, Ready         what counting a label asks, and what evaluating a part asks
--- JoinAsked             what joining links with the rest of a run asks
+-- TakeAsked             what taking the next links of a run asks
 -- RowOf                 a row has the names of a part, for so many labels
 -- Testable              what testing counts against a shape asks
 -- SpreadAsked, Spread   what spreading a list of counts over all labels asks and leaves
@@ -18,12 +18,11 @@ use Rattle.bags.specs.Part.{Part}
 use Rattle.bags.specs.Bag.{count}
 use Rattle.bags.specs.Look.{listed}
 use Rattle.bags.specs.Named.{named}
-use Rattle.template.specs.Reading.{gathered}
-use Rattle.template.specs.Template.{onto, partAt, Template, readTemplate, templateSays}
+use Rattle.template.specs.Template.{partAt, Template, readTemplate, templateSays}
 use Rattle.template.specs.Machine.{Tabled}
 use Rattle.script.specs.Runs.{amount, KindsRise}
-use Rattle.counts.specs.Trees.{treesAt, treeAt}
-use Rattle.counts.specs.Evaluation.{Evaluates, LinkHere}
+use Rattle.counts.specs.Trees.{treeAt}
+use Rattle.counts.specs.Evaluation.{Begins}
 use Rattle.counts.specs.declared.Eval.{Eval}
 
 -- The links of a card, sorted by kind, and a list with the counts of the last labels.
@@ -36,15 +35,12 @@ pub record Ready (words links counts : List ℕ) : Type 0 where
   pub short : length words ≤ maxTemplate
   pub source : Source links counts
 
--- So many links stand one after the other, and the rest of the run is evaluated.
-pub record JoinAsked (words links counts : List ℕ) (at count code : ℕ) (rest : Eval) : Type 0 where
+-- The first parts of a run are evaluated.
+pub record TakeAsked (words links counts : List ℕ) (left code : ℕ) (before : Eval) : Type 0 where
   pub ready : Ready words links counts
-  pub each : (i : ℕ) → i < count → LinkHere words (at + 4 * i)
-  pub left : ℕ
-  pub parts : ℕ
-  pub level : 0 < left
-  pub after : Evaluates (amount links counts) (at + 4 * count)
-      (onto (gathered code) (treesAt (treeAt left words) parts (at + 4 * count))) rest
+  pub at : ℕ
+  pub done : ℕ
+  pub begun : Begins (amount links counts) words left at code done before
 
 -- A row has the names of a part for the labels below a number.
 abbrev pub RowOf : List ℕ → ℕ → Part → Type 0

@@ -2,16 +2,17 @@
 -- promise.
 -- WrapAsked   the words from a place up to the core's are codes of wrappers
 -- CoreAt      so they are, and the core does not start past the part's end
--- CoreSpan    a span is the interval of the core that stands at a place
+-- Effect      what wrappers make of the core's interval
+-- FrontOf     the wrappers from a place on, so many at most
 -- Assumes nothing.
-use Prim.Native.Nat.{ℕ, _≤_, _<_}
+use Prim.Native.Nat.{ℕ, _+_, _-_, _≤_, _<_}
 use mathlib.Core.Path.{_≡_}
+use mathlib.Core.Bool.{Bool}
 use mathlib.Core.List.{List}
 use lib.ListN.{length, getD}
-use Rattle.bags.specs.Interval.{allZero, interval, inside}
-use Rattle.bags.specs.Span.{view, Small}
-use Rattle.bags.specs.declared.Span.{Span}
+use Rattle.bags.specs.Interval.{interval, wrapInterval}
 use Rattle.counts.specs.Trees.{treeAt}
+use Rattle.counts.specs.declared.wrappers.Front.{Front}
 
 -- Codes of wrappers, 1 to 3, stand from `start` on up to `core`.
 pub record WrapAsked (words : List ℕ) (start core : ℕ) : Type 0 where
@@ -24,10 +25,18 @@ pub record CoreAt (words : List ℕ) (start end core : ℕ) : Type 0 where
   pub wrap : WrapAsked words start core
   pub within : core ≤ end
 
--- A span is the interval of the core for some counts. 0 is in it exactly if the counts of its labels are all 0.
-pub record CoreSpan (words : List ℕ) (left core end : ℕ) (w : ℕ → ℕ) (span : Span) : Type 0 where
-  pub above : core < end
-  pub next : treeAt left words core .next ≡ end
-  pub same : view span ≡ interval (treeAt left words core .value) w
-  pub zero : allZero (treeAt left words core .value) w ≡ inside 0 (interval (treeAt left words core .value) w)
-  pub small : Small 65535 span
+-- The part at `start` ends with its core, and has the core's interval, lowered and freed.
+pub record Effect (words : List ℕ) (start core : ℕ) (lowers frees : Bool) : Type 0 where
+  pub next : (left : ℕ) → treeAt (left + (core - start)) words start .next ≡ treeAt left words core .next
+  pub span : (left : ℕ) (w : ℕ → ℕ) →
+      interval (treeAt (left + (core - start)) words start .value) w
+      ≡ wrapInterval lowers frees (interval (treeAt left words core .value) w)
+
+-- The wrappers from `start` on, so many at most: there are no more, or none may follow.
+pub record FrontOf (words : List ℕ) (start most : ℕ) (front : Front) : Type 0 where
+  pub order : start ≤ front .core
+  pub few : front .core ≤ start + most
+  pub codes : (k : ℕ) → start ≤ k → k < front .core → (k < length words) × (1 ≤ getD words k 0) × (getD words k 0 ≤ 3)
+  pub ends : front .core < start + most → front .core < length words →
+      1 ≤ getD words (front .core) 0 → 4 ≤ getD words (front .core) 0
+  pub effect : Effect words start (front .core) (front .lowers) (front .frees)

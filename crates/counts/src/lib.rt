@@ -7,33 +7,33 @@ mod wrappers;
 pub use wrappers::core_fits;
 pub use wrappers::core_place;
 ghost use mathlib.Core.Path.{_≡_};
-ghost use mathlib.Core.Bool.{true, _&&_};
+ghost use mathlib.Core.Bool.{true, false};
+ghost use mathlib.Core.List.{List};
 ghost use Prim.Native.Nat.{ℕ, _+_, _≤_, _<_};
 ghost use lib.ListN.{length, getD};
 ghost use Rattle.words.specs.Limits.{maxTemplate, maxDepth};
-ghost use Rattle.bags.specs.Part.{Part, Parts};
+ghost use Rattle.bags.specs.Part.{Part, Parts, Limit, limitOf};
 ghost use Rattle.bags.specs.Bag.{count};
-ghost use Rattle.bags.specs.Interval.{inside, interval, othersZero, fits as countsFit};
-ghost use Rattle.bags.specs.Span.{Addable};
+ghost use Rattle.bags.specs.Interval.{inside, linkInterval, interval, othersZero, fits as countsFit};
+ghost use Rattle.bags.specs.Span.{view, Small, Addable};
 ghost use Rattle.template.specs.Reading.{gathered};
 ghost use Rattle.template.specs.Template.{placed, onto, openAt, partAt, shapePlace};
 ghost use Rattle.counts.specs.Answer.{fitSaid};
 ghost use Rattle.counts.specs.Fit.{firstOver, FitSays};
-ghost use Rattle.script.specs.Runs.{amount};
+ghost use Rattle.script.specs.Runs.{amount, Passed};
 ghost use Rattle.counts.specs.Trees.{linkAt, treeAt, treesAt};
-ghost use Rattle.counts.specs.Evaluation.{Evaluates, Wraps, Joins, LinkHere, Stretch, JoinsLinks};
-ghost use Rattle.counts.specs.Machine.{Source, Ready, JoinAsked, RowOf, Testable, SpreadAsked, Spread, Known};
+ghost use Rattle.counts.specs.Evaluation.{Evaluates, joined, LinkHere, PlainHere, GroupHere, TakesLinks};
+ghost use Rattle.counts.specs.Machine.{Source, Ready, TakeAsked, RowOf, Testable, SpreadAsked, Spread, Known};
 use bags::Span;
 use bags::TOP;
 use bags::add_span;
 use bags::has_one;
 use bags::link_span;
 use bags::meet_span;
-use bags::optional_span;
-use bags::plus_span;
-use bags::star_span;
+use bags::wrap_span;
 use bags::zero_span;
-use script::count_off;
+use script::Counted;
+use script::count_on;
 use template::Shape;
 use template::TemplateAnswer;
 use template::open_at;
@@ -44,12 +44,19 @@ use words::MAX_KINDS;
 use words::MAX_LABELS;
 use words::TABLE_SIZE;
 use words::wide;
+use wrappers::front_of;
+use wrappers::wrapped;
 
-// What evaluating a part finds: the next place, whether all counts of its labels are 0, and its interval.
+// What evaluating a part finds: the next place, and its interval.
 pub struct Eval {
     pub next: usize,
-    pub zero: bool,
     pub span: Span,
+}
+
+// What the parts of a run so far come to, and how many of them were taken last.
+pub struct Taken {
+    pub eval: Eval,
+    pub count: u16,
 }
 
 // Whether counts fit a shape, or what is refused: number and place.
@@ -59,12 +66,6 @@ pub enum FitAnswer {
     Refused(u16, usize),
 }
 
-fn and(a: bool, b: bool) -> bool
-    ensures { λ r. ⌜ r ≡ (a && b) ⌝ }
-{
-    if a { b } else { false }
-}
-
 // The word at a place, 0 past the end.
 fn word(words: &[u16], at: usize) -> u16
     ensures { λ r. ⌜ r ≡ getD (now (words .entry)) at 0 ⌝ }
@@ -72,18 +73,34 @@ fn word(words: &[u16], at: usize) -> u16
     if at < words.len() { words[at] } else { 0 }
 }
 
-// The count of a label: the list has those of the last labels, and the kinds before them are counted off a card's
-// links.
-fn count_of(links: &[u16], listed: &[u16], label: u16) -> u16
-    requires { ⌜ Source (now links) (now listed) ⌝ }
-    ensures { λ r. ⌜ r ≡ amount (now (links .entry)) (now (listed .entry)) label ⌝ }
+// No kind is counted yet.
+fn uncounted() -> Counted
+    ensures { λ r. ⌜ ((links : List ℕ) → Passed links (r .kind + 1) (r .next)) ⌝ }
+{
+    Counted {
+        next: 1,
+        kind: 0,
+        count: 0,
+    }
+}
+
+// Counts a label: the list has the counts of the last labels, and the kinds before them are counted off a card's links,
+// after a kind that was counted before.
+fn count_next(links: &[u16], listed: &[u16], before: Counted, label: u16) -> Counted
+    requires { ⌜ Source (now links) (now listed) × Passed (now links) (before .kind + 1) (before .next) ⌝ }
+    ensures exact { λ r. ⌜ r .count ≡ amount (now (links .entry)) (now (listed .entry)) label ⌝ }
+    ensures passed { λ r. ⌜ Passed (now (links .entry)) (r .kind + 1) (r .next) ⌝ }
 {
     let first = MAX_LABELS - listed.len();
     let at = wide(label);
     if at < first {
-        return count_off(links, label);
+        return count_on(links, before, label);
     }
-    word(listed, at - first)
+    Counted {
+        next: before.next,
+        kind: before.kind,
+        count: word(listed, at - first),
+    }
 }
 
 // Nothing, before the place `next`.
@@ -92,51 +109,8 @@ fn nothing(next: usize) -> Eval
 {
     Eval {
         next,
-        zero: true,
         span: Span { lo: 0, hi: TOP },
     }
-}
-
-// The link of this label whose code is at `at`.
-fn link(words: &[u16], links: &[u16], listed: &[u16], at: usize, label: u16) -> Eval
-    requires { ⌜ (at < maxTemplate) × Source (now links) (now listed) ⌝ }
-    ensures { λ r. ⌜ Evaluates (amount (now (links .entry)) (now (listed .entry))) at
-        (linkAt (now (words .entry)) at label) r ⌝ }
-{
-    let w = count_of(links, listed, label);
-    let low = word(words, at + 2);
-    if w == 0 {
-        return Eval {
-            next: at + 4,
-            zero: true,
-            span: zero_span(low),
-        };
-    }
-    let span = link_span(w, low, word(words, at + 3));
-    Eval {
-        next: at + 4,
-        zero: false,
-        span,
-    }
-}
-
-// A star (1), a plus (2) or an optional part (3), from the part inside it.
-fn wrap(code: u16, inner: Eval) -> Eval
-    ensures { λ r. ⌜ Wraps code inner r ⌝ }
-{
-    let next = inner.next;
-    let zero = inner.zero;
-    let x = inner.span;
-    if code == 1 {
-        let span = star_span(zero, x);
-        return Eval { next, zero, span };
-    }
-    if code == 2 {
-        let span = plus_span(zero, x);
-        return Eval { next, zero, span };
-    }
-    let span = optional_span(x);
-    Eval { next, zero, span }
 }
 
 // No parts of a choice (16) or of all (17), before the place `next`.
@@ -148,32 +122,25 @@ fn none(code: u16, next: usize) -> Eval
     }
     Eval {
         next,
-        zero: true,
         span: Span { lo: 0, hi: 0 },
     }
 }
 
-// The first part of a choice (16) or of all (17), with the rest of them.
-fn join(code: u16, first: Eval, rest: Eval) -> Eval
-    requires { ⌜ Addable (first .span) (rest .span) ⌝ }
-    ensures { λ r. ⌜ Joins code first rest r ⌝ }
+// The link of this label whose code is at `at`.
+fn link(words: &[u16], links: &[u16], listed: &[u16], at: usize, label: u16) -> Eval
+    requires { ⌜ (at < maxTemplate) × Source (now links) (now listed) ⌝ }
+    ensures { λ r. ⌜ Evaluates (amount (now (links .entry)) (now (listed .entry))) at
+        (linkAt (now (words .entry)) at label) r ⌝ }
 {
-    let next = rest.next;
-    let zero = and(first.zero, rest.zero);
-    let x = first.span;
-    let y = rest.span;
-    if code == 16 {
-        let span = add_span(x, y);
-        Eval { next, zero, span }
-    } else {
-        let span = meet_span(x, y);
-        Eval { next, zero, span }
-    }
+    let counted = count_next(links, listed, uncounted(), label);
+    let count = counted.count;
+    let span = link_span(count, word(words, at + 2), word(words, at + 3));
+    Eval { next: at + 4, span }
 }
 
-// The part at `at`, where `left` levels of parts are still allowed. Most parts are links: they are looked for first.
-fn part(words: &[u16], links: &[u16], listed: &[u16], at: usize, left: usize) -> Eval
-    requires { ⌜ Ready (now words) (now links) (now listed) ⌝ }
+// A part that is no choice, no all and below no wrapper: a link, or else nothing.
+fn plain(words: &[u16], links: &[u16], listed: &[u16], at: usize, left: usize) -> Eval
+    requires { ⌜ Ready (now words) (now links) (now listed) × PlainHere (now words) at left ⌝ }
     ensures { λ r. ⌜ Evaluates (amount (now (links .entry)) (now (listed .entry))) at
         (treeAt left (now (words .entry)) at) r ⌝ }
 {
@@ -184,34 +151,106 @@ fn part(words: &[u16], links: &[u16], listed: &[u16], at: usize, left: usize) ->
         return nothing(at);
     }
     let code = words[at];
-    if 256 <= code {
-        if 384 <= code {
-            return nothing(at + 1);
-        }
-        return link(words, links, listed, at, code - 256);
+    if code < 256 {
+        return nothing(at + 1);
     }
-    match code {
-        0 => nothing(at + 1),
-        1..=3 => wrap(code, part(words, links, listed, at + 1, left - 1)),
-        4..=15 => nothing(at + 1),
-        16..=17 => run(
+    if 384 <= code {
+        return nothing(at + 1);
+    }
+    link(words, links, listed, at, code - 256)
+}
+
+// Whether a choice or an all stands at a place, where `left` levels of parts are still allowed.
+fn is_group(words: &[u16], at: usize, left: usize) -> bool
+    ensures yes { λ r. ⌜ (r ≡ true → GroupHere (now (words .entry)) at left) ⌝ }
+    ensures no { λ r. ⌜ (r ≡ false → 0 < left → at < length (now (words .entry)) →
+        16 ≤ getD (now (words .entry)) at 0 → 18 ≤ getD (now (words .entry)) at 0) ⌝ }
+{
+    if left == 0 {
+        return false;
+    }
+    if words.len() <= at {
+        return false;
+    }
+    if words[at] < 16 {
+        return false;
+    }
+    words[at] < 18
+}
+
+// The part at `at`, where `left` levels of parts are still allowed: its wrappers, and what they are around.
+fn part(words: &[u16], links: &[u16], listed: &[u16], at: usize, left: usize) -> Eval
+    requires { ⌜ Ready (now words) (now links) (now listed) ⌝ }
+    ensures { λ r. ⌜ Evaluates (amount (now (links .entry)) (now (listed .entry))) at
+        (treeAt left (now (words .entry)) at) r ⌝ }
+{
+    let front = front_of(words, at, left);
+    let core = front.core;
+    let levels = left - (core - at);
+    if is_group(words, core, levels) {
+        let parts = word(words, core + 1);
+        let inner = run(
             words,
             links,
             listed,
-            at + 2,
-            left - 1,
-            word(words, at + 1),
-            code,
-        ),
-        _ => nothing(at + 1),
+            core + 2,
+            levels - 1,
+            parts,
+            words[core],
+        );
+        return wrapped(front, inner);
     }
+    wrapped(front, plain(words, links, listed, core, levels))
 }
 
-// Whether a link stands at a place.
+// Two parts of a choice (16) or of all (17), or two runs of them.
+fn join_span(code: u16, x: Span, y: Span) -> Span
+    requires { ⌜ Addable x y ⌝ }
+    ensures view { λ r. ⌜ view r ≡ joined code (view x) (view y) ⌝ }
+    ensures small { λ r. ⌜ ((m n : ℕ) → Small m x → Small n y → Small (m + n) r) ⌝ }
+{
+    if code == 16 {
+        return add_span(x, y);
+    }
+    meet_span(x, y)
+}
+
+// The same, where the second is a link whose label counts 0.
+fn join_zero(code: u16, x: Span, low: u16) -> Span
+    ensures view { λ r. ⌜ ((high : Limit) → view r ≡ joined code (view x) (linkInterval 0 low high)) ⌝ }
+    ensures small { λ r. ⌜ ((n : ℕ) → Small n x → Small n r) ⌝ }
+{
+    if code != 16 {
+        return meet_span(x, zero_span(low));
+    }
+    if low == 0 {
+        return wrap_span(false, true, x);
+    }
+    x
+}
+
+// The same, where the second is the link at a place, whose label counts so many.
+fn join_link(words: &[u16], at: usize, count: u16, code: u16, x: Span) -> Span
+    requires { ⌜ LinkHere (now words) at × (length (now words) ≤ maxTemplate) × Small 1000000000 x ⌝ }
+    ensures view { λ r. ⌜ view r ≡ joined code (view x)
+        (linkInterval count (getD (now (words .entry)) (at + 2) 0) (limitOf (getD (now (words .entry)) (at + 3) 0))) ⌝ }
+    ensures small { λ r. ⌜ ((n : ℕ) → Small n x → Small (n + count) r) ⌝ }
+{
+    let low = words[at + 2];
+    if count == 0 {
+        return join_zero(code, x, low);
+    }
+    join_span(code, x, link_span(count, low, words[at + 3]))
+}
+
+// Whether a whole link stands at a place.
 fn is_link(words: &[u16], at: usize) -> bool
     ensures { λ r. ⌜ (r ≡ true → LinkHere (now (words .entry)) at) ⌝ }
 {
-    if words.len() <= at {
+    if words.len() < 4 {
+        return false;
+    }
+    if words.len() - 4 < at {
         return false;
     }
     if words[at] < 256 {
@@ -220,50 +259,62 @@ fn is_link(words: &[u16], at: usize) -> bool
     words[at] < 384
 }
 
-// How many of so many parts, from the first on, are links, where `left` levels of parts are still allowed.
-fn stretch(words: &[u16], at: usize, left: usize, parts: u16) -> u16
-    requires { ⌜ length (now words) ≤ maxTemplate ⌝ }
-    ensures { λ r. ⌜ Stretch (now (words .entry)) at left parts r ⌝ }
-{
-    let mut count = 0;
-    if left == 0 {
-        return count;
-    }
-    while count < parts {
-        if !is_link(words, at + 4 * wide(count)) {
-            return count;
-        }
-        count += 1;
-    }
-    count
-}
-
-// So many links of a choice (16) or of all (17), with the rest of the parts, from the last link to the first.
-fn join_links(
+// Takes the links that come next in a choice (16) or an all (17), so many parts at most, together with the parts
+// before them.
+fn take_links(
     words: &[u16],
     links: &[u16],
     listed: &[u16],
-    at: usize,
-    count: u16,
+    left: usize,
+    parts: u16,
     code: u16,
-    rest: Eval,
-) -> Eval
-    requires { ⌜ JoinAsked (now words) (now links) (now listed) at count code rest ⌝ }
-    ensures { λ r. ⌜ JoinsLinks (amount (now (links .entry)) (now (listed .entry))) (now (words .entry)) at count code
-        rest r ⌝ }
+    before: Eval,
+) -> Taken
+    requires { ⌜ TakeAsked (now words) (now links) (now listed) left code before ⌝ }
+    ensures { λ r. ⌜ TakesLinks (amount (now (links .entry)) (now (listed .entry))) (now (words .entry)) left parts code
+        before r ⌝ }
 {
-    let mut whole = rest;
-    let mut i = wide(count);
-    while 0 < i {
-        i -= 1;
-        let place = at + 4 * i;
-        let first = link(words, links, listed, place, words[place] - 256);
-        whole = join(code, first, whole);
+    let mut next = before.next;
+    let mut span = before.span;
+    let mut count = 0;
+    let mut counted = uncounted();
+    if left == 0 {
+        return Taken {
+            eval: before,
+            count,
+        };
     }
-    whole
+    while count < parts {
+        if !is_link(words, next) {
+            let eval = Eval { next, span };
+            return Taken { eval, count };
+        }
+        counted = count_next(links, listed, counted, words[next] - 256);
+        span = join_link(words, next, counted.count, code, span);
+        next += 4;
+        count += 1;
+    }
+    let eval = Eval { next, span };
+    Taken { eval, count }
 }
 
-// So many parts of a choice (16) or of all (17), one after the other. Links at the front are taken together.
+// The parts of a choice (16) or of all (17) so far, with one more.
+fn join(code: u16, before: Eval, part: Eval) -> Eval
+    requires { ⌜ Addable (before .span) (part .span) ⌝ }
+    ensures next { λ r. ⌜ r .next ≡ part .next ⌝ }
+    ensures view { λ r. ⌜ view (r .span) ≡ joined code (view (before .span)) (view (part .span)) ⌝ }
+    ensures small { λ r. ⌜ ((m n : ℕ) → Small m (before .span) → Small n (part .span) → Small (m + n) (r .span)) ⌝ }
+{
+    let x = before.span;
+    let y = part.span;
+    let span = join_span(code, x, y);
+    Eval {
+        next: part.next,
+        span,
+    }
+}
+
+// So many parts of a choice (16) or of all (17), one after the other. Links that stand side by side are taken together.
 fn run(
     words: &[u16],
     links: &[u16],
@@ -277,22 +328,21 @@ fn run(
     ensures { λ r. ⌜ Evaluates (amount (now (links .entry)) (now (listed .entry))) at
         (onto (gathered code) (treesAt (treeAt left (now (words .entry))) parts at)) r ⌝ }
 {
-    if parts == 0 {
-        return none(code, at);
+    let mut whole = none(code, at);
+    let mut done = 0;
+    while done < parts {
+        let some = take_links(words, links, listed, left, parts - done, code, whole);
+        if some.count == 0 {
+            let next = whole.next;
+            let first = part(words, links, listed, next, left);
+            whole = join(code, whole, first);
+            done += 1;
+        } else {
+            whole = some.eval;
+            done += some.count;
+        }
     }
-    let count = stretch(words, at, left, parts);
-    if count == 0 {
-        let first = part(words, links, listed, at, left);
-        let next = first.next;
-        let rest = run(words, links, listed, next, left, parts - 1, code);
-        return join(code, first, rest);
-    }
-    let next = at + 4 * wide(count);
-    if count == parts {
-        return join_links(words, links, listed, at, count, code, none(code, next));
-    }
-    let rest = run(words, links, listed, next, left, parts - count, code);
-    join_links(words, links, listed, at, count, code, rest)
+    whole
 }
 
 // Where the count of words of a shape stands.

@@ -1,63 +1,117 @@
 // The stars, pluses and optionals that a part starts with: where what they are around starts, its core, and what they
-// make of the core's interval.
-ghost use Prim.Native.Nat.{ℕ, _+_, _-_, _≤_};
+// make of the core's interval, all of them together.
+ghost use Prim.Native.Nat.{ℕ, _+_, _-_, _≤_, _<_};
 ghost use mathlib.Core.Path.{_≡_};
+ghost use mathlib.Core.Bool.{true, false, _||_};
 ghost use lib.ListN.{length};
-ghost use Rattle.bags.specs.Interval.{inside, interval};
+ghost use Rattle.bags.specs.Interval.{inside, interval, wrapInterval};
+ghost use Rattle.bags.specs.Span.{view, Small};
 ghost use Rattle.counts.specs.Trees.{treeAt};
-ghost use Rattle.counts.specs.Evaluation.{Evaluates};
-ghost use Rattle.counts.specs.Wrappers.{CoreAt, WrapAsked, CoreSpan};
+ghost use Rattle.counts.specs.Wrappers.{WrapAsked, CoreAt, FrontOf};
 use crate::Eval;
-use crate::wrap;
 use bags::Span;
 use bags::has_one;
+use bags::wrap_span;
+
+// The wrappers before a core: where it starts, whether one of them is a star or a plus, and whether one is a star or an
+// optional.
+pub struct Front {
+    pub core: usize,
+    pub lowers: bool,
+    pub frees: bool,
+}
+
+fn either(a: bool, b: bool) -> bool
+    ensures { λ r. ⌜ r ≡ (a || b) ⌝ }
+{
+    if a { true } else { b }
+}
+
+// Whether a code is that of a star (1), a plus (2) or an optional (3).
+fn is_wrapper(code: u16) -> bool
+    ensures yes { λ r. ⌜ (r ≡ true → (1 ≤ code) × (code ≤ 3)) ⌝ }
+    ensures no { λ r. ⌜ (r ≡ false → 1 ≤ code → 4 ≤ code) ⌝ }
+{
+    if code == 0 {
+        return false;
+    }
+    code < 4
+}
+
+// Where so many words from `start` on end, or the words do.
+fn end_of(length: usize, start: usize, most: usize) -> usize
+    ensures low { λ r. ⌜ start ≤ r ⌝ }
+    ensures high { λ r. ⌜ r ≤ start + most ⌝ }
+    ensures inside { λ r. ⌜ (start < r → r ≤ length) ⌝ }
+    ensures far { λ r. ⌜ (r < start + most → length ≤ r) ⌝ }
+{
+    if length <= start {
+        return start;
+    }
+    if length - start < most {
+        return length;
+    }
+    start + most
+}
+
+// The wrappers from `start` on, so many at most.
+pub fn front_of(words: &[u16], start: usize, most: usize) -> Front
+    ensures { λ r. ⌜ FrontOf (now (words .entry)) start most r ⌝ }
+{
+    let end = end_of(words.len(), start, most);
+    let mut core = start;
+    let mut lowers = false;
+    let mut frees = false;
+    while core < end {
+        let code = words[core];
+        if !is_wrapper(code) {
+            return Front {
+                core,
+                lowers,
+                frees,
+            };
+        }
+        lowers = either(lowers, code != 3);
+        frees = either(frees, code != 2);
+        core += 1;
+    }
+    Front {
+        core,
+        lowers,
+        frees,
+    }
+}
+
+// A part, from its wrappers and what their core is.
+pub fn wrapped(front: Front, core: Eval) -> Eval
+    ensures next { λ r. ⌜ r .next ≡ core .next ⌝ }
+    ensures view { λ r. ⌜ view (r .span) ≡ wrapInterval (front .lowers) (front .frees) (view (core .span)) ⌝ }
+    ensures small { λ r. ⌜ ((n : ℕ) → Small n (core .span) → Small n (r .span)) ⌝ }
+{
+    let x = core.span;
+    let span = wrap_span(front.lowers, front.frees, x);
+    Eval {
+        next: core.next,
+        span,
+    }
+}
 
 // Where the core of the part at `start` starts, whose words end at `end`.
 pub fn core_place(words: &[u16], start: usize, end: usize) -> usize
     requires { ⌜ (start ≤ end) × (end ≤ length (now words)) ⌝ }
     ensures { λ r. ⌜ CoreAt (now (words .entry)) start end r ⌝ }
 {
-    let mut at = start;
-    while at < end {
-        if words[at] == 0 {
-            return at;
-        }
-        if 3 < words[at] {
-            return at;
-        }
-        at += 1;
-    }
-    at
+    let front = front_of(words, start, end - start);
+    front.core
 }
 
-// The part at `start`, from what its core is.
-fn wrap_all(words: &[u16], start: usize, core: usize, inner: Eval) -> Eval
+// Whether counts fit the part at `start`, from the interval of its core.
+pub fn core_fits(words: &[u16], start: usize, core: usize, span: Span) -> bool
     requires { ⌜ WrapAsked (now words) start core ⌝ }
-    ensures { λ r. ⌜ ((w : ℕ → ℕ) (left : ℕ) → Evaluates w core (treeAt left (now (words .entry)) core) inner →
-        Evaluates w start (treeAt (left + (core - start)) (now (words .entry)) start) r) ⌝ }
-{
-    let mut whole = inner;
-    let mut at = core;
-    while start < at {
-        at -= 1;
-        whole = wrap(words[at], whole);
-    }
-    whole
-}
-
-// Whether counts fit the part at `start`, from the interval of its core, whose words end at `end`. Only a core of which
-// nothing counts can be repeated 0 times.
-pub fn core_fits(words: &[u16], start: usize, core: usize, end: usize, span: Span) -> bool
-    requires { ⌜ WrapAsked (now words) start core ⌝ }
-    ensures { λ r. ⌜ ((w : ℕ → ℕ) (left : ℕ) → CoreSpan (now (words .entry)) left core end w span →
+    ensures { λ r. ⌜ ((w : ℕ → ℕ) (left : ℕ) → view span ≡ interval (treeAt left (now (words .entry)) core .value) w →
         r ≡ inside 1 (interval (treeAt (left + (core - start)) (now (words .entry)) start .value) w)) ⌝ }
 {
-    let inner = Eval {
-        next: end,
-        zero: span.lo == 0,
-        span,
-    };
-    let whole = wrap_all(words, start, core, inner);
-    let around = whole.span;
+    let front = front_of(words, start, core - start);
+    let around = wrap_span(front.lowers, front.frees, span);
     has_one(around)
 }

@@ -1,4 +1,6 @@
 -- The counts of a card's links, as they are counted off, are those of its neighbours.
+-- way-is        a label counts among a card's neighbours what its kind counts one way
+-- shapeAt       the part of a shape; shape-kinds, none-back: it names kinds of the template, and maybe no incoming one
 -- card-under    the kinds of a card's links are the template's
 -- ListedBack    the counts of incoming kinds are listed where they matter
 -- back-asked    what counting the links to a card asks
@@ -75,16 +77,39 @@ back-asked script first next e back n counts links b y q =
       zeros = b .zeros;
     }
 
+-- The part of the shape whose count of words stands at a place.
+abbrev pub shapeAt : List ℕ → ℕ → Part
+shapeAt template at = treeAt maxDepth template (partAt template at) .value
+
 module _ (template script : List ℕ) (e : Extent) (opened : Opened template script e) where
   few-kinds : e .kinds ≤ maxKinds
   few-kinds =
       template-accepted template (templateAs (e .kinds) (e .shapes) (opened .parts)) (opened .template-read) .kinds-high
 
   -- a label counts among the neighbours what its kind counts one way
-  way-is : (n : ℕ) (way : Way) (k : ℕ) → k < e .kinds →
+  pub way-is : (n : ℕ) (way : Way) (k : ℕ) → k < e .kinds →
       labelCount (neighbours script n (e .links)) (labelOf way k) ≡ wayCount way script n k (e .links)
   way-is =
       own-way few-kinds (script-accepted (e .kinds) script (countsOf (e .cards) (e .links)) (opened .script-read))
+
+  module _ (row : List ℕ) (t at : ℕ) (named : Named template row e t at) where
+    -- the part of a shape names kinds of the template
+    pub shape-kinds : (k : ℕ) → Names (shapeAt template at) k → OfKindBelow (e .kinds) k
+    shape-kinds k m =
+        let whole = templateAs (e .kinds) (e .shapes) (opened .parts) in
+        let a = template-accepted template whole (opened .template-read) in
+        let same : shapeAt template at ≡ getD (opened .parts) t Part.nothing =
+        ap (λ (x : ℕ). treeAt maxDepth template (partAt template x) .value) (named .place)
+        ∙ shape-tree template whole t (opened .template-read) (named .below) in
+        names-kind (e .kinds) (getD (opened .parts) t Part.nothing) (a .kinds-below t (named .below)) k
+        (subst (λ (x : Part). Names x k) same m)
+
+    -- and no incoming one, where none is seen
+    pub none-back : {back : Bool} → WaysSeen row e back → back ≡ false → (k : ℕ) → k < e .kinds →
+        Names (shapeAt template at) (labelOf incoming k) → ⊥
+    none-back seen off k h =
+        named-none (shapeAt template at) (labelOf incoming k)
+        (sym (named .names (labelOf incoming k) (omega (arith, few-kinds))) ∙ seen .no off k h)
 
   module _ (n : ℕ) (l : n < e .cards) (starts : List ℕ) (s : StartsOf script starts (e .cards) (e .links)) (lo hi : ℕ)
       (p : lo ≡ getD starts n 0) (q : hi ≡ getD starts (n + 1) 0) where
@@ -138,21 +163,10 @@ module _ (template script : List ℕ) (e : Extent) (opened : Opened template scr
     module _ (row : List ℕ) (t at : ℕ) (named : Named template row e t at) (back : Bool) (seen : WaysSeen row e back)
         (listed : List ℕ) (b : ListedBack script e back n listed) where
       abbrev shape : Part
-      shape = treeAt maxDepth template (partAt template at) .value
+      shape = shapeAt template at
 
       few-listed : length listed ≤ maxKinds
       few-listed = listed-short script e back n listed b
-
-      -- the part of a shape names kinds of the template
-      shape-kinds : (k : ℕ) → Names shape k → OfKindBelow (e .kinds) k
-      shape-kinds k m =
-          let whole = templateAs (e .kinds) (e .shapes) (opened .parts) in
-          let a = template-accepted template whole (opened .template-read) in
-          let same : shape ≡ getD (opened .parts) t Part.nothing =
-          ap (λ (x : ℕ). treeAt maxDepth template (partAt template x) .value) (named .place)
-          ∙ shape-tree template whole t (opened .template-read) (named .below) in
-          names-kind (e .kinds) (getD (opened .parts) t Part.nothing) (a .kinds-below t (named .below)) k
-          (subst (λ (x : Part). Names x k) same m)
 
       inward : (k : ℕ) → k < e .kinds → Names shape (labelOf incoming k) →
           amount part listed (labelOf incoming k) ≡ labelCount (neighbours script n (e .links)) (labelOf incoming k)
@@ -163,8 +177,7 @@ module _ (template script : List ℕ) (e : Extent) (opened : Opened template scr
           amount-listed part listed (labelOf incoming k) (omega arith)
           ∙ ap (λ (x : ℕ). getD listed x 0) place ∙ b .exact y k (omega (arith, few-kinds))
           ∙ sym (way-is n incoming k h))
-          (λ o. absurd (named-none shape (labelOf incoming k)
-          (sym (named .names (labelOf incoming k) (omega (arith, few-kinds))) ∙ seen .no o k h) m))
+          (λ o. absurd (none-back row t at named seen o k h m))
 
       named-alike : (k : ℕ) → Names shape k → OfKindBelow (e .kinds) k →
           amount part listed k ≡ labelCount (neighbours script n (e .links)) k
@@ -176,7 +189,7 @@ module _ (template script : List ℕ) (e : Extent) (opened : Opened template scr
           ≡ fits isOpen (e .kinds) shape (labelCount (neighbours script n (e .links)))
       pair-alike isOpen =
           fits-alike (amount part listed) (labelCount (neighbours script n (e .links))) isOpen shape (e .kinds)
-          (outward listed few-listed) (λ k m. named-alike k m (shape-kinds k m))
+          (outward listed few-listed) (λ k m. named-alike k m (shape-kinds row t at named k m))
 
       -- the same where the part's start is known otherwise
       pub pair-told : (start : ℕ) → start ≡ partAt template at → (isOpen fit : Bool) →

@@ -20,14 +20,12 @@ use Rattle.bags.specs.Part.{Part, names}
 use Rattle.bags.specs.Interval.{interval, inside, othersZero, fits}
 use Rattle.bags.specs.declared.Span.{Span}
 use Rattle.bags.proofs.Decide.{others-all}
-use Rattle.bags.proofs.Flatness.{flat-zero}
 use Rattle.script.specs.Runs.{kindIn, kindsIn, amount, KindsRise}
 use Rattle.script.proofs.Runs.{kinds-none, kinds-some, kind-at, amount-counted}
 use Rattle.flat.specs.Meeting.{KindsUnder, MetAs}
 use Rattle.flat.specs.declared.meet.Meeting.the-variants as meeting
 use Rattle.counts.specs.Trees.{treeAt}
 use Rattle.counts.specs.Machine.{RowOf}
-use Rattle.counts.specs.Wrappers.{CoreSpan}
 use Rattle.counts.proofs.Counts.{others-named, others-zero, others-not}
 use Rattle.counts.proofs.Evaluations.{fits-passed, fits-failed}
 use Rattle.counts.proofs.Wrapping.{core-names}
@@ -121,23 +119,13 @@ module _ (words places : List ℕ) (plan : Plan) (f : FlatPlan words places plan
   flat-named (o, n) = fits-failed (plan .opened) kinds whole w o (sym whole-others ∙ n)
 
   module _ (span : Span) (m : MetAs (plan .opened) kinds core w (meeting.Met span)) where
-    -- what wrapping the core asks
-    pub flat-core : CoreSpan words (f .left) (plan .core) (plan .end) w span
-    flat-core = record {
-      above = f .above;
-      next = f .next;
-      same = m .0;
-      zero = flat-zero core (f .surveyed .flat) w;
-      small = m .1;
-    }
-
     pub flat-met : (one : Bool)
         → one ≡ inside 1 (interval (treeAt (f .left + (plan .core - plan .start)) words (plan .start) .value) w)
         → one ≡ fits (plan .opened) kinds whole w
     flat-met one h =
         fits-passed (plan .opened) kinds whole w one
         (h ∙ ap (λ (n : ℕ). inside 1 (interval (treeAt n words (plan .start) .value) w)) (f .level))
-        (ap (λ (b : Bool). plan .opened || b) (sym whole-others) ∙ m .2)
+        (ap (λ (b : Bool). plan .opened || b) (sym whole-others) ∙ m .1)
 
 -- ---- any other part
 module _ (isOpen : Bool) (kinds : ℕ) (p : Part) (links arriving : List ℕ) (few : length arriving ≤ maxKinds)

@@ -6,7 +6,7 @@
 -- shape-in      where the words of a shape lie
 -- Assumes nothing.
 use Prim.Native.Nat.{ℕ, zero, suc, _+_, _-_, _≤_, _<_}
-use mathlib.Core.Path.{_≡_, refl, sym, ap, subst, _∙_}
+use mathlib.Core.Path.{_≡_, refl, sym, ap, subst}
 use mathlib.Core.Logic.{⊎-elim}
 use mathlib.Core.List.{List, [], _∷_}
 use native.Mathlib.Omega.{arith}
@@ -37,7 +37,6 @@ use Rattle.fits.specs.Plans.{FlatPlan}
 -- The part at a place, where so many levels are left, stands there up to a place.
 pub record Core (words : List ℕ) (left at end : ℕ) : Type 0 where
   pub standing : Standing words at end (treeAt left words at .value)
-  pub next : treeAt left words at .next ≡ end
 
 -- Where the words of a shape lie whose count of words stands at a place.
 pub record ShapeIn (words : List ℕ) (at : ℕ) : Type 0 where
@@ -85,7 +84,6 @@ module _ (words : List ℕ) (t : Template) (e : readTemplate words ≡ accepted 
       } in
       let core : Core words maxDepth (partAt words place) end = record {
         standing = subst (λ (r : Placed Part). Standing words (partAt words place) end (r .value)) tree standing;
-        next = sym (ap (λ (r : Placed Part). r .next) tree);
       } in
       subst (λ (n : ℕ). Core words maxDepth (partAt words n) (n + 1 + getD words n 0)) (sym q)
       (subst (Core words maxDepth (partAt words place)) (shape .stop) core)
@@ -133,7 +131,6 @@ module _ (words : List ℕ) (end : ℕ) (inside : end ≤ length words) where
       let around = subst (λ (r : Placed Part). Standing words at end (r .value)) (sym tree) (c .standing) in
       record {
         standing = unwrapped words at end (treeAt (left - 1) words (at + 1) .value) code around;
-        next = ap (λ (r : Placed Part). r .next) tree ∙ c .next;
       }
 
   -- Below so many wrappers.
@@ -175,18 +172,15 @@ module _ (words : List ℕ) (end : ℕ) (inside : end ≤ length words) where
   }
 
   -- The plan of a shape whose core is flat.
-  pub flat-plan : (places : List ℕ) (plan : Plan) → plan .end ≡ end → Core words maxDepth (plan .start) end
+  pub flat-plan : (places : List ℕ) (plan : Plan) → Core words maxDepth (plan .start) end
       → CoreAt words (plan .start) end (plan .core)
       → ((p : Part) → Standing words (plan .core) end p → Surveyed words p places (plan .needed))
       → FlatPlan words places plan
-  flat-plan places plan q c found surveyed =
+  flat-plan places plan c found surveyed =
       let (left, level, core) = core-below (plan .start) (plan .core) c found in
-      let some = part-words (treeAt left words (plan .core) .value) in
       record {
         wrap = found .wrap;
-        above = omega (arith, q, core .standing .ends, some);
         left = left;
         level = level;
-        next = core .next ∙ sym q;
         surveyed = surveyed (treeAt left words (plan .core) .value) (core .standing);
       }

@@ -25,6 +25,7 @@ use Rattle.script.specs.Link.{neighbours}
 use Rattle.script.specs.Script.{countsOf, readScript}
 use Rattle.script.specs.Index.{StartsOf, ArrivalsOf}
 use Rattle.script.specs.Counts.{wayCount}
+use Rattle.script.specs.Alike.{TwinsOf}
 use Rattle.sheet.specs.declared.Extent.{Extent}
 use Rattle.sheet.specs.Opened.{templateAs, Opened, Known}
 use Rattle.counts.specs.Trees.{treeAt}
@@ -62,12 +63,14 @@ pub record Named (template row : List ℕ) (e : Extent) (t at : ℕ) : Type 0 wh
   pub names : RowOf row maxLabels (treeAt maxDepth template (partAt template at) .value)
   pub asked : WaysAsked row e
 
--- A sheet that is read, where its links stand, the row of a shape, and a grid with a byte for each pair.
-pub record ShapeReady (template script row starts first next : List ℕ) (e : Extent) (t at : ℕ) (grid : List ℕ)
+-- A sheet that is read, where its links stand, the cards' twins, the row of a shape, and a grid with a byte for each
+-- pair.
+pub record ShapeReady (template script row starts first next twins : List ℕ) (e : Extent) (t at : ℕ) (grid : List ℕ)
     : Type 0 where
   pub opened : Opened template script e
   pub leaving : StartsOf script starts (e .cards) (e .links)
   pub arriving : e .incoming ≡ true → ArrivalsOf script first next (e .cards) (e .links)
+  pub alike : TwinsOf script (e .cards) (e .links) twins
   pub named : Named template row e t at
   pub size : length grid ≡ e .cards * e .shapes
 

@@ -33,10 +33,8 @@ pub record PlanAsked (template : List ℕ) (at : ℕ) (places : List ℕ) : Type
 -- The core of the part is flat: wrappers stand before it, and its links have their places.
 pub record FlatPlan (template places : List ℕ) (plan : Plan) : Type 0 where
   pub wrap : WrapAsked template (plan .start) (plan .core)
-  pub above : plan .core < plan .end
   pub left : ℕ
   pub level : left + (plan .core - plan .start) ≡ maxDepth
-  pub next : treeAt left template (plan .core) .next ≡ plan .end
   pub surveyed : Surveyed template (treeAt left template (plan .core) .value) places (plan .needed)
 
 -- The plan of the shape whose count of words stands at a place.

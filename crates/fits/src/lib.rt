@@ -1,5 +1,6 @@
 // Which pairs of a sheet fit by counts. Each shape is looked over once, and then held against every card: a flat one by
-// going along the card's links, any other by the evaluator, which counts each label off them.
+// going along the card's links, any other by the evaluator, which counts each label off them. Cards whose links have
+// the same kinds share the byte of a shape that names no incoming kind.
 ghost use Prim.Native.Nat.{ℕ};
 ghost use mathlib.Core.Path.{_≡_};
 ghost use mathlib.Core.Bool.{cond};
@@ -23,21 +24,22 @@ use flat::Survey;
 use flat::meet_card;
 use flat::survey_part;
 use script::count_arriving;
+use script::find_twins;
 use sheet::Extent;
 use sheet::some_named;
 use template::open_at;
 use template::part_at;
+use words::MAX_CARDS;
 use words::MAX_KINDS;
 use words::MAX_LABELS;
 use words::wide;
 
-// How a shape is tested: whether it is open, where its part and the part's core start and where they end; if the core
-// is flat, how many of its links must be there.
+// How a shape is tested: whether it is open, and where its part and the part's core start; if the core is flat, how
+// many of its links must be there.
 struct Plan {
     opened: bool,
     start: usize,
     core: usize,
-    end: usize,
     flat: bool,
     needed: usize,
 }
@@ -58,7 +60,6 @@ fn plan_shape(template: &[u16], at: usize, places: &mut [u16]) -> Plan
             opened,
             start,
             core,
-            end,
             flat: true,
             needed,
         },
@@ -66,7 +67,6 @@ fn plan_shape(template: &[u16], at: usize, places: &mut [u16]) -> Plan
             opened,
             start,
             core,
-            end,
             flat: false,
             needed: 0,
         },
@@ -106,7 +106,7 @@ fn card_fits(
         let met = meet_card(template, places, plan.opened, plan.needed, links, arriving);
         return match met {
             Meeting::Unnamed => false,
-            Meeting::Met(span) => core_fits(template, plan.start, plan.core, plan.end, span),
+            Meeting::Met(span) => core_fits(template, plan.start, plan.core, span),
         };
     }
     if plan.opened {
@@ -190,7 +190,8 @@ fn bit(fit: bool) -> u8
 }
 
 // Tests the shape t, whose count of words stands at `at`, on each card: its column of the grid is 1 where the counts
-// fit, else 0. The row is the shape's in the table of names.
+// fit, else 0. The row is the shape's in the table of names. If the shape names no incoming kind, a card takes the byte
+// of its twin.
 fn fit_shape(
     template: &[u16],
     script: &[u16],
@@ -198,13 +199,14 @@ fn fit_shape(
     starts: &[u16],
     first: &[u16],
     next: &[u16],
+    twins: &[u16],
     e: Extent,
     t: usize,
     at: usize,
     grid: &mut [u8],
 )
-    requires { ⌜ ShapeReady (now template) (now script) (now row) (now starts) (now first) (now next) e t at
-        (now grid) ⌝ }
+    requires { ⌜ ShapeReady (now template) (now script) (now row) (now starts) (now first) (now next) (now twins) e t
+        at (now grid) ⌝ }
     ensures { λ _. ⌜ ColumnFitted (now (template .entry)) (now (script .entry)) e t (now (grid .entry))
         (now (grid .exit)) ⌝ }
 {
@@ -215,20 +217,25 @@ fn fit_shape(
     let shapes = wide(e.shapes);
     let mut n = 0;
     while n < cards {
-        let fit = pair_fits(
-            template,
-            script,
-            row,
-            &places,
-            starts,
-            first,
-            next,
-            e,
-            plan,
-            back,
-            n,
-        );
-        grid[n * shapes + t] = bit(fit);
+        let twin = wide(twins[n]);
+        if twin < n && !back {
+            grid[n * shapes + t] = grid[twin * shapes + t];
+        } else {
+            let fit = pair_fits(
+                template,
+                script,
+                row,
+                &places,
+                starts,
+                first,
+                next,
+                e,
+                plan,
+                back,
+                n,
+            );
+            grid[n * shapes + t] = bit(fit);
+        }
         n += 1;
     }
 }
@@ -250,6 +257,8 @@ pub fn fit_grid(
         readTemplate (now (template .entry)) ≡ accepted (templateAs (e .kinds) (e .shapes) parts) →
         Fitted (now (template .entry)) (now (script .entry)) e parts (now (grid .exit))) ⌝ }
 {
+    let mut twins = [0u16; MAX_CARDS];
+    find_twins(script, starts, wide(e.cards), &mut twins);
     let shapes = wide(e.shapes);
     let mut at = 2;
     let mut t = 0;
@@ -263,6 +272,7 @@ pub fn fit_grid(
             starts,
             first,
             next,
+            &twins,
             e,
             t,
             at,

@@ -132,7 +132,7 @@ module _ {words places : List ℕ} {isOpen : Bool} {links : List ℕ} {at : ℕ}
               above = λ i l m. omega (arith, run .other (omega arith), rising (here + count) i l m);
               met =
                   met-next (met-skip kind up (walked .met) absent) place count counts
-                  (λ l. place-is) (λ z. absurd (omega arith)) after (omega (arith, walked-few)) link;
+                  (λ l. place-is) (λ z. absurd (omega arith)) after link;
               named = λ shut i l. ⊎-elim
                   (λ h.
                   let at-kind = ap (λ (k : ℕ). getD places k 0) (run .same i h l) in
@@ -181,18 +181,18 @@ arrived-start words places arriving before found few = record {
 
 module _ {words places arriving : List ℕ} {before : Span} {found₀ k : ℕ} {now : Span} {found : ℕ}
     (arrived : Arrived words places arriving before found₀ k now found) where
-  pub arrived-next : (place count : ℕ) (after : Span) → k < length arriving → count ≡ getD arriving k 0 → count < 65536
+  pub arrived-next : (place count : ℕ) (after : Span) → k < length arriving → count ≡ getD arriving k 0
       → (count ≡ 0 → place ≡ 0) → (0 < count → place ≡ getD places (maxLabels - length arriving + k) 0)
       → LinkMet words place count now after
       → Arrived words places arriving before found₀ (k + 1) after (found + demanded words place)
-  arrived-next place count after more counts small none some link = record {
+  arrived-next place count after more counts none some link = record {
     inside = omega arith;
     few = omega (arith, arrived .few, demand-few words place);
     met = λ w listed met.
         let e : maxLabels - length arriving + k + 1 ≡ maxLabels - length arriving + (k + 1) = omega arith in
         subst (λ (b : ℕ). MetBelow words places w b after (found + demanded words place)) e
         (met-next (arrived .met w listed met) place count (listed k more ∙ sym counts) some none
-        after (omega arith) link);
+        after link);
   }
 
   pub arrived-done : length arriving ≤ maxKinds → length arriving ≤ k
@@ -233,7 +233,6 @@ module _ {words places links arriving : List ℕ} (asked : MeetAsked words place
         let w = amount links arriving in
         let met = arrived w (amount-last links arriving) (leaving-met arriving leaving-asked (asked .few) (h .0)) in (
           interval-met surveyed w (both .span) (both .found) met after left,
-          left .small 65535 (met .small),
           bool-case isOpen
               (λ o. or-left isOpen (othersZero kinds p w) o)
               (λ shut. or-right isOpen (othersZero kinds p w)

@@ -25,13 +25,14 @@ use Rattle.words.proofs.Bools.{never-both, is-false, is-true, and-first, and-se
 use Rattle.words.proofs.Bools.{or-right, bool-case, le-or-lt, eq-or-ne, last-or-below, not-of-false, false-of-not}
 use Rattle.bags.specs.Part.{Part, Names, names}
 use Rattle.bags.specs.Interval.{within, In, meet, linkInterval, interval, othersZero}
-use Rattle.bags.specs.Span.{top, view, Small}
+use Rattle.bags.specs.Span.{top, view}
 use Rattle.bags.specs.declared.Span.{Span}
 use Rattle.bags.proofs.Naming.{names-exact}
 use Rattle.bags.proofs.Intervals.{in-meet}
 use Rattle.bags.proofs.Decide.{others-at, others-all}
-use Rattle.bags.proofs.Spans.{span, view-from, view-within, small-more, small-up}
-use Rattle.bags.proofs.Flatness.{proper-same, view-proper, has-named, named-has, flat-in, link-zero}
+use Rattle.bags.proofs.Spans.{span, view-from, view-within}
+use Rattle.bags.proofs.Flatness.{proper-same, view-proper, has-named, named-has, flat-in}
+use Rattle.bags.proofs.Zeros.{link-zero}
 use Rattle.bags.proofs.Exact.{part-proper}
 use Rattle.board.specs.Grid.{bit, tally}
 use Rattle.board.proofs.Tally.{bit-true, bit-false, tally-zero, tally-hit, tally-miss, tally-le, tally-lt, tally-ext}
@@ -46,20 +47,17 @@ pub link-none : (words : List ℕ) (place count : ℕ) (before : Span) → place
     → LinkMet words place count before before
 link-none words place count before e = record {
   numbers = λ i. (λ h. (h, λ p. absurd (omega arith)), λ h. h .0);
-  small = λ n l s. s;
 }
 
 pub link-some : (words : List ℕ) (place count : ℕ) (before one after : Span)
-    → view one ≡ linkAt words place count → Small count one
-    → view after ≡ meet (view before) (view one) → ((n : ℕ) → Small n before → Small n one → Small n after)
-    → 0 < place → LinkMet words place count before after
-link-some words place count before one after e s f t p = record {
+    → view one ≡ linkAt words place count → view after ≡ meet (view before) (view one) → 0 < place
+    → LinkMet words place count before after
+link-some words place count before one after e f p = record {
   numbers = λ i.
       let both = in-meet (view before) (view one) i in (
         λ h. let g = both .0 (subst (In i) f h) in (g .0, λ q. subst (In i) e (g .1)),
         λ h. subst (In i) (sym f) (both .1 (h .0, subst (In i) (sym e) (h .1 p))),
       );
-  small = λ n l b. t n b (small-more count n one l s);
 }
 
 pub demand-none : (words : List ℕ) (place : ℕ) → place ≡ 0 → 0 ≡ demanded words place
@@ -91,14 +89,11 @@ demand-must words places k = refl
 pub all-found : (needed found : ℕ) (before : Span) → needed ≤ found → AllMet needed found before before
 all-found needed found before l = record {
   numbers = λ i. (λ h. (h, λ g. absurd (omega arith)), λ h. h .0);
-  small = λ n s. s;
 }
 
 pub one-missing : (needed found : ℕ) (before after : Span) → view after ≡ meet (view before) (view (span 0 0))
-    → ((n : ℕ) → Small n before → Small n (span 0 0) → Small n after)
     → found < needed → AllMet needed found before after
-unfolding Small
-one-missing needed found before after f t l =
+one-missing needed found before after f l =
     let e : view (span 0 0) ≡ within 0 0 =
     view-within (span 0 0) (omega arith) (λ z. let y : 0 ≡ top = z in omega arith) in
     record {
@@ -112,7 +107,6 @@ one-missing needed found before after f t l =
                 let z : i ≡ 0 = h .1 l in
                 subst (In i) (sym f) (both .1 (h .0, subst (In i) (sym e) (omega arith))),
           );
-      small = λ n b. t n b (omega arith, λ d. omega arith);
     }
 
 -- ---- the bound
@@ -132,7 +126,6 @@ met-none words places w = record {
     λ h. subst (In i) (sym (view-from (span 0 top) (omega arith) refl)) (omega arith),
   );
   count = sym (tally-zero (there words places w));
-  small = small-up 65535 0 (omega arith);
 }
 
 module _ {words places : List ℕ} {w : ℕ → ℕ} {bound : ℕ} {before : Span} {found : ℕ}
@@ -156,9 +149,9 @@ module _ {words places : List ℕ} {w : ℕ → ℕ} {bound : ℕ} {before : Spa
         kept true l = sym (lt-ltb 0 (w bound) (omega arith))
         kept false l = refl
 
-    pub met-next : (after : Span) → count ≤ 65535 → LinkMet words place count before after
+    pub met-next : (after : Span) → LinkMet words place count before after
         → MetBelow words places w (bound + 1) after (found + demanded words place)
-    met-next after small link = record {
+    met-next after link = record {
       numbers = λ i. (
         λ h k l pl pw.
             let (a, b) = link .numbers i .0 h in
@@ -178,7 +171,6 @@ module _ {words places : List ℕ} {w : ℕ → ℕ} {bound : ℕ} {before : Spa
         ),
       );
       count = omega (arith, met .count, tally-next (there words places w) bound, next-there);
-      small = link .small 65535 small (met .small);
     }
 
 met-pass : {words places : List ℕ} {w : ℕ → ℕ} {bound : ℕ} {before : Span} {found : ℕ}
@@ -187,7 +179,7 @@ met-pass {words} {places} {w} {bound} {before} {found} met e =
     let none = demand-none words 0 refl in
     let same : found + demanded words 0 ≡ found = omega arith in
     subst (MetBelow words places w (bound + 1) before) same
-    (met-next met 0 0 e (λ l. absurd (omega arith)) (λ z. refl) before (omega arith) (link-none words 0 0 before refl))
+    (met-next met 0 0 e (λ l. absurd (omega arith)) (λ z. refl) before (link-none words 0 0 before refl))
 
 met-passes : {words places : List ℕ} {w : ℕ → ℕ} {bound : ℕ} {before : Span} {found : ℕ} (d : ℕ)
     → MetBelow words places w bound before found → ((k : ℕ) → bound ≤ k → k < bound + d → w k ≡ 0)
@@ -218,7 +210,6 @@ met-alike {words} {places} {v} {w} {bound} met f = record {
   );
   count = met .count ∙ tally-ext (there words places v) (there words places w) bound
       (λ k l. ap (λ (x : ℕ). must words places k && ltb 0 x) (sym (f k l)));
-  small = met .small;
 }
 
 -- ---- all labels

@@ -18,7 +18,7 @@ use lib.Dec.{ltb}
 use Rattle.words.specs.Limits.{maxKinds, maxLabels}
 use Rattle.bags.specs.Part.{Part}
 use Rattle.bags.specs.Interval.{Interval, In, linkInterval, interval, othersZero}
-use Rattle.bags.specs.Span.{view, Small}
+use Rattle.bags.specs.Span.{view}
 use Rattle.bags.specs.declared.Span.{Span}
 use Rattle.board.specs.Grid.{bit, tally}
 use Rattle.script.specs.Runs.{kindIn, kindsIn, KindsRise}
@@ -41,12 +41,12 @@ pub record KindsUnder (links : List ℕ) (kinds : ℕ) : Type 0 where
   pub few : kinds ≤ maxKinds
   pub below : (i : ℕ) → 3 * i < length links → kindIn links i < kinds
 
--- A closed shape does not name a kind that counts; or this is the part's interval, with small ends, and the shape is
--- open or the kinds that it does not name count 0.
+-- A closed shape does not name a kind that counts; or this is the part's interval, and the shape is open or the kinds
+-- that it does not name count 0.
 abbrev pub MetAs : Bool → ℕ → Part → (ℕ → ℕ) → Meeting → Type 0
 MetAs isOpen kinds p w meeting.Unnamed = (isOpen ≡ false) × (othersZero kinds p w ≡ false)
 MetAs isOpen kinds p w (meeting.Met span) =
-    (view span ≡ interval p w) × Small 65535 span × ((isOpen || othersZero kinds p w) ≡ true)
+    (view span ≡ interval p w) × ((isOpen || othersZero kinds p w) ≡ true)
 
 -- ---- the steps
 
@@ -64,7 +64,6 @@ pub record MetBelow (words places : List ℕ) (w : ℕ → ℕ) (bound : ℕ) (s
   pub numbers : (i : ℕ) → In i (view span)
       ↔ ((k : ℕ) → k < bound → 0 < getD places k 0 → 0 < w k → In i (linkAt words (getD places k 0) (w k)))
   pub count : found ≡ tally (λ k. must words places k && ltb 0 (w k)) bound
-  pub small : Small 65535 span
 
 -- The words of the link at a place are there, if it is one.
 abbrev pub LinkAsked : List ℕ → ℕ → Type 0
@@ -73,12 +72,10 @@ LinkAsked words place = 0 < place → place + 3 < length words
 -- The interval of the link at a place is met into a span, if there is one.
 pub record LinkMet (words : List ℕ) (place count : ℕ) (before after : Span) : Type 0 where
   pub numbers : (i : ℕ) → In i (view after) ↔ (In i (view before) × (0 < place → In i (linkAt words place count)))
-  pub small : (n : ℕ) → count ≤ n → Small n before → Small n after
 
 -- Where fewer links are found than must be there only 0 is left.
 pub record AllMet (needed found : ℕ) (before after : Span) : Type 0 where
   pub numbers : (i : ℕ) → In i (view after) ↔ (In i (view before) × (found < needed → i ≡ 0))
-  pub small : (n : ℕ) → Small n before → Small n after
 
 -- The places of links, and a card's links sorted by kind, each of an outgoing kind.
 pub record LeavingAsked (words places links : List ℕ) : Type 0 where

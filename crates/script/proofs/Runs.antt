@@ -3,6 +3,7 @@
 -- kinds-none, kinds-some   how many have a kind: none where no link has it, one at least
 -- RunTo               the links counted of a run; run-start, run-more, run-ends: the first, one more, the whole run
 -- run-counted         the first run of a kind is all that have it
+-- passed-none, passed-more   no link is passed; a higher bound
 -- CountedOff          where counting a kind stands; off-start, off-same, off-other, off-above, off-done: its steps
 -- amount-counted, amount-listed   the count of a label
 -- card-kind, card-rise, card-many, card-kinds   a card's part of a script: its kinds, that they rise, how many links
@@ -21,14 +22,14 @@ use lib.Seq.{getD-take, getD-drop}
 use lib.Dec.{eqb}
 use borrow.Author.Tests.{lt-ltb, le-ltb, eq-eqb, ne-eqb}
 use Rattle.words.specs.Limits.{maxLabels, maxLinks}
-use Rattle.words.proofs.Bools.{le-or-lt, eq-or-ne}
+use Rattle.words.proofs.Bools.{le-or-lt, eq-or-ne, last-or-below}
 use Rattle.bags.specs.Label.{outgoing}
 use Rattle.board.specs.Grid.{tally}
 use Rattle.board.proofs.Tally.{tally-zero, tally-hit, tally-miss, tally-le, tally-none, tally-pos}
 use Rattle.script.specs.Link.{fromAt, kindAt, below}
 use Rattle.script.specs.Steps.{Ascending, Within}
 use Rattle.script.specs.Counts.{wayCount}
-use Rattle.script.specs.Runs.{kindIn, kindsIn, amount, KindsRise, RunOf, RunAsked}
+use Rattle.script.specs.Runs.{kindIn, kindsIn, amount, KindsRise, Passed, RunOf, RunAsked}
 use Rattle.script.proofs.Order.{starts-rise, kinds-rise}
 use Rattle.script.proofs.Cards.{below-le, below-low, below-high, starts-exact, part-within}
 use Rattle.script.proofs.Counts.{way-count-same, way-count-kind, way-count-skip}
@@ -139,65 +140,97 @@ run-counted links r first kind count run before =
     kinds-all links r kind ∙ sym (ap (tally p) e) ∙ omega (arith, past, row, none-before)
 
 -- ---- counting a kind off
--- Counting stands before a link: of those before it so many have the kind.
-pub record CountedOff (links : List ℕ) (kind found at : ℕ) : Type 0 where
-  pub link : ℕ
-  pub place : at ≡ 1 + 3 * link
-  pub inside : 3 * link ≤ length links
-  pub counted : found ≡ tally (ofKind links kind) link
-
 -- No link is passed yet.
-pub off-start : (links : List ℕ) (kind : ℕ) → CountedOff links kind 0 1
-off-start links kind = record {
-  link = 0;
-  place = refl;
-  inside = omega arith;
-  counted = sym (tally-zero (ofKind links kind));
+pub passed-none : (links : List ℕ) (bound next : ℕ) → next ≡ 1 → Passed links bound next
+passed-none links bound next e =
+    record { link = 0; place = e; inside = omega arith; under = λ i l. absurd (omega arith) }
+
+-- What was passed has kinds below any higher number too.
+abbrev pub passed-more : (links : List ℕ) (low high next : ℕ) → low ≤ high → Passed links low next
+    → Passed links high next
+passed-more links low high next h p = record {
+  link = p .link;
+  place = p .place;
+  inside = p .inside;
+  under = λ i l. omega (arith, p .under i l);
+}
+
+-- Counting stands before a link: no kind before it is above, and so many of those have the kind.
+pub record CountedOff (links : List ℕ) (kind found at : ℕ) : Type 0 where
+  pub passed : Passed links (kind + 1) at
+  pub counted : found ≡ tally (ofKind links kind) (passed .link)
+
+-- Where only lower kinds are passed none is counted.
+pub off-start : (links : List ℕ) (kind at : ℕ) → Passed links kind at → CountedOff links kind 0 at
+off-start links kind at p = record {
+  passed = passed-more links kind (kind + 1) at (omega arith) p;
+  counted = sym (tally-none (ofKind links kind) (p .link)
+      (λ i l. ne-eqb (kindIn links i) kind (λ e. omega (arith, p .under i l))));
 }
 
 module _ {links : List ℕ} {kind found at : ℕ} (rise : KindsRise links) (off : CountedOff links kind found at) where
-  -- One link more, which has the kind, or has not.
+  -- one link more is passed
+  abbrev passed-next : at < length links → getD links at 0 ≤ kind → Passed links (kind + 1) (at + 3)
+  passed-next l h =
+      let p = off .passed in
+      let here = kind-at links (p .link) at (p .place) in
+      record {
+        link = p .link + 1;
+        place = omega (arith, p .place);
+        inside = omega (arith, p .place, rise .size);
+        under = λ i b. ⊎-elim
+            (λ (e : i ≡ p .link). rw e (omega (arith, here)))
+            (λ below. p .under i below)
+            (last-or-below (rw (add-one (p .link)) at b));
+      }
+
+  -- One link more, which has the kind, or a lower one.
   pub off-same : at < length links → getD links at 0 ≡ kind → CountedOff links kind (found + 1) (at + 3)
   off-same l e =
-      let i = off .link in
-      let hit = eq-eqb (kindIn links i) kind (sym (kind-at links i at (off .place)) ∙ e) in
+      let i = off .passed .link in
+      let hit = eq-eqb (kindIn links i) kind (sym (kind-at links i at (off .passed .place)) ∙ e) in
       record {
-        link = i + 1;
-        place = omega (arith, off .place);
-        inside = omega (arith, off .place, rise .size);
+        passed = passed-next l (omega arith);
         counted = omega (arith, off .counted, tally-hit (ofKind links kind) i hit);
       }
 
-  pub off-other : at < length links → (getD links at 0 ≡ kind → ⊥) → CountedOff links kind found (at + 3)
-  off-other l ne =
-      let i = off .link in
-      let miss = ne-eqb (kindIn links i) kind (λ q. ne (kind-at links i at (off .place) ∙ q)) in
+  pub off-other : at < length links → getD links at 0 < kind → CountedOff links kind found (at + 3)
+  off-other l h =
+      let i = off .passed .link in
+      let here = kind-at links i at (off .passed .place) in
+      let miss = ne-eqb (kindIn links i) kind (λ q. omega (arith, here)) in
       record {
-        link = i + 1;
-        place = omega (arith, off .place);
-        inside = omega (arith, off .place, rise .size);
+        passed = passed-next l (omega arith);
         counted = omega (arith, off .counted, tally-miss (ofKind links kind) i miss);
       }
 
   -- The count is a word.
   pub off-small : found ≤ maxLinks
-  off-small = omega (arith, off .counted, tally-le (ofKind links kind) (off .link), off .inside, rise .size, rise .few)
+  off-small =
+      omega (
+        arith,
+        off .counted,
+        tally-le (ofKind links kind) (off .passed .link),
+        off .passed .inside,
+        rise .size,
+        rise .few,
+      )
 
   -- At a link whose kind is above, and past the last link, all are found.
   pub off-above : at < length links → kind < getD links at 0 → found ≡ kindsIn links kind
   off-above l h =
-      let i = off .link in
+      let i = off .passed .link in
       let p = ofKind links kind in
-      let e : i + (rise .many - i) ≡ rise .many = omega (arith, off .inside, rise .size) in
+      let e : i + (rise .many - i) ≡ rise .many = omega (arith, off .passed .inside, rise .size) in
       let after : (j : ℕ) → i ≤ j → j < i + (rise .many - i) → p j ≡ false =
       λ j a b.
       let up = rise .rising i j a (omega arith) in
-      ne-eqb (kindIn links j) kind (λ q. omega (arith, kind-at links i at (off .place))) in
+      ne-eqb (kindIn links j) kind (λ q. omega (arith, kind-at links i at (off .passed .place))) in
       off .counted ∙ sym (tally-past p i (rise .many - i) after) ∙ ap (tally p) e ∙ sym (kinds-all links rise kind)
 
   pub off-done : length links ≤ at → found ≡ kindsIn links kind
   off-done l =
-      let e : off .link ≡ rise .many = omega (arith, off .place, off .inside, rise .size) in
+      let e : off .passed .link ≡ rise .many = omega (arith, off .passed .place, off .passed .inside, rise .size) in
       off .counted ∙ ap (tally (ofKind links kind)) e ∙ sym (kinds-all links rise kind)
 
 -- ---- the count of a label

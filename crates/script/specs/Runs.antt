@@ -3,6 +3,7 @@
 -- kindsIn     how many of them have a kind
 -- amount      the count of a label: the last labels are listed, the kinds before them are counted off the links
 -- KindsRise   whole links, not too many, with kinds that rise
+-- Passed      the links before a place have kinds below a number
 -- RunOf       so many links from one on are all that have its kind; RunAsked: what counting them asks
 -- Assumes nothing.
 use Prim.Native.Nat.{ℕ, _+_, _-_, _*_, _/_, _≤_, _<_}
@@ -34,6 +35,13 @@ pub record KindsRise (links : List ℕ) : Type 0 where
   pub size : length links ≡ 3 * many
   pub few : many ≤ maxLinks
   pub rising : (i j : ℕ) → i ≤ j → j < many → kindIn links i ≤ kindIn links j
+
+-- A place is that of a link's kind, or of the end, and all links before it have kinds below a number.
+pub record Passed (links : List ℕ) (bound next : ℕ) : Type 0 where
+  pub link : ℕ
+  pub place : next ≡ 1 + 3 * link
+  pub inside : 3 * link ≤ length links
+  pub under : (i : ℕ) → i < link → kindIn links i < bound
 
 -- The links from link `first` on, so many of them, are of a kind, and there are no more of it after them.
 pub record RunOf (links : List ℕ) (first kind count : ℕ) : Type 0 where

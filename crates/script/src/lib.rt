@@ -1,12 +1,16 @@
 // Reading a script (a graph): its cards (nodes) and links (edges), the links of a card, and the cards with links.
 //   index     where the links from each card start, and the links to each card as a chain
 //   count     how many links of a kind a card has, from it and to it
+//   alike     cards whose links have the same kinds
+mod alike;
 mod count;
 mod index;
 
+pub use alike::find_twins;
 use board::fill;
+pub use count::Counted;
 pub use count::count_arriving;
-pub use count::count_off;
+pub use count::count_on;
 pub use count::run_length;
 pub use index::chain;
 pub use index::link_starts;

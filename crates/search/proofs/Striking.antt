@@ -1,8 +1,9 @@
 -- The search backwards: which pairs need one, by the links to its card and by those from it.
+--   sources-same, targets-same    the two by a card and a shape that are given
 --   struck-both, struck-sources   sweeps of both, and of the first where no shape names an incoming kind, sweep all
 --                                 that need it
 -- Assumes nothing.
-use mathlib.Core.Path.{_≡_}
+use mathlib.Core.Path.{_≡_, subst}
 use mathlib.Core.Logic.{_⊎_, inl, inr}
 use mathlib.Core.List.{List}
 use Prim.Native.Nat.{ℕ, suc, _+_, _*_, _/_, _%_, _<_}
@@ -19,12 +20,20 @@ use Rattle.board.proofs.Worklist.{swept-same, swept-append}
 use Rattle.typing.specs.Needs.{Needs, Ready}
 use Rattle.search.specs.Walks.{Leaving, Arriving, Starts}
 use Rattle.search.specs.Strikes.{NeedGood}
+use Rattle.search.proofs.Walks.{arriving-same}
 use Rattle.search.proofs.Needs.{kind-in, need-needs, far-is, needs-need, range-in, range-from, from-range}
 
 module _ {script names : List ℕ} {shapes : ℕ} (ready : Ready script names shapes) (q : ℕ) where
   -- the pairs at the start of a link to q's card that need q's shape there
   abbrev Sources : ℕ → Type 0
   Sources p = Arriving script (q / shapes) (NeedGood outgoing script names shapes (q % shapes)) p
+
+  -- the same by a card and a shape that are given
+  pub sources-same : {w v : Work} {m u : ℕ} → m ≡ q / shapes → u ≡ q % shapes
+      → Swept (Arriving script m (NeedGood outgoing script names shapes u)) w v → Swept Sources w v
+  sources-same {w} {v} card shape s =
+      subst (λ (x : ℕ). Swept (Arriving script (q / shapes) (NeedGood outgoing script names shapes x)) w v) shape
+      (arriving-same card s)
 
   sources-need : (p : ℕ) → Sources p → Needs script names shapes p q
   sources-need p g = need-needs ready outgoing (g .link) p q (g .below) (g .leads) (g .good)
@@ -56,6 +65,11 @@ module _ {script names : List ℕ} {shapes : ℕ} (ready : Ready script names sh
     -- the pairs at the end of a link from q's card that need q's shape there
     abbrev Targets : ℕ → Type 0
     Targets p = Leaving (NeedGood incoming script names shapes (q % shapes)) lo hi p
+
+    pub targets-same : {w v : Work} {u : ℕ} → u ≡ q % shapes
+        → Swept (Leaving (NeedGood incoming script names shapes u) lo hi) w v → Swept Targets w v
+    targets-same {w} {v} shape s =
+        subst (λ (x : ℕ). Swept (Leaving (NeedGood incoming script names shapes x) lo hi) w v) shape s
 
     targets-need : (p : ℕ) → Targets p → Needs script names shapes p q
     targets-need p g = need-needs ready incoming (g .link) p q (omega (arith, g .high, range-in st lc low high))

@@ -1,5 +1,6 @@
 -- Walks along links, each of which makes some places good: along a chain, and along links that stand side by side.
 --   swept-strike        one strike sweeps its place
+--   arriving-same       a card that is given as another number
 --   leaving-none, leaving-more, leaving-split   no links, and one link more
 --   Later               the good places of the numbers of a chain from one on
 --   later-skip, later-split, later-arriving     between numbers of the chain, one number more, all links to a card
@@ -15,7 +16,7 @@
 use mathlib.Core.Path.{_≡_, refl, sym, ap, _∙_, subst}
 use mathlib.Core.Logic.{_⊎_, inl, inr, ⊎-elim}
 use mathlib.Core.List.{List}
-use mathlib.Core.Bool.{Bool, true, false}
+use mathlib.Core.Bool.{Bool, false}
 use Prim.Native.Nat.{ℕ, suc, _+_, _-_, _≤_, _<_}
 use native.Mathlib.Nat.{eq-or-lt-of-le}
 use native.Mathlib.Omega.{arith}
@@ -34,6 +35,11 @@ swept-strike w p l = record {
   run = then stay refl;
   off = λ q e. subst (λ (x : ℕ). on (strikeOne w p .grid) x ≡ false) (sym e) (one-off w p l);
 }
+
+-- what the links to a card make good, where the card is given as another number that is the same
+pub arriving-same : {script : List ℕ} {Good : ℕ → ℕ → Type 0} {w v : Work} {m n : ℕ} → m ≡ n
+    → Swept (Arriving script m Good) w v → Swept (Arriving script n Good) w v
+arriving-same {script} {Good} {w} {v} e s = subst (λ (x : ℕ). Swept (Arriving script x Good) w v) e s
 
 -- ---- links side by side
 module _ {Good : ℕ → ℕ → Type 0} {lo : ℕ} where

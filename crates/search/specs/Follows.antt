@@ -6,12 +6,12 @@
 -- FloodAsked   what the search asks
 -- Off, Followed   its answer: from the places that were off
 -- Assumes nothing.
-use Prim.Native.Nat.{ℕ, suc, _+_, _*_, _≤_, _<_}
+use Prim.Native.Nat.{ℕ, suc, _+_, _*_, _/_, _≤_, _<_}
 use mathlib.Core.Path.{_≡_}
 use mathlib.Core.List.{List}
 use mathlib.Core.Bool.{Bool, false, not}
 use lib.ListN.{length, getD}
-use Rattle.words.specs.Limits.{maxKinds, maxLinks}
+use Rattle.words.specs.Limits.{maxLinks}
 use Rattle.words.specs.Sizes.{maxGrid}
 use Rattle.bags.specs.Label.{Way, outgoing, incoming}
 use Rattle.script.specs.Link.{kindAt, farAt}
@@ -62,10 +62,11 @@ pub record ArrivingAsked (script first next row : List ℕ) (shapes m : ℕ) (w 
   pub arrivals : ArrivalsOf script first next (m + 1) (getD script 1 0)
   pub room : Room w
 
--- What following the links of the pair at place q asks.
-pub record PairAsked (script starts first next names : List ℕ) (shapes : ℕ) (incoming : Bool) (q : ℕ) (w : Work)
+-- What following the links of the pair at place q, of card n, asks.
+pub record PairAsked (script starts first next names : List ℕ) (shapes : ℕ) (incoming : Bool) (n q : ℕ) (w : Work)
     : Type 0 where
   pub links : LinksReady script starts first next names shapes incoming
+  pub card : n ≡ q / shapes
   pub on-board : q < length (w .grid)
   pub full : length (w .grid) ≡ getD script 0 0 * shapes
   pub room : Room w

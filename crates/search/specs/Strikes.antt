@@ -8,7 +8,7 @@
 -- OutAsked, BothAsked   what the rounds ask, one way and both; BackAsked, StrikeAsked: with indexes still to be built
 -- Searched     its answer; StrikesLeft: with what becomes of the grid
 -- Assumes nothing.
-use Prim.Native.Nat.{ℕ, suc, _+_, _*_, _≤_, _<_}
+use Prim.Native.Nat.{ℕ, suc, _+_, _*_, _/_, _≤_, _<_}
 use mathlib.Core.Path.{_≡_}
 use mathlib.Core.List.{List}
 use mathlib.Core.Bool.{Bool}
@@ -88,10 +88,11 @@ pub record BothReady (script starts first next names : List ℕ) (shapes : ℕ) 
   pub leaving : Starts script starts
   pub inward-places : NameIndex names (firstLabel incoming) shapes inward inalike
 
--- What striking all pairs that need the one at place q asks.
+-- What striking all pairs that need the one at place q, of card m, asks.
 pub record NeedingAsked (script starts first next names : List ℕ) (shapes : ℕ)
-    (named alike inward inalike : List ℕ) (q : ℕ) (w : Work) : Type 0 where
+    (named alike inward inalike : List ℕ) (m q : ℕ) (w : Work) : Type 0 where
   pub both : BothReady script starts first next names shapes named alike inward inalike
+  pub card : m ≡ q / shapes
   pub on-board : q < length (w .grid)
   pub full : length (w .grid) ≡ getD script 0 0 * shapes
   pub room : Room w

@@ -1,10 +1,16 @@
 // The search forwards: from the pairs that are queued, along the links of what is found, from a card and to it.
+ghost use mathlib.Core.Path.{_≡_};
+ghost use Prim.Native.Nat.{_/_};
 ghost use Rattle.bags.specs.Label.{outgoing, incoming as arriving};
 ghost use Rattle.board.specs.Work.{work, Swept};
 ghost use Rattle.typing.specs.Needs.{Needs};
 ghost use Rattle.search.specs.Walks.{Leaving, Arriving};
+ghost use Rattle.search.specs.Cards.{LedCardAsked};
 ghost use Rattle.search.specs.Follows.{EntryGood, LedGood, LedAsked, LeavingAsked, ArrivingAsked, PairAsked};
 ghost use Rattle.search.specs.Follows.{FloodAsked, Followed};
+use crate::card::guessed_card;
+use crate::card::reciprocal;
+use crate::card::scaled_card;
 use board::strike_one;
 use words::MAX_KINDS;
 use words::MAX_LABELS;
@@ -80,8 +86,29 @@ fn follow_arriving(
     end
 }
 
-// Strikes what the pair at place q needs: what the links from its card lead to, and, where shapes name incoming kinds,
-// what the links to it lead back to.
+// The card of the pair at place q, the next one. A pair that is alone in the queue was found by the pair before, of
+// card `last`: the last link from that card is likely to lead to its card.
+fn led_card(
+    script: &[u16],
+    starts: &[u16],
+    shapes: usize,
+    factor: usize,
+    alone: bool,
+    last: usize,
+    q: usize,
+) -> usize
+    requires { ⌜ LedCardAsked (now script) (now starts) shapes factor last q ⌝ }
+    ensures { λ r. ⌜ r ≡ q / shapes ⌝ }
+{
+    if alone {
+        let end = wide(starts[last + 1]);
+        return guessed_card(q, shapes, wide(script[1 + 3 * end]));
+    }
+    scaled_card(q, factor)
+}
+
+// Strikes what the pair at place q, of card n, needs: what the links from its card lead to, and, where shapes name
+// incoming kinds, what the links to it lead back to.
 fn follow_pair(
     script: &[u16],
     starts: &[u16],
@@ -90,18 +117,18 @@ fn follow_pair(
     names: &[u8],
     shapes: usize,
     incoming: bool,
+    n: usize,
     q: usize,
     grid: &mut [u8],
     queue: &mut [u16],
     tail: usize,
 ) -> usize
-    requires { ⌜ PairAsked (now script) (now starts) (now first) (now next) (now names) shapes incoming q
+    requires { ⌜ PairAsked (now script) (now starts) (now first) (now next) (now names) shapes incoming n q
         (work (now grid) (now queue) tail) ⌝ }
     ensures { λ r. ⌜ Swept (Needs (now (script .entry)) (now (names .entry)) shapes q)
         (work (now (grid .entry)) (now (queue .entry)) tail) (work (now (grid .exit)) (now (queue .exit)) r) ⌝ }
 {
-    let n = q / shapes;
-    let base = q % shapes * MAX_LABELS;
+    let base = (q - n * shapes) * MAX_LABELS;
     let half = base + MAX_KINDS;
     let lo = wide(starts[n]);
     let hi = wide(starts[n + 1]);
@@ -141,10 +168,13 @@ pub fn flood(
     ensures { λ r. ⌜ Followed (now (script .entry)) (now (names .entry)) shapes
         (now (grid .entry)) (now (grid .exit)) r ⌝ }
 {
+    let factor = reciprocal(shapes);
     let mut tail = booked;
     let mut head = 0;
+    let mut last = 0;
     while head < tail {
         let q = wide(queue[head]);
+        let n = led_card(script, starts, shapes, factor, head + 1 == tail, last, q);
         tail = follow_pair(
             script,
             starts,
@@ -153,11 +183,13 @@ pub fn flood(
             names,
             shapes,
             incoming,
+            n,
             q,
             grid,
             queue,
             tail,
         );
+        last = n;
         head += 1;
     }
     tail

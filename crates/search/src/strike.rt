@@ -1,15 +1,19 @@
 // The search backwards: from the pairs whose counts do not fit, rounds of strikes, until one strikes nothing.
 ghost use mathlib.Core.Path.{_≡_};
-ghost use Prim.Native.Nat.{_+_, _≤_};
+ghost use Prim.Native.Nat.{_+_, _/_, _≤_};
 ghost use Rattle.words.specs.Sizes.{maxGrid};
 ghost use Rattle.bags.specs.Label.{outgoing, incoming as arriving};
 ghost use Rattle.board.specs.Work.{work, Swept};
 ghost use Rattle.typing.specs.Needs.{Needs};
+ghost use Rattle.search.specs.Cards.{SourceCardAsked};
 ghost use Rattle.search.specs.Tally.{closed, HeadTally};
 ghost use Rattle.search.specs.Walks.{Leaving, Arriving};
 ghost use Rattle.search.specs.Strikes.{NamedGood, NamedAsked, NeedGood, SourcesAsked, TargetsAsked, NeedingAsked};
 ghost use Rattle.search.specs.Strikes.{OutAsked, BothAsked, BackAsked, StrikeAsked, StrikesLeft};
 use crate::Tally;
+use crate::card::guessed_card;
+use crate::card::reciprocal;
+use crate::card::scaled_card;
 use crate::index::index_names;
 use board::list_off;
 use board::strike_one;
@@ -137,7 +141,30 @@ fn strike_targets(
     end
 }
 
-// Strikes what needs the pair at place q: by the links to its card, and by those from it.
+// The card of the pair at place q, the next one. A pair that is alone in the queue was struck by the pair before, of
+// card `last`: the last link to that card is likely to start at its card.
+fn source_card(
+    script: &[u16],
+    first: &[u16],
+    shapes: usize,
+    factor: usize,
+    alone: bool,
+    last: usize,
+    q: usize,
+) -> usize
+    requires { ⌜ SourceCardAsked (now script) (now first) shapes factor last q ⌝ }
+    ensures { λ r. ⌜ r ≡ q / shapes ⌝ }
+{
+    if alone {
+        let at = wide(first[last]);
+        if 0 < at {
+            return guessed_card(q, shapes, wide(script[3 * at - 1]));
+        }
+    }
+    scaled_card(q, factor)
+}
+
+// Strikes what needs the pair at place q, of card m: by the links to its card, and by those from it.
 fn strike_needing(
     script: &[u16],
     starts: &[u16],
@@ -149,18 +176,18 @@ fn strike_needing(
     alike: &[u16],
     inward: &[u16],
     inalike: &[u16],
+    m: usize,
     q: usize,
     grid: &mut [u8],
     queue: &mut [u16],
     tail: usize,
 ) -> usize
     requires { ⌜ NeedingAsked (now script) (now starts) (now first) (now next) (now names) shapes
-        (now named) (now alike) (now inward) (now inalike) q (work (now grid) (now queue) tail) ⌝ }
+        (now named) (now alike) (now inward) (now inalike) m q (work (now grid) (now queue) tail) ⌝ }
     ensures { λ r. ⌜ Swept (λ p. Needs (now (script .entry)) (now (names .entry)) shapes p q)
         (work (now (grid .entry)) (now (queue .entry)) tail) (work (now (grid .exit)) (now (queue .exit)) r) ⌝ }
 {
-    let m = q / shapes;
-    let u = q % shapes;
+    let u = q - m * shapes;
     let end = strike_sources(
         script,
         first,
@@ -241,8 +268,10 @@ fn strike_rounds(
     ensures { λ r. ⌜ StrikesLeft (now (script .entry)) (now (names .entry)) shapes
         (now (grid .entry)) (now (grid .exit)) (r .rounds) (r .struck) ⌝ }
 {
+    let factor = reciprocal(shapes);
     let mut tail = list_off(grid, queue);
     let mut head = 0;
+    let mut last = 0;
     let mut tally = Tally {
         rounds: 0,
         struck: 0,
@@ -250,6 +279,7 @@ fn strike_rounds(
     while head < tail {
         tally = at_head(tally, head, tail);
         let q = wide(queue[head]);
+        let m = source_card(script, first, shapes, factor, head + 1 == tail, last, q);
         tail = strike_sources(
             script,
             first,
@@ -258,12 +288,13 @@ fn strike_rounds(
             shapes,
             named,
             alike,
-            q / shapes,
-            q % shapes,
+            m,
+            q - m * shapes,
             grid,
             queue,
             tail,
         );
+        last = m;
         head += 1;
     }
     after_round(tally, tail)
@@ -289,8 +320,10 @@ fn strike_rounds_both(
     ensures { λ r. ⌜ StrikesLeft (now (script .entry)) (now (names .entry)) shapes
         (now (grid .entry)) (now (grid .exit)) (r .rounds) (r .struck) ⌝ }
 {
+    let factor = reciprocal(shapes);
     let mut tail = list_off(grid, queue);
     let mut head = 0;
+    let mut last = 0;
     let mut tally = Tally {
         rounds: 0,
         struck: 0,
@@ -298,6 +331,7 @@ fn strike_rounds_both(
     while head < tail {
         tally = at_head(tally, head, tail);
         let q = wide(queue[head]);
+        let m = source_card(script, first, shapes, factor, head + 1 == tail, last, q);
         tail = strike_needing(
             script,
             starts,
@@ -309,11 +343,13 @@ fn strike_rounds_both(
             alike,
             inward,
             inalike,
+            m,
             q,
             grid,
             queue,
             tail,
         );
+        last = m;
         head += 1;
     }
     after_round(tally, tail)

@@ -4,7 +4,7 @@
 --   is-true, is-false        by ruling out the other
 --   bools-equal              equal where both ways follow
 --   and-first, and-second, and-both          a conjunction and its sides
---   false-of-not, not-of-false, not-of-true  a negation and what it negates
+--   false-of-not, true-of-not, not-of-false, not-of-true   a negation and what it negates
 --   or-cases, or-left, or-right, same-true   a disjunction and its sides; tests that are the same
 --   cond-case, bool-case                     both ways of a test
 --   le-or-lt, eq-or-ne, last-or-below        how two numbers stand
@@ -50,6 +50,10 @@ and-both false b p q = p
 pub false-of-not : {b : Bool} → not b ≡ true → b ≡ false
 false-of-not {b = true} h = sym h
 false-of-not {b = false} h = refl
+
+pub true-of-not : {b : Bool} → not b ≡ false → b ≡ true
+true-of-not {b = true} h = refl
+true-of-not {b = false} h = sym h
 
 pub not-of-false : {b : Bool} → b ≡ false → not b ≡ true
 not-of-false h = rw h

@@ -1,13 +1,15 @@
-//! Times the built library against the other implementation: against its linear algorithm and against its naive
-//! rounds, in one process, on the same inputs. Each does both typings, from words to grids, refusals tested. Then it
-//! times the library's judge against its largest typing.
+//! Times the built library against the other implementation: against its linear algorithm, which tests the counts of
+//! each pair once for both typings, and against its naive rounds, in one process, on the same inputs. Each does both
+//! typings, from words to grids, refusals tested. Most sheets have an aim, at most how many times the linear
+//! algorithm's time the library should take; whether it is reached is told, and doesn't matter to the exit code. Then
+//! the library's judge is timed against its largest typing.
 //!
 //! | module    | what                                              |
 //! |-----------|---------------------------------------------------|
 //! | `inputs`  | the sheets that are timed                         |
 //! | `library` | the library's call, through the Rust wrapper      |
 //! | `judging` | the library's judge against its largest typing    |
-//! | `runs`    | warm-up, many runs, the median                    |
+//! | `runs`    | warm-up, many runs by turns, the medians          |
 
 mod inputs;
 mod judging;
@@ -20,17 +22,17 @@ use prep_tools::typing::{self, Both};
 use std::process::ExitCode;
 
 fn main() -> ExitCode {
-    let inputs = match inputs::all() {
+    let inputs = match inputs::first() {
         Ok(inputs) => inputs,
         Err(error) => {
             eprintln!("prep-bench: {error}");
             return ExitCode::from(2);
         }
     };
-    let nested = inputs::nested();
+    let further = inputs::further();
     print_head();
     // All sheets are timed, whether or not one before differs.
-    let timed = inputs.iter().chain(&nested);
+    let timed = inputs.iter().chain(&further);
     let differ = timed.filter(|input| !time(input)).count();
     println!();
     if inputs.iter().any(|input| !input.naive) {
@@ -40,7 +42,7 @@ fn main() -> ExitCode {
     }
     println!();
     let kept = inputs::kept();
-    let refused = time_judging(inputs.iter().chain(&kept).chain(&nested));
+    let refused = time_judging(inputs.iter().chain(&kept).chain(&further));
     println!();
     if refused > 0 {
         println!("A largest typing is not accepted.");
@@ -65,13 +67,14 @@ fn time_judging<'a>(inputs: impl Iterator<Item = &'a Input>) -> usize {
 fn print_head() {
     println!("Both typings from words to grids, in ms: the median of many runs after a warm-up. The library's grids");
     println!("are its caller's and aren't cleared before a call; the other implementation makes new ones each time.");
+    println!("The library and the linear algorithm take turns. The aim is for library/linear.");
     if cfg!(debug_assertions) {
         println!("This isn't a release build (`--release`), so the numbers mean little.");
     }
     println!();
     println!(
-        "{:34} {:>10} {:>10} {:>12} {:>16} {:>15}",
-        "sheet", "library", "linear", "naive", "linear/library", "naive/library"
+        "{:34} {:>10} {:>10} {:>12} {:>14} {:>14} {:>12} {:>8}",
+        "sheet", "library", "linear", "naive", "naive/library", "library/linear", "aim", "reached"
     );
 }
 
@@ -86,18 +89,21 @@ fn time(input: &Input) -> bool {
     };
     let mut buffers = Buffers::new(expected.largest.1.len());
     let mut agree = library_agrees(&expected, input, &mut buffers);
-    let library = runs::median(|| library::both(files, &mut buffers));
-    let linear = runs::median(ours);
+    let [library, linear] = runs::medians(|| library::both(files, &mut buffers), ours);
     let naive = input.naive.then(|| {
         agree &= naive().as_ref() == Ok(&expected);
         runs::median(naive)
     });
+    let ratio = library / linear;
     println!(
-        "{:34} {library:>10.4} {linear:>10.4} {:>12} {:>16.2} {:>15}{}",
+        "{:34} {library:>10.4} {linear:>10.4} {:>12} {:>14} {ratio:>14.2} {:>12} {:>8}{}",
         input.name,
         naive.map_or("skipped".to_string(), |time| format!("{time:.4}")),
-        linear / library,
         naive.map_or("-".to_string(), |time| format!("{:.2}", time / library)),
+        input.aim.map_or("-".to_string(), |aim| format!("at most {aim}")),
+        input
+            .aim
+            .map_or("-", |aim| if ratio <= aim { "yes" } else { "no" }),
         if agree { "" } else { "  DIFFERS" }
     );
     agree

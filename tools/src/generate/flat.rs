@@ -143,7 +143,7 @@ fn length(random: &mut Random, cards: u16) -> u16 {
 }
 
 /// The counts of each card.
-fn counts(cards: u16, kinds: u16, links: &Links) -> Vec<Labelled<u16>> {
+pub fn counts(cards: u16, kinds: u16, links: &Links) -> Vec<Labelled<u16>> {
     let mut counts = vec![Labelled::new(kinds, 0); usize::from(cards)];
     for (from, kind, to) in links {
         counts[usize::from(*from)][Label::outgoing(Kind(*kind))] += 1;

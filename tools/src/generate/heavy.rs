@@ -1,7 +1,8 @@
 //! The sheets that take longest, for timing. `nested` has those whose shapes are choices, and stars and pluses of
-//! groups.
+//! groups, `wrapped` the one whose links lie below many wrappers.
 
 pub mod nested;
+pub mod wrapped;
 
 use super::parts::{filler, outgoing};
 use super::{bookings, scripts};
@@ -57,6 +58,14 @@ pub fn densest_both_ways() -> Files {
 /// The densest sheet with every shape open, so that the few links of other kinds are ignored and strike nothing.
 pub fn densest_open() -> Files {
     dense(&[Way::Outgoing], dense_open_template())
+}
+
+/// The shapes of the densest sheet, and a hub to which all cards lead: card 0, by a link of each of 8 kinds from every
+/// card and itself. Every shape takes these kinds in any number, so no pair is struck, and all cards are alike.
+pub fn hub() -> Files {
+    let each = MOST_LINKS / MOST_CARDS;
+    let links = (0..MOST_CARDS).flat_map(|card| (0..each).map(move |kind| (card, kind, 0)));
+    booked(&dense_template(&[Way::Outgoing]), &links.collect())
 }
 
 /// How many kinds every shape of a dense template names, in each of these ways: those with the lowest numbers.

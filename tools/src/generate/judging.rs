@@ -6,7 +6,7 @@
 //! | `edges`    | each refusal of a grid from both sides                                     |
 //! | `arriving` | links that arrive                                                          |
 //! | `open`     | open shapes                                                                |
-//! | `runs`     | counting the links of a card                                               |
+//! | `runs`     | counting the links of a card; alike cards                                  |
 //! | `orders`   | several faults at once: which one is told                                  |
 //! | `typings`  | both typings of some sheets, typings between them, and what is a pair off  |
 //! | `limits`   | everything at its limit                                                    |
@@ -22,7 +22,7 @@ pub mod runs;
 pub mod samples;
 pub mod typings;
 
-use super::{counted, flat, in_turn};
+use super::{alike, counted, flat, in_turn, Scale};
 use crate::random::Random;
 use crate::refusal::Refusal;
 use crate::samples::Counted;
@@ -100,6 +100,7 @@ pub fn fixed() -> Vec<JudgeCase> {
         arriving::arriving(),
         open::open(),
         runs::runs(),
+        runs::alike(),
         orders::orders(),
         typings::typings(),
         limits::limits(),
@@ -135,7 +136,7 @@ fn counts_of(counted: Vec<Counted>) -> Vec<JudgeCase> {
 pub fn cases(seed: u64, count: usize) -> impl Iterator<Item = JudgeCase> {
     fixed()
         .into_iter()
-        .chain(in_turn(seed, case, flat_case))
+        .chain(in_turn(seed, case, flat_case, alike_case))
         .take(count)
 }
 
@@ -143,18 +144,30 @@ pub fn cases(seed: u64, count: usize) -> impl Iterator<Item = JudgeCase> {
 fn flat_case(random: &mut Random) -> JudgeCase {
     let scale = flat::scale(random);
     let files = flat::flat(random, scale);
+    whole_case(random, "flat", scale, files)
+}
+
+/// One random case with alike cards: a whole sheet.
+fn alike_case(random: &mut Random) -> JudgeCase {
+    let scale = alike::scale(random);
+    let files = alike::alike(random, scale);
+    whole_case(random, "alike", scale, files)
+}
+
+/// A whole sheet, made in this way and of this scale, with a random grid.
+fn whole_case(random: &mut Random, way: &str, scale: Scale, files: Files) -> JudgeCase {
     let (name, grid) = match read(&files) {
         Ok((setting, booked)) => grids::whole(random, &setting, &booked),
         Err(refusal) => panic!("a generated sheet has a fault, {refusal}"),
     };
     JudgeCase {
-        name: format!("flat-{}-{name}", scale.name),
+        name: format!("{way}-{}-{name}", scale.name),
         files,
         grid,
     }
 }
 
-/// One random case that isn't about counting: a whole sheet, or one with a faulty file.
+/// One random case that is neither about counting nor about alike cards: a whole sheet, or one with a faulty file.
 pub fn case(random: &mut Random) -> JudgeCase {
     let is_whole = random.chance(5, 6);
     loop {

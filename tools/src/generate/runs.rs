@@ -12,7 +12,7 @@ use crate::sheet::Files;
 use crate::template::{self, Definition, Link, Part, Template, MOST_COUNT, MOST_KINDS};
 
 /// The runs of a card: kinds, and how many links of each start there.
-type Runs<'a> = &'a [(u16, u16)];
+pub type Runs<'a> = &'a [(u16, u16)];
 
 /// All of these sheets.
 pub fn runs() -> Vec<Case> {
@@ -35,7 +35,7 @@ pub fn small() -> Vec<(String, Files)> {
 
 /// A sheet with these shapes and the last one, these cards, and one booking. The links of a run lead to the cards that
 /// come next, in a ring.
-fn sheet(kinds: u16, shapes: Vec<Definition>, cards: &[Runs], booked: (u16, u16)) -> Files {
+pub fn sheet(kinds: u16, shapes: Vec<Definition>, cards: &[Runs], booked: (u16, u16)) -> Files {
     let last = Shape(shapes.len() as u16);
     let to_last = |link: Link| Link { shape: last, ..link };
     let mut definitions: Vec<Definition> = shapes

@@ -3,29 +3,39 @@
 use super::counting::Counting;
 use super::met::needs;
 use super::{Grid, Pair, Setting, Smallest};
-use crate::numbers::Shape;
 
-/// The answer and the grid of the smallest typing. A pair of the closure has all that its links need in the closure
-/// too, so it is met if and only if its card's counts fit.
+/// The answer and the grid of the smallest typing. Only the pairs of the closure are tested, which may be few.
 pub fn smallest(setting: &Setting, booked: &[Pair]) -> (Smallest, Grid) {
-    let mut counting = Counting::new(setting);
     let grid = closure(setting, booked);
-    let mut pairs = 0;
-    let rows = grid.chunks(usize::from(setting.template.shapes()));
-    for (card, row) in setting.cards().zip(rows) {
-        let held: usize = row.iter().map(|byte| usize::from(*byte)).sum();
-        if held == 0 {
-            continue;
-        }
-        pairs += held;
-        counting.turn_to(card);
-        for (shape, _) in (0..).zip(row).filter(|(_, byte)| **byte == 1) {
-            if !counting.fits(Shape(shape)) {
-                return (Smallest::NotMet(card, Shape(shape)), vec![0; setting.size()]);
-            }
+    let mut counting = Counting::new(setting);
+    let mut held = setting.pairs().zip(&grid).filter(|(_, byte)| **byte == 1);
+    let unfit = held.find(|((card, shape), _)| {
+        counting.turn_to(*card);
+        !counting.fits(*shape)
+    });
+    let unfit = unfit.map(|(pair, _)| pair);
+    answered(grid, unfit)
+}
+
+/// The same if it is known for each pair, by its place, whether its counts fit.
+pub fn smallest_where(setting: &Setting, booked: &[Pair], fits: &[bool]) -> (Smallest, Grid) {
+    let grid = closure(setting, booked);
+    let mut places = grid.iter().zip(fits);
+    let unfit = places.position(|(byte, fits)| *byte == 1 && !fits);
+    let unfit = unfit.and_then(|place| setting.pairs().nth(place));
+    answered(grid, unfit)
+}
+
+/// The answer for a closure and the lowest pair of it whose counts don't fit. A pair of the closure has all that its
+/// links need in the closure too, so it is met if and only if its card's counts fit.
+fn answered(closure: Grid, unfit: Option<Pair>) -> (Smallest, Grid) {
+    match unfit {
+        Some((card, shape)) => (Smallest::NotMet(card, shape), vec![0; closure.len()]),
+        None => {
+            let pairs = closure.iter().filter(|byte| **byte == 1).count();
+            (Smallest::Pairs(pairs), closure)
         }
     }
-    (Smallest::Pairs(pairs), grid)
 }
 
 /// The least set of pairs with the bookings and, for (n, t) in it and a link at n whose kind t names the way it runs

@@ -6,6 +6,18 @@ use crate::fit::ready::{bit, Ready};
 use crate::labels::Labelled;
 use crate::numbers::{Card, Shape};
 
+/// For each pair, by its place, whether its card's counts fit its shape: one test of each pair, which all that ask
+/// for it can share.
+pub fn all(setting: &Setting) -> Vec<bool> {
+    let mut fits = Vec::with_capacity(setting.size());
+    let mut counting = Counting::new(setting);
+    for card in setting.cards() {
+        counting.turn_to(card);
+        fits.extend((0..setting.template.shapes()).map(|shape| counting.fits(Shape(shape))));
+    }
+    fits
+}
+
 /// The counts of one card's links.
 pub struct Counting<'a> {
     setting: &'a Setting,
@@ -33,8 +45,11 @@ impl<'a> Counting<'a> {
         }
     }
 
-    /// Counts the links of this card instead of the last one's.
+    /// Counts the links of this card instead of the last one's, unless it is the same.
     pub fn turn_to(&mut self, card: Card) {
+        if self.card == Some(card) {
+            return;
+        }
         let script = &self.setting.script;
         if let Some(last) = self.card.replace(card) {
             for end in script.ends_of(last) {

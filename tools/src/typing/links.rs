@@ -5,8 +5,7 @@
 //! to what needs it, finds the round in which each pair is struck. Each pair is walked from once, and only over the
 //! links at its card and the shapes that ask for its shape by their labels at the other end.
 
-use super::counting::Counting;
-use super::{Grid, Largest, Pair, Setting};
+use super::{counting, Grid, Largest, Pair, Setting};
 use crate::labels::Labelled;
 use crate::numbers::Shape;
 
@@ -15,7 +14,12 @@ const NEVER: u16 = 0;
 
 /// The answer and the grid of the largest typing.
 pub fn largest(setting: &Setting) -> (Largest, Grid) {
-    let (round, strikes) = strike_rounds(setting);
+    largest_where(setting, &counting::all(setting))
+}
+
+/// The same if it is known for each pair, by its place, whether its counts fit.
+pub fn largest_where(setting: &Setting, fits: &[bool]) -> (Largest, Grid) {
+    let (round, strikes) = strike_rounds(setting, fits);
     let grid: Grid = round.iter().map(|round| u8::from(*round == NEVER)).collect();
     let last = strikes.last().map_or(NEVER, |pair| round[setting.place(*pair)]);
     let answer = Largest {
@@ -27,17 +31,13 @@ pub fn largest(setting: &Setting) -> (Largest, Grid) {
 }
 
 /// For each pair, by its place, the round in which it is struck; and all pairs that are, round after round.
-fn strike_rounds(setting: &Setting) -> (Vec<u16>, Vec<Pair>) {
+fn strike_rounds(setting: &Setting, fits: &[bool]) -> (Vec<u16>, Vec<Pair>) {
     let mut round = vec![NEVER; setting.size()];
     let mut strikes = Vec::with_capacity(setting.size());
-    let mut counting = Counting::new(setting);
-    for card in setting.cards() {
-        counting.turn_to(card);
-        for shape in (0..setting.template.shapes()).map(Shape) {
-            if !counting.fits(shape) {
-                round[setting.place((card, shape))] = 1;
-                strikes.push((card, shape));
-            }
+    for (pair, fits) in setting.pairs().zip(fits) {
+        if !fits {
+            round[setting.place(pair)] = 1;
+            strikes.push(pair);
         }
     }
     let users = users(setting);

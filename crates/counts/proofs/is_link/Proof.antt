@@ -1,23 +1,29 @@
 -- `is_link` meets its contract. Assumes nothing.
 use lib.ListN.{getD}
 use native.Mathlib.Omega.{arith}
+use borrow.Author.Needs.{needs}
 use mathlib.Core.Bool.{false≢true}
 use borrow.Author.Tests.{ltb-true}
-use borrow.Author.Needs.{needs}
 use Rattle.counts.proofs.is_link.Statement.{statement}
 use Rattle.counts.proofs.is_link.Tie as tie
 
 returns : tie.Need-returns
 returns c e = absurd (false≢true e)
 
-mul-if2 : tie.Need-mul-if2
-mul-if2 c = search needs
-
-shared-slice-read-if2 : tie.Need-shared-slice-read-if2
-shared-slice-read-if2 c = search needs
+sub-if2 : tie.Need-sub-if2
+sub-if2 c = search needs
 
 returns-2 : tie.Need-returns-2
 returns-2 c e = absurd (false≢true e)
+
+mul-if3 : tie.Need-mul-if3
+mul-if3 c = search needs
+
+shared-slice-read-if3 : tie.Need-shared-slice-read-if3
+shared-slice-read-if3 c = search needs
+
+returns-3 : tie.Need-returns-3
+returns-3 c e = absurd (false≢true e)
 
 mul-result : tie.Need-mul-result
 mul-result c = search needs
@@ -25,9 +31,9 @@ mul-result c = search needs
 shared-slice-read-result : tie.Need-shared-slice-read-result
 shared-slice-read-result c = search needs
 
-returns-3 : tie.Need-returns-3
-returns-3 c e =
-    let a = c .before .before .before .before .args in
+returns-4 : tie.Need-returns-4
+returns-4 c e =
+    let a = c .before .before .before .before .before .args in
     record {
       inside = omega arith;
       low = omega arith;
@@ -39,9 +45,11 @@ is-link-spec =
     tie.close
     (tie.spec
     returns
-    mul-if2
-    shared-slice-read-if2
+    sub-if2
     returns-2
+    mul-if3
+    shared-slice-read-if3
+    returns-3
     mul-result
     shared-slice-read-result
-    returns-3)
+    returns-4)

@@ -6,7 +6,7 @@ use Rattle.words.specs.Limits.{maxDepth}
 use Rattle.script.specs.Runs.{amount}
 use Rattle.flat.specs.Meeting.{MetAs}
 use Rattle.counts.specs.Trees.{treeAt}
-use Rattle.fits.proofs.CardTests.{flat-named, flat-core, flat-met, other-open, other-named, other-not}
+use Rattle.fits.proofs.CardTests.{flat-named, flat-met, other-open, other-named, other-not}
 use Rattle.fits.proofs.card_fits.Statement.{statement}
 use Rattle.fits.proofs.card_fits.Tie as tie
 
@@ -58,7 +58,7 @@ returns-2 c kinds names under =
     let m = subst (MetAs (s .args .plan .opened) kinds _ w) (told .met .given .1)
     (met .meet-card .ensures _ kinds (f .surveyed) under) in
     flat-met _ _ (s .args .plan) f kinds w _ m _
-    (c .core-fits .ensures w (f .left) (flat-core _ _ (s .args .plan) f kinds w _ m))
+    (c .core-fits .ensures w (f .left) (m .0))
 
 part-fits-requires : tie.Need-part-fits-requires
 part-fits-requires c κs = search needs

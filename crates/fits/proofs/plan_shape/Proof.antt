@@ -2,7 +2,7 @@
 -- places. Assumes nothing.
 use borrow.Author.Needs.{needs}
 use Prim.Native.Nat.{ℕ, _+_, _≤_}
-use mathlib.Core.Path.{_≡_, refl, sym, subst}
+use mathlib.Core.Path.{_≡_, sym, subst}
 use mathlib.Core.Bool.{false≢true}
 use native.Mathlib.Omega.{arith}
 use lib.ListN.{length, getD}
@@ -91,7 +91,7 @@ returns c =
     record {
       is-open = a .before .open-at .ensures;
       start = a .part-at .ensures;
-      flat = λ y. flat-plan _ _ (end-in a) _ _ refl (part-core a) (place .core-place .ensures)
+      flat = λ y. flat-plan _ _ (end-in a) _ _ (part-core a) (place .core-place .ensures)
           (λ p standing. subst (SurveyedAs (now (start a .args .template)) p _) (c .before .found .given .1)
           (surveyed p standing));
     }

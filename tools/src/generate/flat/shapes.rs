@@ -3,6 +3,9 @@
 //!
 //! Most are *flat*: a link, nothing, or an all of links, nothing and such alls, under up to two stars, pluses and
 //! optionals. Others are nearly flat: one of the links lies in a star, a plus, an optional or a choice of its own.
+//! `groups` has shapes of several groups.
+
+pub mod groups;
 
 use crate::generate::parts::{wrapped, Bounds};
 use crate::labels::{Label, Labelled, Way};

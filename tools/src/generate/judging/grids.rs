@@ -3,8 +3,7 @@
 use crate::random::Random;
 use crate::sheet::Files;
 use crate::template::MOST_SHAPES;
-use crate::typing::counting::Counting;
-use crate::typing::{closure, links, Grid, Pair, Setting};
+use crate::typing::{closure, counting, links, Grid, Pair, Setting};
 
 /// A grid for a whole sheet, and a word for how it was made.
 pub fn grid(random: &mut Random, setting: &Setting, booked: &[Pair]) -> (&'static str, Grid) {
@@ -73,12 +72,7 @@ fn noise(random: &mut Random, size: usize) -> Grid {
 
 /// All pairs whose card's counts fit, whatever the cards at the far ends of its links have.
 fn fitting(setting: &Setting) -> Grid {
-    let mut counting = Counting::new(setting);
-    let fits = |(card, shape): Pair| {
-        counting.turn_to(card);
-        u8::from(counting.fits(shape))
-    };
-    setting.pairs().map(fits).collect()
+    counting::all(setting).into_iter().map(u8::from).collect()
 }
 
 /// A typing with bytes taken away or put behind it.

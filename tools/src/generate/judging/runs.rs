@@ -1,14 +1,26 @@
-//! Grids about counting the links of a card.
+//! Grids about counting the links of a card, and about alike cards.
 
 use super::{read, JudgeCase};
+use crate::generate::alike::fixed::sheets;
 use crate::generate::runs::small;
+use crate::sheet::Files;
 use crate::typing::links;
 
-/// The largest typing of each small sheet of runs, in every other one with a pair more, the last that it lacks.
-/// Nothing is booked, so the first are accepted and the others aren't.
+/// Grids of the small sheets of runs.
 pub fn runs() -> Vec<JudgeCase> {
+    largest(small())
+}
+
+/// Grids of the sheets with alike cards.
+pub fn alike() -> Vec<JudgeCase> {
+    largest(sheets())
+}
+
+/// The largest typing of each sheet, in every other one with a pair more, the last that it lacks. Nothing is booked, so
+/// the first are accepted and the others aren't.
+fn largest(sheets: Vec<(String, Files)>) -> Vec<JudgeCase> {
     let mut cases = Vec::new();
-    for (number, (name, mut files)) in small().into_iter().enumerate() {
+    for (number, (name, mut files)) in sheets.into_iter().enumerate() {
         files.bookings = vec![0];
         if let Ok((setting, _)) = read(&files) {
             let (_, mut grid) = links::largest(&setting);

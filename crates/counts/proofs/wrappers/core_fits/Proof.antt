@@ -1,20 +1,25 @@
 -- `wrappers::core_fits` meets its contract. Assumes nothing.
 use borrow.Author.Needs.{needs}
-use Rattle.counts.proofs.Evaluations.{inside-one}
-use Rattle.counts.proofs.Wrapping.{core-evaluates}
+use Rattle.counts.proofs.Wrapping.{core-fitted}
 use Rattle.counts.proofs.wrappers.core_fits.Statement.{statement}
 use Rattle.counts.proofs.wrappers.core_fits.Tie as tie
 
-wrap-all-requires : tie.Need-wrap-all-requires
-wrap-all-requires c κs = search needs
+sub-front-of : tie.Need-sub-front-of
+sub-front-of c = search needs
+
+front-of-requires : tie.Need-front-of-requires
+front-of-requires c κs = search needs
+
+wrap-span-requires : tie.Need-wrap-span-requires
+wrap-span-requires c κs = search needs
 
 has-one-requires : tie.Need-has-one-requires
 has-one-requires c κs = search needs
 
 returns : tie.Need-returns
-returns c w left core =
-    let wrap = c .before .before in
-    inside-one w _ _ _ _ (wrap .wrap-all .ensures w left (core-evaluates _ _ _ _ w _ core)) (c .has-one .ensures)
+returns c w left e =
+    core-fitted _ _ _ _ (c .before .before .before .before .pre) (c .before .before .front-of .ensures) _ _
+    (c .before .wrap-span .ensures .0) _ (c .has-one .ensures) w left e
 
 pub core-fits-spec : {M : Type 1} → statement M
-core-fits-spec = tie.close (tie.spec wrap-all-requires has-one-requires returns)
+core-fits-spec = tie.close (tie.spec sub-front-of front-of-requires wrap-span-requires has-one-requires returns)

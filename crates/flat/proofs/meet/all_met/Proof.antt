@@ -12,7 +12,7 @@ meet-span-requires c κs = search needs
 returns : tie.Need-returns
 returns c =
     let both = c .meet-span .ensures in
-    one-missing _ _ _ _ (both .0) (both .1) (omega arith)
+    one-missing _ _ _ _ (both .0) (omega arith)
 
 returns-2 : tie.Need-returns-2
 returns-2 c = all-found _ _ _ (omega arith)

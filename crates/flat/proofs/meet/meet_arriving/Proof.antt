@@ -92,7 +92,7 @@ loop-again c =
     let known = a .before .before .shared-slice-known4 in
     rw (c .must .ensures)
     (arrived-next (l .before .loop .inv) _ _ _ (l .loop-test .taken) refl
-    (omega (arith, known .given (l .before .loop .k))) (a .place-of .ensures .0) (a .place-of .ensures .1)
+    (a .place-of .ensures .0) (a .place-of .ensures .1)
     (c .before .meet-link .ensures))
 
 returns : tie.Need-returns Inv-loop μ-loop

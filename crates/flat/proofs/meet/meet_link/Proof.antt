@@ -43,7 +43,7 @@ unfolding linkAt
 returns-2 c =
     let one = c .before .link-span .ensures in
     let both = c .meet-span .ensures in
-    link-some _ _ _ _ _ _ (one .0) (one .1) (both .0) (both .1) (omega arith)
+    link-some _ _ _ _ _ _ (one .0) (both .0) (omega arith)
 
 pub meet-link-spec : {M : Type 1} → statement M
 meet-link-spec =

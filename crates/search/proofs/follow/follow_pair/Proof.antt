@@ -1,6 +1,6 @@
 -- `search::follow_pair` strikes what a pair needs: what the links from its card lead to, and what those to it lead back
 -- to. Assumes nothing.
-use mathlib.Core.Path.{_≡_, refl, _∙_}
+use mathlib.Core.Path.{_≡_, ap, _∙_}
 use Prim.Native.Nat.{ℕ, _<_, _≤_, _+_, _*_, _-_, _/_, _%_}
 use native.Mathlib.Omega.{arith}
 use lib.ListN.{length, getD, take, drop}
@@ -10,8 +10,11 @@ use Rattle.words.specs.Limits.{maxKinds, maxLabels}
 use Rattle.words.proofs.Places.{card-in, shape-in}
 use Rattle.bags.specs.Label.{outgoing, incoming}
 use Rattle.board.proofs.Worklist.{swept-grid, swept-room}
+use Rattle.typing.proofs.Boards.{pairs-bound}
 use Rattle.search.specs.Walks.{Leaving}
 use Rattle.search.specs.Follows.{LedGood}
+use Rattle.search.proofs.Cards.{card-low, shape-left}
+use Rattle.search.proofs.Walks.{arriving-same}
 use Rattle.search.proofs.Needs.{Half, half-row, row-asked, range-rising, range-in, arrivals-at}
 use Rattle.search.proofs.Following.{followed-out, followed-both}
 use Rattle.search.proofs.follow.follow_pair.Statement.{statement}
@@ -46,17 +49,33 @@ card-is s =
 shape-is : (s : tie.Start) → s .args .q % s .args .shapes < s .args .shapes
 shape-is s = shape-in (s .args .shapes) (s .pre .links .ready .one-shape) (s .args .q)
 
+-- the card that is given is its card, and what is left of the place its shape
+left-is : (s : tie.Start) → s .args .q - s .args .n * s .args .shapes ≡ s .args .q % s .args .shapes
+left-is s = shape-left (s .args .shapes) (s .args .q) (s .pre .links .ready .one-shape) (s .pre .card)
+
+given-room : (s : tie.Start) → s .args .n * s .args .shapes ≤ s .args .q
+given-room s = card-low (s .args .shapes) (s .args .q) (s .pre .links .ready .one-shape) (s .pre .card)
+
+given-in : (s : tie.Start) → s .args .n < getD (now (s .args .script)) 0 0
+given-in s = omega (arith, card-is s, s .pre .card)
+
+base-is : (s : tie.Start)
+    → (s .args .q - s .args .n * s .args .shapes) * maxLabels ≡ s .args .q % s .args .shapes * maxLabels
+base-is s = ap (λ (x : ℕ). x * maxLabels) (left-is s)
+
 row-in : (s : tie.Start) → s .args .q % s .args .shapes * maxLabels + maxLabels ≤ length (now (s .args .names))
 row-in s = omega (arith, shape-is s, s .pre .links .ready .table)
 
 -- where the card's links start and end
 low : (h : tie.After-wide2) → let s = High h in
     h .before .before .wide .result ≡ getD (now (s .args .starts)) (s .args .q / s .args .shapes) 0
-low h = h .before .before .wide .ensures .same
+low h = let s = High h in
+    h .before .before .wide .ensures .same ∙ ap (λ (x : ℕ). getD (now (s .args .starts)) x 0) (s .pre .card)
 
 high : (h : tie.After-wide2) → let s = High h in
     h .wide2 .result ≡ getD (now (s .args .starts)) (s .args .q / s .args .shapes + 1) 0
-high h = h .wide2 .ensures .same
+high h = let s = High h in
+    h .wide2 .ensures .same ∙ ap (λ (x : ℕ). getD (now (s .args .starts)) (x + 1) 0) (s .pre .card)
 
 -- the two halves of the row
 out-half : (s : tie.Start) (base : ℕ) → base ≡ s .args .q % s .args .shapes * maxLabels
@@ -75,7 +94,7 @@ back-half s base e =
 
 -- what the links from the card lead to is on the board
 out-in : (a : tie.After-follow-leaving) → let s = Found a in
-    let base = s .args .q % s .args .shapes * maxLabels in
+    let base = (s .args .q - s .args .n * s .args .shapes) * maxLabels in
     let row = take (base + maxKinds - base) (drop base (now (s .args .names))) in
     (p : ℕ) → Leaving (LedGood outgoing (now (s .args .script)) row (s .args .shapes))
     (Ends a .before .before .wide .result) (Ends a .wide2 .result) p → p < length (now (s .args .grid))
@@ -83,42 +102,46 @@ out-in a p g =
     let s = Found a in
     let h = Ends a in
     let links = s .pre .links in
-    row-asked (links .ready) (shape-is s) (out-half s _ refl) (s .pre .full) .led (g .link) p
+    row-asked (links .ready) (shape-is s) (out-half s _ (base-is s)) (s .pre .full) .led (g .link) p
     (omega (arith, g .high, range-in (links .leaving) (card-is s) (low h) (high h))) (g .good)
 
-div-n : tie.Need-div-n
-div-n c = search needs
-
-rem-base : tie.Need-rem-base
-rem-base c = search needs
-
 mul-base : tie.Need-mul-base
-mul-base c = omega (arith, row-in (Entered c), Entered c .pre .links .ready .few-shapes, shape-is (Entered c))
+mul-base c = let s = Entered c in omega (arith, given-room s, pair-is s, pairs-bound (s .pre .links .ready))
+
+sub-base : tie.Need-sub-base
+sub-base c = omega (arith, given-room (Entered c))
+
+mul-base-2 : tie.Need-mul-base-2
+mul-base-2 c =
+    let s = Entered c in
+    omega (arith, base-is s, s .pre .links .ready .few-shapes, shape-is s)
 
 add-half : tie.Need-add-half
-add-half c = omega (arith, Entered c .pre .links .ready .few-shapes, shape-is (Entered c))
+add-half c =
+    let s = Entered c in
+    omega (arith, base-is s, s .pre .links .ready .few-shapes, shape-is s)
 
 mul-wide : tie.Need-mul-wide
-mul-wide c = omega (arith, card-is (Entered c), Entered c .pre .links .ready .few-cards)
+mul-wide c = omega (arith, given-in (Entered c), Entered c .pre .links .ready .few-cards)
 
 shared-slice-read-wide : tie.Need-shared-slice-read-wide
 shared-slice-read-wide c =
     let s = Entered (c .before) in
-    omega (arith, card-is s, s .pre .links .leaving .cards)
+    omega (arith, given-in s, s .pre .links .leaving .cards)
 
 wide-requires : tie.Need-wide-requires
 wide-requires c κs = search needs
 
 add-wide : tie.Need-add-wide
-add-wide c = let s = Low c in omega (arith, card-is s, s .pre .links .ready .few-cards)
+add-wide c = let s = Low c in omega (arith, given-in s, s .pre .links .ready .few-cards)
 
 mul-wide-2 : tie.Need-mul-wide-2
-mul-wide-2 c = let s = Low c in omega (arith, card-is s, s .pre .links .ready .few-cards)
+mul-wide-2 c = let s = Low c in omega (arith, given-in s, s .pre .links .ready .few-cards)
 
 shared-slice-read-wide-2 : tie.Need-shared-slice-read-wide-2
 shared-slice-read-wide-2 c =
     let s = Low (c .before) in
-    omega (arith, card-is s, s .pre .links .leaving .cards)
+    omega (arith, given-in s, s .pre .links .leaving .cards)
 
 wide-requires-2 : tie.Need-wide-requires-2
 wide-requires-2 c κs = search needs
@@ -130,7 +153,7 @@ part-follow-leaving-start : tie.Need-part-follow-leaving-start
 part-follow-leaving-start c = search needs
 
 part-follow-leaving-end : tie.Need-part-follow-leaving-end
-part-follow-leaving-end c = omega (arith, row-in (High c))
+part-follow-leaving-end c = omega (arith, row-in (High c), base-is (High c))
 
 follow-leaving-requires : tie.Need-follow-leaving-requires
 follow-leaving-requires c κs =
@@ -138,7 +161,7 @@ follow-leaving-requires c κs =
     let s = High h in
     let links = s .pre .links in
     record {
-      row-in = row-asked (links .ready) (shape-is s) (out-half s _ refl) (s .pre .full);
+      row-in = row-asked (links .ready) (shape-is s) (out-half s _ (base-is s)) (s .pre .full);
       rising = range-rising (links .leaving) (card-is s) (low h) (high h);
       links-in = range-in (links .leaving) (card-is s) (low h) (high h);
       room = s .pre .room;
@@ -147,7 +170,7 @@ follow-leaving-requires c κs =
 add-row : tie.Need-add-row
 add-row c =
     let s = Found (c .before .before .before .before .before) in
-    omega (arith, s .pre .links .ready .few-shapes, shape-is s)
+    omega (arith, base-is s, s .pre .links .ready .few-shapes, shape-is s)
 
 sub-row : tie.Need-sub-row
 sub-row c = search needs
@@ -156,7 +179,9 @@ part-row-start : tie.Need-part-row-start
 part-row-start c = search needs
 
 part-row-end : tie.Need-part-row-end
-part-row-end c = omega (arith, row-in (Found (c .before .before .before .before .before)))
+part-row-end c =
+    let s = Found (c .before .before .before .before .before) in
+    omega (arith, base-is s, row-in s)
 
 follow-arriving-requires : tie.Need-follow-arriving-requires
 follow-arriving-requires c κs =
@@ -165,8 +190,8 @@ follow-arriving-requires c κs =
     let links = s .pre .links in
     let full = swept-grid (a .follow-leaving .ensures) ∙ s .pre .full in
     record {
-      row-in = row-asked (links .ready) (shape-is s) (back-half s _ refl) full;
-      arrivals = arrivals-at (links .arriving (c .before .before .before .if1 .taken)) (card-is s);
+      row-in = row-asked (links .ready) (shape-is s) (back-half s _ (ap (λ (x : ℕ). x + maxKinds) (base-is s))) full;
+      arrivals = arrivals-at (links .arriving (c .before .before .before .if1 .taken)) (given-in s);
       room = swept-room (a .follow-leaving .ensures) (out-in a) (s .pre .room);
     }
 
@@ -181,8 +206,9 @@ returns c =
     let a = c .before .before .before .before .before .before .before .before .before .before .before .before .before in
     let s = Found a in
     let h = Ends a in
-    followed-both (s .pre .links .ready) (s .pre .links .leaving) (pair-is s) (low h) (high h) (out-half s _ refl)
-    (back-half s _ refl) (a .follow-leaving .ensures) (c .before .before .before .before .follow-arriving .ensures)
+    followed-both (s .pre .links .ready) (s .pre .links .leaving) (pair-is s) (low h) (high h)
+    (out-half s _ (base-is s)) (back-half s _ (ap (λ (x : ℕ). x + maxKinds) (base-is s))) (a .follow-leaving .ensures)
+    (arriving-same (s .pre .card) (c .before .before .before .before .follow-arriving .ensures))
 
 same-length-3 : tie.Need-same-length-3
 same-length-3 c = search needs
@@ -195,16 +221,16 @@ returns-2 c =
     let a = c .before .before .before .before .before in
     let s = Found a in
     let h = Ends a in
-    followed-out (s .pre .links .ready) (s .pre .links .leaving) (pair-is s) (low h) (high h) (out-half s _ refl)
+    followed-out (s .pre .links .ready) (s .pre .links .leaving) (pair-is s) (low h) (high h) (out-half s _ (base-is s))
     (s .pre .links .ways (c .if1 .left)) (a .follow-leaving .ensures)
 
 pub follow-pair-spec : {M : Type 1} → statement M
 follow-pair-spec =
     tie.close
     (tie.spec
-    div-n
-    rem-base
     mul-base
+    sub-base
+    mul-base-2
     add-half
     mul-wide
     shared-slice-read-wide

@@ -1,6 +1,6 @@
 -- `search::strike_needing` strikes what needs a pair: by the links to its card, and by those from it. Assumes nothing.
-use mathlib.Core.Path.{_≡_, _∙_}
-use Prim.Native.Nat.{ℕ, _<_, _+_, _*_, _/_, _%_}
+use mathlib.Core.Path.{_≡_, ap, _∙_}
+use Prim.Native.Nat.{ℕ, _<_, _≤_, _+_, _-_, _*_, _/_, _%_}
 use native.Mathlib.Omega.{arith}
 use lib.ListN.{length, getD}
 use denote.Ref.{now}
@@ -8,10 +8,12 @@ use borrow.Author.Needs.{needs}
 use Rattle.words.proofs.Places.{card-in, shape-in}
 use Rattle.bags.specs.Label.{outgoing}
 use Rattle.board.proofs.Worklist.{swept-grid, swept-room}
+use Rattle.typing.proofs.Boards.{pairs-bound}
 use Rattle.search.specs.Walks.{Arriving}
 use Rattle.search.specs.Strikes.{NeedGood}
+use Rattle.search.proofs.Cards.{card-low, shape-left}
 use Rattle.search.proofs.Needs.{need-in-grid, range-rising, range-in, arrivals-at}
-use Rattle.search.proofs.Striking.{struck-both}
+use Rattle.search.proofs.Striking.{sources-same, targets-same, struck-both}
 use Rattle.search.proofs.strike.strike_needing.Statement.{statement}
 use Rattle.search.proofs.strike.strike_needing.Tie as tie
 
@@ -38,31 +40,48 @@ card-is s =
 shape-is : (s : tie.Start) → s .args .q % s .args .shapes < s .args .shapes
 shape-is s = shape-in (s .args .shapes) (s .pre .both .out .ready .one-shape) (s .args .q)
 
+-- the card that is given is its card, and what is left of the place its shape
+given-in : (s : tie.Start) → s .args .m < getD (now (s .args .script)) 0 0
+given-in s = omega (arith, card-is s, s .pre .card)
+
+given-room : (s : tie.Start) → s .args .m * s .args .shapes ≤ s .args .q
+given-room s = card-low (s .args .shapes) (s .args .q) (s .pre .both .out .ready .one-shape) (s .pre .card)
+
+left-is : (s : tie.Start) → s .args .q - s .args .m * s .args .shapes ≡ s .args .q % s .args .shapes
+left-is s = shape-left (s .args .shapes) (s .args .q) (s .pre .both .out .ready .one-shape) (s .pre .card)
+
 -- where the card's links start and end
 low : (h : tie.After-wide2) → let s = Found (Low (High h)) in
     High h .wide .result ≡ getD (now (s .args .starts)) (s .args .q / s .args .shapes) 0
-low h = High h .wide .ensures .same
+low h =
+    let s = Found (Low (High h)) in
+    High h .wide .ensures .same ∙ ap (λ (x : ℕ). getD (now (s .args .starts)) x 0) (s .pre .card)
 
 high : (h : tie.After-wide2) → let s = Found (Low (High h)) in
     h .wide2 .result ≡ getD (now (s .args .starts)) (s .args .q / s .args .shapes + 1) 0
-high h = h .wide2 .ensures .same
+high h =
+    let s = Found (Low (High h)) in
+    h .wide2 .ensures .same ∙ ap (λ (x : ℕ). getD (now (s .args .starts)) (x + 1) 0) (s .pre .card)
 
 -- what is struck by the links to the card is on the board
-sources-in : (s : tie.Start) (p : ℕ) → Arriving (now (s .args .script)) (s .args .q / s .args .shapes)
-    (NeedGood outgoing (now (s .args .script)) (now (s .args .names)) (s .args .shapes) (s .args .q % s .args .shapes))
-    p
+sources-in : (s : tie.Start) (p : ℕ) → Arriving (now (s .args .script)) (s .args .m)
+    (NeedGood outgoing (now (s .args .script)) (now (s .args .names)) (s .args .shapes)
+    (s .args .q - s .args .m * s .args .shapes)) p
     → p < length (now (s .args .grid))
 sources-in s p g = omega (
   arith,
-  need-in-grid (s .pre .both .out .ready) outgoing (s .args .q % s .args .shapes) (g .link) p (g .below) (g .good),
+  need-in-grid (s .pre .both .out .ready) outgoing (s .args .q - s .args .m * s .args .shapes) (g .link) p (g .below)
+      (g .good),
   s .pre .full,
 )
 
-div-m : tie.Need-div-m
-div-m c = search needs
+mul-u : tie.Need-mul-u
+mul-u c =
+    let s = Entered c in
+    omega (arith, given-room s, s .pre .on-board, s .pre .full, pairs-bound (s .pre .both .out .ready))
 
-rem-u : tie.Need-rem-u
-rem-u c = search needs
+sub-u : tie.Need-sub-u
+sub-u c = omega (arith, given-room (Entered c))
 
 strike-sources-requires : tie.Need-strike-sources-requires
 strike-sources-requires c κs =
@@ -71,36 +90,36 @@ strike-sources-requires c κs =
       need = record {
         ready = s .pre .both .out .ready;
         places = s .pre .both .out .places;
-        shape-in = shape-is s;
+        shape-in = omega (arith, left-is s, shape-is s);
         full = s .pre .full;
         room = s .pre .room;
       };
-      arrivals = arrivals-at (s .pre .both .out .arriving) (card-is s);
+      arrivals = arrivals-at (s .pre .both .out .arriving) (given-in s);
     }
 
 mul-wide : tie.Need-mul-wide
 mul-wide c =
     let s = Found (c .before .before .before .before) in
-    omega (arith, card-is s, s .pre .both .out .ready .few-cards)
+    omega (arith, given-in s, s .pre .both .out .ready .few-cards)
 
 shared-slice-read-wide : tie.Need-shared-slice-read-wide
 shared-slice-read-wide c =
     let s = Found (c .before .before .before .before .before) in
-    omega (arith, card-is s, s .pre .both .leaving .cards)
+    omega (arith, given-in s, s .pre .both .leaving .cards)
 
 wide-requires : tie.Need-wide-requires
 wide-requires c κs = search needs
 
 add-wide : tie.Need-add-wide
-add-wide c = let s = Found (Low c) in omega (arith, card-is s, s .pre .both .out .ready .few-cards)
+add-wide c = let s = Found (Low c) in omega (arith, given-in s, s .pre .both .out .ready .few-cards)
 
 mul-wide-2 : tie.Need-mul-wide-2
-mul-wide-2 c = let s = Found (Low c) in omega (arith, card-is s, s .pre .both .out .ready .few-cards)
+mul-wide-2 c = let s = Found (Low c) in omega (arith, given-in s, s .pre .both .out .ready .few-cards)
 
 shared-slice-read-wide-2 : tie.Need-shared-slice-read-wide-2
 shared-slice-read-wide-2 c =
     let s = Found (Low (c .before)) in
-    omega (arith, card-is s, s .pre .both .leaving .cards)
+    omega (arith, given-in s, s .pre .both .leaving .cards)
 
 wide-requires-2 : tie.Need-wide-requires-2
 wide-requires-2 c κs = search needs
@@ -116,7 +135,7 @@ strike-targets-requires c κs =
       need = record {
         ready = both .out .ready;
         places = both .inward-places;
-        shape-in = shape-is s;
+        shape-in = omega (arith, left-is s, shape-is s);
         full = swept-grid struck ∙ s .pre .full;
         room = swept-room struck (sources-in s) (s .pre .room);
       };
@@ -136,15 +155,18 @@ returns c =
     let h = b .before .before .before in
     let a = Low (High h) in
     let s = Found a in
-    struck-both (s .pre .both .out .ready) (s .args .q) (s .pre .both .leaving) (card-is s) (low h) (high h)
-    (a .strike-sources .ensures) (b .strike-targets .ensures)
+    let ready = s .pre .both .out .ready in
+    let st = s .pre .both .leaving in
+    struck-both ready (s .args .q) st (card-is s) (low h) (high h)
+    (sources-same ready (s .args .q) (s .pre .card) (left-is s) (a .strike-sources .ensures))
+    (targets-same ready (s .args .q) st (card-is s) (low h) (high h) (left-is s) (b .strike-targets .ensures))
 
 pub strike-needing-spec : {M : Type 1} → statement M
 strike-needing-spec =
     tie.close
     (tie.spec
-    div-m
-    rem-u
+    mul-u
+    sub-u
     strike-sources-requires
     mul-wide
     shared-slice-read-wide
