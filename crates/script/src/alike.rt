@@ -18,7 +18,7 @@ fn mark_of(links: &[u16]) -> usize
     let mut mark = 0;
     let mut next = 1;
     while next < links.len() {
-        mark = (mark * 31 + wide(links[next]) + 1) % MARKS;
+        mark = (mark * 133 + wide(links[next]) + 1) % MARKS;
         next += 3;
     }
     mark

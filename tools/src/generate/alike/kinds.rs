@@ -12,7 +12,7 @@ const MARKS: usize = 1024;
 /// A number for some kinds, so that most cards that aren't alike can be told apart at once. Alike cards have the same
 /// mark, and so do a few others.
 pub fn mark(kinds: &[u16]) -> usize {
-    let next = |mark, kind: &u16| (mark * 31 + usize::from(*kind) + 1) % MARKS;
+    let next = |mark, kind: &u16| (mark * 133 + usize::from(*kind) + 1) % MARKS;
     kinds.iter().fold(0, next)
 }
 
