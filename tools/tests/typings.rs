@@ -411,9 +411,9 @@ fn wrappers(part: &Part) -> Option<usize> {
 }
 
 #[test]
-fn the_wrapped_sheet_is_at_every_limit() {
+fn the_wrapped_sheet_is_at_every_limit_but_that_of_words() {
     let files = wrapped();
-    assert_eq!((files.template.len(), files.bookings.len()), (4096, 2049));
+    assert_eq!((files.template.len(), files.bookings.len()), (3682, 2049));
     assert_eq!(
         (&files.template[..2], &files.script[..2]),
         (&[64, 32][..], &[1024, 8192][..])
@@ -424,7 +424,7 @@ fn the_wrapped_sheet_is_at_every_limit() {
         let Part::All(parts) = part else {
             panic!("{part:?} is no all")
         };
-        assert!(parts[..8].iter().all(|part| wrappers(part) == Some(10)));
+        assert!(parts.iter().all(|part| wrappers(part) == Some(10)));
     }
     let kinds = |card| {
         let links = setting.script.links.iter().filter(|link| link.from == card);

@@ -3,8 +3,9 @@
 -- Repetitions, Exact: a part's interval, and Fits by it. Looking: what a shape looks at. Opening: open and closed
 -- shapes. Decide: the test for Fits. Samples: P1 to P12, and an open shape.
 -- Choosing: Met by counts.
--- Spans: the same operations on two numbers. Flatness: the interval of a flat part, by its links. Adequate: the
--- definitions are those of sections 2.1 and 3.2 of the paper.
+-- Spans: the same operations on two numbers. Flatness: the interval of a flat part, by its links. Joining: joining
+-- intervals, and wrappers around them. Zeros: where all labels count 0. Adequate: the definitions are those of sections
+-- 2.1 and 3.2 of the paper.
 pub mod Powers
 pub mod Copies
 pub mod Totals

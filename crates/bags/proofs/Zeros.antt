@@ -3,7 +3,6 @@
 --   inside-meet, inside-add   whether 0 lies in what both make
 --   link-zero, zero-in        what lies in a link's interval where its label counts 0; 0 lies in it only then
 --   all-zero-test  the labels of a part all count 0 exactly where 0 lies in its interval
---   zero-span      whether 0 lies in a span's interval, by its lo
 -- Assumes nothing.
 use Prim.Native.Nat.{ℕ, zero, suc, _*_, _≤_}
 use mathlib.Core.Path.{_≡_, refl, _∙_, ap₂}
