@@ -22,7 +22,7 @@ use Rattle.template.specs.Machine.{Tabled}
 use Rattle.script.specs.Link.{toAt, below}
 use Rattle.script.specs.Script.{ScriptCounts, countsOf}
 use Rattle.script.specs.Steps.{Ascending, LinksAmong}
-use Rattle.script.specs.Chain.{Chained}
+use Rattle.words.specs.Chain.{Chained}
 use Rattle.script.specs.Index.{StartsOf, ArrivalsOf, ChainAsked}
 use Rattle.sheet.specs.Sheet.{Sheet, sheetOf, readSheet}
 use Rattle.sheet.specs.Opened.{templateAs, Known}

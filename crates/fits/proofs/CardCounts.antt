@@ -29,7 +29,7 @@ use Rattle.template.specs.Template.{openAt, partAt, shapePlace, opens, readTemp
 use Rattle.template.proofs.Accepted.{template-accepted}
 use Rattle.script.specs.Link.{toAt, neighbours, below}
 use Rattle.script.specs.Script.{countsOf}
-use Rattle.script.specs.Chain.{Chained}
+use Rattle.words.specs.Chain.{Chained}
 use Rattle.script.specs.Index.{StartsOf, ArrivingAsked}
 use Rattle.script.specs.Counts.{wayCount}
 use Rattle.script.specs.Runs.{amount, KindsRise}

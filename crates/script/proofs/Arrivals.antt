@@ -16,10 +16,10 @@ use lib.Seq.{getD-set-same, getD-set-other}
 use Rattle.words.proofs.Bools.{eq-or-ne}
 use Rattle.bags.specs.Label.{incoming}
 use Rattle.script.specs.Link.{kindAt, toAt}
-use Rattle.script.specs.Chain.{lastAt}
+use Rattle.words.specs.Chain.{lastAt}
 use Rattle.script.specs.Index.{Arriving}
 use Rattle.script.specs.Counts.{wayCount}
-use Rattle.script.proofs.Chains.{last-le, last-is, last-here, last-other}
+use Rattle.words.proofs.Chains.{last-le, last-is, last-here, last-other}
 use Rattle.script.proofs.Counts.{way-count-same, way-count-kind, way-count-past, way-count-bound}
 
 -- No link from the last one below m that leads to the card up to m does.

@@ -12,7 +12,7 @@ use lib.ListN.{length, getD}
 use Rattle.bags.specs.Label.{incoming}
 use Rattle.script.specs.Link.{kindAt, toAt, below}
 use Rattle.script.specs.Steps.{Within, Ascending}
-use Rattle.script.specs.Chain.{lastAt, Chained, Blank}
+use Rattle.words.specs.Chain.{lastAt, Chained, Blank}
 use Rattle.script.specs.Counts.{wayCount}
 
 -- Where each card's links start.

@@ -1,9 +1,8 @@
 // Where the links of a card stand, each index built in one pass: those from it have a start, those to it a chain.
-ghost use Prim.Native.Nat.{_≤_};
 ghost use mathlib.Core.Path.{_≡_};
 ghost use lib.ListN.{length};
 ghost use Rattle.script.specs.Link.{toAt, below};
-ghost use Rattle.script.specs.Chain.{Chained};
+ghost use Rattle.words.specs.Chain.{Chained};
 ghost use Rattle.script.specs.Index.{StartsOf, StartsAsked, SkipAsked, ChainAsked};
 use words::wide;
 

@@ -18,7 +18,7 @@ use Rattle.words.specs.Sizes.{maxGrid}
 use Rattle.words.proofs.Places.{card-in, card-of, place-of, place-from}
 use Rattle.script.specs.Link.{toAt}
 use Rattle.script.specs.Index.{ArrivalsOf}
-use Rattle.script.proofs.Chains.{last-le}
+use Rattle.words.proofs.Chains.{last-le}
 use Rattle.typing.specs.Needs.{Ready}
 use Rattle.typing.proofs.Boards.{pairs-bound}
 use Rattle.search.specs.Walks.{Starts}

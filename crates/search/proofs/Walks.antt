@@ -22,8 +22,8 @@ use native.Mathlib.Nat.{eq-or-lt-of-le}
 use native.Mathlib.Omega.{arith}
 use lib.ListN.{length, getD}
 use Rattle.script.specs.Link.{toAt}
-use Rattle.script.specs.Chain.{lastAt}
-use Rattle.script.proofs.Chains.{last-le, last-is, last-none}
+use Rattle.words.specs.Chain.{lastAt}
+use Rattle.words.proofs.Chains.{last-le, last-is, last-none}
 use Rattle.board.specs.Grid.{on}
 use Rattle.board.specs.Work.{Work, strikeOne, stay, then, Swept}
 use Rattle.words.proofs.Bools.{le-or-lt}

@@ -15,7 +15,7 @@ use lib.ListN.{length, getD}
 use lib.Dec.{eqb}
 use Rattle.words.specs.Limits.{maxKinds, maxLabels, maxShapes}
 use Rattle.template.specs.Machine.{entryAt}
-use Rattle.script.specs.Chain.{Chained, Blank}
+use Rattle.words.specs.Chain.{Chained, Blank}
 
 abbrev pub halfEntry : List ℕ → ℕ → ℕ → ℕ
 halfEntry names start p = entryAt names (p / maxKinds) (start + p % maxKinds)

@@ -1,10 +1,11 @@
 -- Said: what an operation says. Reading: what reading words finds. Limits: of the format.
 -- No part of a promise: Sizes, the room that the greatest sheet takes; Bounded, a number that is below a limit;
--- First, the first number with a fault; Wrote, what writing into a buffer does.
+-- First, the first number with a fault; Chain, numbers chained by a key; Wrote, what writing into a buffer does.
 pub mod Said
 pub mod Reading
 pub mod Limits
 pub mod Sizes
 pub mod Bounded
 pub mod First
+pub mod Chain
 pub mod Wrote

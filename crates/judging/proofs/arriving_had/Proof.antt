@@ -11,7 +11,7 @@ use borrow.Author.Tests.{not-true, not-false}
 use Rattle.words.proofs.Bools.{false-true, never-both}
 use Rattle.bags.specs.Label.{incoming}
 use Rattle.script.specs.Link.{fromAt, kindAt, toAt}
-use Rattle.script.specs.Chain.{lastAt}
+use Rattle.words.specs.Chain.{lastAt}
 use Rattle.board.specs.Grid.{on}
 use Rattle.search.specs.Walks.{HasAll}
 use Rattle.search.specs.Follows.{EntryGood, LedGood}

@@ -7,7 +7,7 @@ use lib.ListN.{length, length-set}
 use denote.Ref.{now}
 use borrow.Author.Needs.{needs}
 use Rattle.script.specs.Link.{kindAt, toAt}
-use Rattle.script.specs.Chain.{lastAt}
+use Rattle.words.specs.Chain.{lastAt}
 use Rattle.script.specs.Index.{Arriving}
 use Rattle.script.proofs.Arrivals.{arriving-start, arriving-less, arriving-next, arriving-done, arriving-small}
 use Rattle.script.proofs.count.count_arriving.Statement.{statement}

@@ -5,9 +5,9 @@ use mathlib.Core.Path.{_≡_, refl}
 use native.Mathlib.Omega.{arith}
 use lib.ListN.{length, length-set}
 use borrow.Author.Needs.{needs}
-use Rattle.script.specs.Chain.{Chained}
+use Rattle.words.specs.Chain.{Chained}
 use Rattle.script.specs.Link.{toAt}
-use Rattle.script.proofs.Chains.{chained-none, chained-more}
+use Rattle.words.proofs.Chains.{chained-none, chained-more}
 use Rattle.script.proofs.index.chain.Tie as tie
 use Rattle.script.proofs.index.chain.Statement.{statement}
 

@@ -11,8 +11,8 @@ use denote.Ref.{now}
 use borrow.Author.Needs.{needs}
 use Rattle.words.specs.Limits.{maxKinds, maxLabels, maxShapes}
 use Rattle.words.proofs.Places.{shape-in}
-use Rattle.script.specs.Chain.{Chained}
-use Rattle.script.proofs.Chains.{chained-none, chained-more, chained-skip}
+use Rattle.words.specs.Chain.{Chained}
+use Rattle.words.proofs.Chains.{chained-none, chained-more, chained-skip}
 use Rattle.search.specs.Indexes.{entryKey, halfEntry}
 use Rattle.search.proofs.Names.{half-place, half-in, half-bound, key-none, key-of, key-own}
 use Rattle.search.proofs.index.index_names.Statement.{statement}

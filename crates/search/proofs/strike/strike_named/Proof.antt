@@ -6,7 +6,7 @@ use lib.ListN.{length}
 use denote.Ref.{now}
 use borrow.Author.Needs.{needs}
 use Rattle.words.specs.Limits.{maxKinds, maxShapes}
-use Rattle.script.specs.Chain.{lastAt}
+use Rattle.words.specs.Chain.{lastAt}
 use Rattle.board.specs.Work.{Work, work, Swept}
 use Rattle.board.proofs.Worklist.{swept-grid, swept-queue, swept-room}
 use Rattle.search.specs.Indexes.{entryKey}

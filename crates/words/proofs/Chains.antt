@@ -1,6 +1,7 @@
--- Chains of numbers by a key: of the links, by the cards that they lead to.
+-- Chains of numbers by a key.
 -- last-here, last-other, last-le, last-is, last-none   the last number below another with a key
 -- last-zero                                            no number below another has a key
+-- last-same, chained-same                              keys that agree on the numbers below another
 -- chained-none, chained-more, chained-skip             the chains of no numbers, of one more, and of one with no head
 -- Assumes nothing.
 use Prim.Native.Nat.{ℕ, zero, suc, _+_, _≤_, _<_}
@@ -13,8 +14,8 @@ use native.Mathlib.Numerals.{add-one}
 use lib.ListN.{length, getD, set, length-set}
 use lib.Seq.{getD-set-same, getD-set-other}
 use borrow.Author.Tests.{eq-eqb, ne-eqb}
-use Rattle.script.specs.Chain.{lastAt, Chained}
+use Rattle.words.specs.Chain.{lastAt, Chained}
 use Rattle.words.proofs.Bools.{eq-or-ne}
 
 pub last-here : (key : ℕ → ℕ) (m k : ℕ) → key k ≡ m → lastAt key m (suc k) ≡ suc k
 unfolding lastAt
@@ -62,6 +63,20 @@ unfolding lastAt
 last-zero key m zero h = refl
 last-zero key m (suc k) h =
     last-other key m k (h k (omega arith)) ∙ last-zero key m k (λ i l. h i (omega arith))
+
+pub last-same : (key other : ℕ → ℕ) (m k : ℕ) → ((i : ℕ) → i < k → key i ≡ other i) → lastAt key m k ≡ lastAt other m k
+unfolding lastAt
+last-same key other m zero same = refl
+last-same key other m (suc k) same =
+    rw (same k (omega arith), last-same key other m k (λ i l. same i (omega arith))) refl
+
+pub chained-same : (key other : ℕ → ℕ) (first next : List ℕ) (k : ℕ) → ((i : ℕ) → i < k → key i ≡ other i)
+    → Chained key first next k → Chained other first next k
+chained-same key other first next k same s = record {
+  heads = λ m l. s .heads m l ∙ last-same key other m k same;
+  nexts = λ i l. s .nexts i l ∙ last-same key other (key i) i (λ j h. same j (omega arith))
+      ∙ ap (λ (m : ℕ). lastAt other m i) (same i l);
+}
 
 pub chained-none : (key : ℕ → ℕ) (first next : List ℕ) → ((m : ℕ) → m < length first → getD first m 0 ≡ 0)
     → Chained key first next 0

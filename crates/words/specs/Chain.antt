@@ -1,5 +1,5 @@
--- Chains of numbers by a key, built in one pass with no sorting: the links that lead to each card are one; no part of a
--- promise.
+-- Chains of numbers by a key, built in one pass with no sorting: of links by the cards that they lead to, of bookings
+-- by their cards; no part of a promise.
 -- lastAt    one more than the last number below k with a key, or 0
 -- Blank     what a chain is built in
 -- Chained   `first` has that for each key over all numbers, and `next` for each number's key over the numbers below it
