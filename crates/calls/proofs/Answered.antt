@@ -3,20 +3,25 @@
 --   smallest-refused, smallest-size, smallest-done          of the call for the smallest
 --   both-refused, both-small, both-large, both-done         of the call for both
 --   judge-refused, judge-size, judge-done                   of the call that judges a grid
+--   tidy-refused, tidy-size, tidy-done                      of the call that tidies bookings
 -- Assumes nothing.
 use Prim.Native.Nat.{ℕ}
-use mathlib.Core.Path.{_≡_, refl}
-use mathlib.Core.List.{List, [], _∷_}
-use lib.ListN.{length}
+use mathlib.Core.Path.{_≡_, refl, ap, _∙_}
+use mathlib.Core.List.{List, [], _∷_, _++_}
+use native.Mathlib.Omega.{arith}
+use lib.ListN.{length, drop}
 use borrow.Author.Tests.{eq-eqb, ne-eqb}
-use Rattle.words.specs.Said.{Said, refusal}
+use Rattle.words.specs.Said.{Said, values, refusal}
 use Rattle.words.specs.Reading.{accepted, turnedDown, then}
+use Rattle.words.specs.Wrote.{Wrote}
 use Rattle.sheet.specs.Sheet.{Sheet, size, readSheet}
 use Rattle.bookings.specs.Bookings.{Booked}
+use Rattle.bookings.specs.Tidied.{tidied}
 use Rattle.typing.specs.Answer.{BothSaid}
-use Rattle.typing.specs.Calls.{withBookings, LargestFound, LargestSays, SmallestFound, SmallestSays, BothFound, Grids}
-use Rattle.typing.specs.Calls.{BothSays}
+use Rattle.typing.specs.Calls.{withBookings, withStored, LargestFound, LargestSays, SmallestFound, SmallestSays}
+use Rattle.typing.specs.Calls.{BothFound, Grids, BothSays}
 use Rattle.typing.specs.Judge.{JudgeFound, JudgeSays}
+use Rattle.typing.specs.Tidy.{TidySays}
 
 -- One refusal for both calls.
 abbrev twice : ℕ → ℕ → BothSaid
@@ -83,3 +88,24 @@ module _ (template script : List ℕ) where
       pub judge-done : (grid : List ℕ) (said : Said) → length grid ≡ size s → JudgeFound s bookings grid said
           → JudgeSays template script bookings grid said
       judge-done grid said e found = rw (h, eq-eqb (length grid) (size s) e) found
+
+    pub tidy-refused : (out : List ℕ) (number place : ℕ)
+        → then (readSheet template script) (withStored bookings) ≡ turnedDown number place
+        → TidySays template script bookings out out (refusal number (place ∷ []))
+    tidy-refused out number place h = rw h (refl, refl)
+
+    module _ (s : Sheet) (h : then (readSheet template script) (withStored bookings) ≡ accepted s) where
+      pub tidy-size : (out : List ℕ) → (length out ≡ length bookings → ⊥)
+          → TidySays template script bookings out out (refusal 40 (0 ∷ []))
+      tidy-size out ne = rw (h, ne-eqb (length out) (length bookings) ne) (refl, refl)
+
+      pub tidy-done : (before after : List ℕ) (words : ℕ) → length before ≡ length bookings
+          → Wrote before 0 (tidied bookings) after words
+          → TidySays template script bookings before after (values (words ∷ []))
+      tidy-done before after words e w =
+          let long : words ≡ length (tidied bookings) = omega (arith, w .moved) in
+          rw (h, eq-eqb (length before) (length bookings) e)
+          (record {
+            says = ap (λ (n : ℕ). values (n ∷ [])) long;
+            writes = w .holds ∙ ap (λ (n : ℕ). tidied bookings ++ drop n before) long;
+          })

@@ -1,10 +1,10 @@
 -- What follows from the bookings is the smallest typing, or 50.
---   listed-room, listed-in        a booking list that is read has its bookings, each in the sheet
 --   met-found, unmet-found        the answer where each pair that follows fits, and where one does not
 --   both-of-found                 the two answers together are that of the call for both
 -- Assumes nothing.
-use Prim.Native.Nat.{ℕ, _+_, _*_, _≤_, _<_}
+use Prim.Native.Nat.{ℕ, _+_, _*_, _<_}
 use mathlib.Core.Path.{_≡_, refl, sym, ap, ap₂, _∙_, subst}
+use mathlib.Core.Bool.{true}
 use mathlib.Core.List.{List, [], _∷_}
 use native.Mathlib.Omega.{arith}
 use lib.ListN.{length, replicate}
@@ -19,7 +19,7 @@ use Rattle.board.proofs.Closure.{flooded-books}
 use Rattle.sheet.specs.Sheet.{Sheet, size}
 use Rattle.sheet.specs.declared.Extent.{Extent}
 use Rattle.bookings.specs.Bookings.{readBookings, cardAt, shapeAt, Booked}
-use Rattle.bookings.proofs.Accepted.{bookings-in, bookings-count, bookings-size}
+use Rattle.bookings.proofs.Accepted.{bookings-in, bookings-count}
 use Rattle.typing.specs.Needs.{boardOf}
 use Rattle.typing.specs.Answer.{BothSaid}
 use Rattle.typing.specs.Calls.{LargestFound, SmallestFound, BothFound}
@@ -32,25 +32,6 @@ use Rattle.calls.specs.Steps.{SheetTested}
 use Rattle.calls.proofs.Known.{read}
 use Rattle.calls.proofs.Tested.{cards-same, shapes-same, stands}
 
-module _ (cards shapes : ℕ) (bookings : List ℕ) {count : ℕ}
-    (list : readBookings cards shapes bookings ≡ accepted count) where
-  pub listed-room : 1 + 2 * count ≤ length bookings
-  listed-room =
-      omega (
-        arith,
-        bookings-count cards shapes bookings count list,
-        bookings-size cards shapes bookings count list,
-      )
-
-  pub listed-in : (i : ℕ) → i < count → (cardAt bookings i < cards) × (shapeAt bookings i < shapes)
-  listed-in i l = bookings-in cards shapes bookings count list (cardAt bookings i) (shapeAt bookings i)
-      (record {
-        booking = i;
-        listed = omega (arith, bookings-count cards shapes bookings count list);
-        card = refl;
-        shape = refl;
-      })
-
 module _ {s : Sheet} {script names : List ℕ} {e : Extent} {grid : List ℕ} (t : SheetTested s script names e grid)
     (bookings : List ℕ) {count : ℕ}
     (list : readBookings (e .cards) (e .shapes) bookings ≡ accepted count) where
@@ -58,7 +39,7 @@ module _ {s : Sheet} {script names : List ℕ} {e : Extent} {grid : List ℕ} (t
   listed = rw (cards-same t, shapes-same t) list
 
   booked-in : BookedIn s (Booked bookings)
-  booked-in n u b = bookings-in (s .cards) (s .shapes) bookings count listed n u b
+  booked-in n u b = bookings-in true (s .cards) (s .shapes) bookings count listed n u b
 
   -- the places of the bookings
   booked-place : (p : ℕ) → BookedAt bookings (e .shapes) count p → PlaceOf s (Booked bookings) p
@@ -67,7 +48,7 @@ module _ {s : Sheet} {script names : List ℕ} {e : Extent} {grid : List ℕ} (t
     shape = shapeAt bookings (b .booking);
     pair = record {
       booking = b .booking;
-      listed = omega (arith, b .listed, bookings-count (e .cards) (e .shapes) bookings count list);
+      listed = omega (arith, b .listed, bookings-count true (e .cards) (e .shapes) bookings count list);
       card = refl;
       shape = refl;
     };
@@ -77,7 +58,7 @@ module _ {s : Sheet} {script names : List ℕ} {e : Extent} {grid : List ℕ} (t
   place-booked : (p : ℕ) → PlaceOf s (Booked bookings) p → BookedAt bookings (e .shapes) count p
   place-booked p b = record {
     booking = b .pair .booking;
-    listed = omega (arith, b .pair .listed, bookings-count (e .cards) (e .shapes) bookings count list);
+    listed = omega (arith, b .pair .listed, bookings-count true (e .cards) (e .shapes) bookings count list);
     at =
         rw (shapes-same t) at (b .at)
         ∙ sym (ap₂ (λ (n u : ℕ). n * e .shapes + u) (b .pair .card) (b .pair .shape));

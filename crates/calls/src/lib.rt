@@ -2,6 +2,8 @@
 // A call reads what it is lent, and takes a few steps on the sheet that is read: test the pairs, strike rounds, settle
 // the bookings.
 //   verdict   the call that judges a grid
+//   tidying   the call that tidies bookings
+mod tidying;
 mod verdict;
 
 ghost use mathlib.Core.Path.{_≡_};
@@ -33,6 +35,7 @@ use sheet::Extent;
 use sheet::SheetRead;
 use sheet::read_sheet;
 use template::Shape;
+pub use tidying::tidy_bookings;
 use typing::BothAnswer;
 use typing::LargestAnswer;
 use typing::SmallestAnswer;

@@ -12,6 +12,7 @@ use crate::grid_size;
 use crate::read_booked;
 use crate::test_pairs;
 use board::first_over;
+use bookings::card_index;
 use judging::first_unheld;
 use judging::first_unmet;
 use script::Card;
@@ -60,7 +61,7 @@ fn judge_tested(
     }
     let i = first_unheld(bookings, count, shapes, grid);
     if i < count as usize {
-        return JudgeAnswer::Refused(63, 1 + 2 * i);
+        return JudgeAnswer::Refused(63, card_index(i));
     }
     JudgeAnswer::Accepted
 }

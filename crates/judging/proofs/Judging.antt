@@ -5,7 +5,7 @@
 --   booked-in-grid         the place that is read for a booking is in the grid
 --   missing-here, held-here       the grid has not a booking's pair; it has it
 -- Assumes nothing.
-use mathlib.Core.Path.{_≡_, sym, _∙_}
+use mathlib.Core.Path.{_≡_}
 use mathlib.Core.Logic.{_↔_}
 use mathlib.Core.List.{List}
 use mathlib.Core.Bool.{Bool, true, false}
@@ -20,7 +20,6 @@ use Rattle.typing.specs.Needs.{metTest, Needs, Ready}
 use Rattle.typing.proofs.Boards.{board-lawful}
 use Rattle.search.specs.Walks.{HasAll}
 use Rattle.judging.specs.Judging.{MetAsked, HeldAsked, Missing}
-use Rattle.search.proofs.Marks.{card-word, shape-word}
 
 -- ---- a pair
 module _ {script starts first next names : List ℕ} {shapes : ℕ} {inc : Bool} {fitting grid : List ℕ} {p : ℕ}
@@ -54,15 +53,8 @@ module _ {script starts first next names : List ℕ} {shapes : ℕ} {inc : Bool}
 
 -- ---- the card and the shape that are read for booking i
 module _ {bookings : List ℕ} {count shapes : ℕ} {grid : List ℕ} (asked : HeldAsked bookings count shapes grid)
-    {i card shape : ℕ} (below : i < count) (card-read : card ≡ getD bookings (1 + 2 * i) 0)
-    (shape-read : shape ≡ getD bookings (2 + 2 * i) 0) where
-  -- they are the booking's
-  card-is : card ≡ cardAt bookings i
-  card-is = card-read ∙ sym (card-word bookings i)
-
-  shape-is : shape ≡ shapeAt bookings i
-  shape-is = shape-read ∙ sym (shape-word bookings i)
-
+    {i card shape : ℕ} (below : i < count) (card-is : card ≡ cardAt bookings i)
+    (shape-is : shape ≡ shapeAt bookings i) where
   -- its pair has a place in the grid
   pub booked-in-grid : card * shapes + shape < length grid
   booked-in-grid =

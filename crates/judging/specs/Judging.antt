@@ -13,6 +13,7 @@ use Rattle.bags.specs.Label.{outgoing, incoming}
 use Rattle.script.specs.Index.{ArrivalsOf}
 use Rattle.board.specs.Grid.{on}
 use Rattle.bookings.specs.Bookings.{cardAt, shapeAt}
+use Rattle.bookings.specs.Steps.{Sized}
 use Rattle.typing.specs.Needs.{metTest}
 use Rattle.search.specs.Walks.{LinksReady}
 use Rattle.search.specs.Follows.{RowAsked}
@@ -50,7 +51,7 @@ Failing script names shapes fits grid p =
 -- What looking for the bookings in a grid asks.
 pub record HeldAsked (bookings : List ℕ) (count shapes : ℕ) (grid : List ℕ) : Type 0 where
   pub cards : ℕ
-  pub words : 1 + 2 * count ≤ length bookings
+  pub sized : Sized bookings count
   pub full : length grid ≡ cards * shapes
   pub booked-in : BookingsIn bookings cards shapes count
 

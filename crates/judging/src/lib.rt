@@ -12,6 +12,8 @@ ghost use Rattle.search.specs.Walks.{Leaving, Arriving, HasAll};
 ghost use Rattle.search.specs.Follows.{EntryGood, LedGood};
 ghost use Rattle.judging.specs.Judging.{LeavingTested, ArrivingTested, GridAsked, MetAsked, Failing};
 ghost use Rattle.judging.specs.Judging.{HeldAsked, Missing};
+use bookings::card_at;
+use bookings::shape_at;
 use words::MAX_KINDS;
 use words::MAX_LABELS;
 use words::byte;
@@ -159,8 +161,8 @@ pub fn first_unheld(bookings: &[u16], count: u16, shapes: usize, grid: &[u8]) ->
     let pairs = wide(count);
     let mut i = 0;
     while i < pairs {
-        let card = wide(bookings[1 + 2 * i]);
-        let shape = wide(bookings[2 + 2 * i]);
+        let card = wide(card_at(bookings, i));
+        let shape = wide(shape_at(bookings, i));
         if grid[card * shapes + shape] != 1 {
             return i;
         }

@@ -4,6 +4,7 @@
 --   written-unique         one buffer and one number of bytes
 -- Assumes nothing.
 use mathlib.Core.Path.{_≡_, refl, sym, ap, ap₂, _∙_}
+use mathlib.Core.Bool.{true}
 use mathlib.Core.List.{List, [], _∷_, _++_}
 use Prim.Native.Nat.{ℕ}
 use lib.ListN.{length, drop, take-append-drop}
@@ -53,7 +54,7 @@ module _ (template script bookings : List ℕ) {a b : List ℕ} where
       → PrintsSheet r bookings a → PrintsSheet r bookings b → a ≡ b
   sheet-unique (turnedDown number place) e x y = x ∙ sym y
   sheet-unique (accepted s) e x y =
-      let (asked, inside) = bookings-asked bookings (readSheet template script) s e in
+      let (asked, inside) = bookings-asked true bookings (readSheet template script) s e in
       sheet-printed-unique (λ q same. represented template script q (asked ∙ same)) inside x y
 
 input-unique : {a b : List ℕ} (r : Reading Input) → PrintsInput r a → PrintsInput r b → a ≡ b

@@ -1,11 +1,10 @@
 -- The pairs of the bookings, turned off one after another.
---   card-word, shape-word   the words of a booking
 --   filled         every byte of a grid that is filled
 --   booked-in      a booked pair has a place in the grid
 --   marked-none    no booking: every pair is on
 --   marked-more    one booking more
 -- Assumes nothing.
-use mathlib.Core.Path.{_≡_, refl, sym, ap, _∙_, subst}
+use mathlib.Core.Path.{_≡_, sym, ap, _∙_, subst}
 use mathlib.Core.Logic.{⊎-elim}
 use mathlib.Core.List.{List}
 use mathlib.Core.Bool.{false}
@@ -20,14 +19,6 @@ use Rattle.board.proofs.Grids.{on-yes, on-set-same, on-set-other}
 use Rattle.words.proofs.Places.{place-in}
 use Rattle.bookings.specs.Bookings.{cardAt, shapeAt}
 use Rattle.search.specs.Closing.{BookingsIn, BookedAt, Marked}
-
-pub card-word : (bookings : List ℕ) (i : ℕ) → cardAt bookings i ≡ getD bookings (1 + 2 * i) 0
-unfolding cardAt
-card-word bookings i = refl
-
-pub shape-word : (bookings : List ℕ) (i : ℕ) → shapeAt bookings i ≡ getD bookings (2 + 2 * i) 0
-unfolding shapeAt
-shape-word bookings i = refl
 
 pub filled : (grid : List ℕ) (n value : ℕ) → grid ≡ replicate n value
     → (p : ℕ) → p < length grid → getD grid p 0 ≡ value

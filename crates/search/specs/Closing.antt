@@ -17,6 +17,7 @@ use Rattle.board.specs.Machine.{Marks, FirstMissing}
 use Rattle.board.specs.Board.{Flooded}
 use Rattle.typing.specs.Needs.{boardOf}
 use Rattle.bookings.specs.Bookings.{cardAt, shapeAt}
+use Rattle.bookings.specs.Steps.{Sized}
 use Rattle.search.specs.Walks.{LinksReady}
 use Rattle.search.specs.declared.Unfit.{Unfit}
 use Rattle.search.specs.declared.Unfit.the-variants as unfit
@@ -33,7 +34,7 @@ pub record BookedAt (bookings : List ℕ) (shapes k p : ℕ) : Type 0 where
 
 -- What turning the pairs of the bookings off asks: a grid that has every pair.
 pub record MarkAsked (bookings : List ℕ) (count cards shapes : ℕ) (grid : List ℕ) : Type 0 where
-  pub words : 1 + 2 * count ≤ length bookings
+  pub sized : Sized bookings count
   pub full : length grid ≡ cards * shapes
   pub few-cards : cards ≤ maxCards
   pub few-shapes : shapes ≤ maxShapes
@@ -50,7 +51,7 @@ pub record CloseAsked (script starts first next bookings : List ℕ) (count : �
     (incoming : Bool) (grid queue : List ℕ) : Type 0 where
   pub links : LinksReady script starts first next names shapes incoming
   pub all-cards : cards ≡ getD script 0 0
-  pub words : 1 + 2 * count ≤ length bookings
+  pub sized : Sized bookings count
   pub booked-in : BookingsIn bookings cards shapes count
   pub full : length grid ≡ cards * shapes
   pub room : length grid ≤ length queue

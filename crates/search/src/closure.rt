@@ -8,6 +8,8 @@ use board::fill;
 use board::first_missing;
 use board::flip;
 use board::list_off;
+use bookings::card_at;
+use bookings::shape_at;
 use script::Card;
 use template::Shape;
 use words::wide;
@@ -20,8 +22,8 @@ fn mark_bookings(bookings: &[u16], count: u16, cards: usize, shapes: usize, grid
 {
     let mut i = 0;
     while i < wide(count) {
-        let card = wide(bookings[1 + 2 * i]);
-        let shape = wide(bookings[2 + 2 * i]);
+        let card = wide(card_at(bookings, i));
+        let shape = wide(shape_at(bookings, i));
         grid[card * shapes + shape] = 0;
         i += 1;
     }

@@ -5,6 +5,7 @@
 -- Assumes nothing.
 use Prim.Native.Nat.{ℕ}
 use mathlib.Core.Path.{_≡_, sym, _∙_}
+use mathlib.Core.Bool.{true}
 use mathlib.Core.List.{List, [], _∷_}
 use Rattle.words.specs.Said.{Said, values}
 use Rattle.bookings.specs.Bookings.{Booked}
@@ -35,7 +36,7 @@ module _ (template script bookings before other : List ℕ) (s : Sheet)
   apart =
       let sheet = readSheet template script in
       let (listed, full) = grid-asked other (then sheet (withBookings bookings)) s smallest-asks in
-      let (read, inside) = bookings-asked bookings sheet s listed in
+      let (read, inside) = bookings-asked true bookings sheet s listed in
       let l : LargestFound s large a = rw largest-asks at x in
       let m : SmallestFound s (Booked bookings) small b = rw smallest-asks at y in
       both-found (represented template script s read .1) inside l m

@@ -9,6 +9,7 @@
 use Prim.Native.Nat.{ℕ}
 use mathlib.Core.Path.{_≡_, refl, sym, _∙_, subst}
 use mathlib.Core.Logic.{_↔_}
+use mathlib.Core.Bool.{true}
 use mathlib.Core.List.{List, [], _∷_}
 use lib.ListN.{length}
 use Rattle.words.specs.Said.{Said, values, refusal}
@@ -107,7 +108,8 @@ module _ (template script bookings : List ℕ) where
           → Passes s (Booked bookings) small → Passes s (Booked bookings) large
       large-passes s asked p =
           let (q, large-asked, found) = largest-values (largestReading template script other) other large _ y in
-          let read = bookings-asked bookings (readSheet template script) s (grid-asked before listed s asked .0) .0 in
+          let files = grid-asked before listed s asked .0 in
+          let read = bookings-asked true bookings (readSheet template script) s files .0 in
           let again = grid-asked other (readSheet template script) q large-asked in
           let same : q ≡ s = accepted-same (sym (again .0) ∙ read) in
           let large-asks = subst (λ (z : Sheet). largestReading template script other ≡ accepted z) same large-asked in
@@ -152,7 +154,7 @@ module _ (template script bookings : List ℕ) where
     judge-between before other small large a b e f x y s read =
         let (q, asked, p) = passed in
         let (files, full) = grid-asked grid listed q asked in
-        let (read-too, inside) = bookings-asked bookings (readSheet template script) q files in
+        let (read-too, inside) = bookings-asked true bookings (readSheet template script) q files in
         let d = apart template script bookings other before q
         (grid-taken other (readSheet template script) q read-too (f ∙ full))
         (grid-taken before listed q files (e ∙ full)) large small b a y x .demand in
@@ -179,7 +181,7 @@ module _ (template script bookings : List ℕ) where
           let (q, again, p) = passed grid accepts in
           let files = grid-asked before listed s asked .0 in
           let same : q ≡ s = accepted-same (sym (grid-asked grid listed q again .0) ∙ files) in
-          let (read, inside) = bookings-asked bookings (readSheet template script) s files in
+          let (read, inside) = bookings-asked true bookings (readSheet template script) s files in
           let w = subst (λ (z : Sheet). Passes z (Booked bookings) grid) same p in
           absurd (turned-down-never (represented template script s read .1) inside a (on grid) (w .sound .sound)
           (w .holds)),

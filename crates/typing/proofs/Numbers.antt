@@ -2,24 +2,27 @@
 -- is judged 61 and 63.
 --   LargestNumber, largest-numbers      of the call for the largest
 --   SmallestNumber, smallest-numbers, both-numbers   of the calls for the smallest and for both
+--   TidyNumber, tidy-numbers            of the call that tidies bookings
 --   JudgeNumber, JudgeRefusal, judge-numbers   of the judge; its other number, 62, has two words for its place
 -- Assumes nothing.
 use Prim.Native.Nat.{ℕ}
 use mathlib.Core.Path.{_≡_, refl, sym, ap, subst}
 use mathlib.Core.Logic.{_⊎_, inl, inr}
-use mathlib.Core.Bool.{not}
+use mathlib.Core.Bool.{Bool, true, false, not}
 use mathlib.Core.List.{List}
 use lib.ListN.{length}
 use lib.Dec.{eqb}
 use Rattle.words.specs.Said.{refusal}
-use Rattle.words.specs.Reading.{Reading, accepted, turnedDown, then}
+use Rattle.words.specs.Reading.{Reading, accepted, turnedDown, refuse, then}
 use Rattle.words.proofs.Said.{values-refusal, refusal-number, refusal-place}
 use Rattle.words.proofs.Readings.{Numbered, refuse-numbered, then-numbered, mapped-numbered, numbered-map}
 use Rattle.sheet.specs.Sheet.{Sheet, size, readSheet}
 use Rattle.sheet.proofs.Accepted.{SheetNumber, sheet-numbers}
-use Rattle.bookings.specs.Bookings.{readBookings}
-use Rattle.bookings.proofs.Reading.{BookingNumber, bookings-numbers}
-use Rattle.typing.specs.Calls.{withBookings, withGrid, largestReading, smallestReading, Grids, bothReading}
+use Rattle.bookings.specs.Bookings.{readList}
+use Rattle.bookings.proofs.Reading.{StoredNumber, stored-numbers, BookingNumber, bookings-numbers}
+use Rattle.typing.specs.Calls.{withList, withBookings, withStored, withGrid, largestReading, smallestReading}
+use Rattle.typing.specs.Calls.{Grids, bothReading}
+use Rattle.typing.specs.Tidy.{tidyReading}
 use Rattle.typing.specs.Judge.{Verdict, over, unmet, unheld, passes, verdictSaid, JudgeAnswered, JudgeSays}
 
 abbrev pub LargestNumber : ℕ → Type 0
@@ -28,15 +31,22 @@ LargestNumber n = SheetNumber n ⊎ (n ≡ 40)
 abbrev pub SmallestNumber : ℕ → Type 0
 SmallestNumber n = LargestNumber n ⊎ BookingNumber n
 
+abbrev pub TidyNumber : ℕ → Type 0
+TidyNumber n = LargestNumber n ⊎ StoredNumber n
+
 abbrev pub JudgeNumber : ℕ → Type 0
 JudgeNumber n = SmallestNumber n ⊎ (n ≡ 61) ⊎ (n ≡ 63)
 
--- The refusal of a grid.
+-- 40 of a sheet that is read, by whatever test.
 module _ (Number : ℕ → Type 0) (forty : Number 40) where
+  forty-numbers : (test : Sheet → Bool) (r : Reading Sheet) → Numbered Number r
+      → Numbered Number (then r (λ s. refuse 40 0 (test s) (accepted s)))
+  forty-numbers test r h =
+      then-numbered Number r (λ s. refuse 40 0 (test s) (accepted s)) h
+      (λ s. refuse-numbered Number 40 0 (test s) (accepted s) forty tt)
+
   grid-numbers : (grid : List ℕ) (r : Reading Sheet) → Numbered Number r → Numbered Number (then r (withGrid grid))
-  grid-numbers grid r h =
-      then-numbered Number r (withGrid grid) h
-      (λ s. refuse-numbered Number 40 0 (not (eqb (length grid) (size s))) (accepted s) forty tt)
+  grid-numbers grid = forty-numbers (λ s. not (eqb (length grid) (size s)))
 
 module _ (template script : List ℕ) where
   pub largest-numbers : (grid : List ℕ) → Numbered LargestNumber (largestReading template script grid)
@@ -46,24 +56,35 @@ module _ (template script : List ℕ) where
       (sheet-numbers template script))
 
   module _ (bookings : List ℕ) where
-    list-numbers : Numbered SmallestNumber (then (readSheet template script) (withBookings bookings))
-    list-numbers =
-        then-numbered SmallestNumber (readSheet template script) (withBookings bookings)
-        (numbered-map SheetNumber SmallestNumber (readSheet template script) (λ n h. inl (inl h))
-        (sheet-numbers template script))
-        (λ s. mapped-numbered SmallestNumber (λ count. s) (readBookings (s .cards) (s .shapes) bookings)
-        (numbered-map BookingNumber SmallestNumber (readBookings (s .cards) (s .shapes) bookings) (λ n h. inr h)
-        (bookings-numbers (s .cards) (s .shapes) bookings)))
+    -- the refusals of template and script, and then of the list by either rule
+    list-numbers : (strict : Bool) (ListNumber Number : ℕ → Type 0) → ((n : ℕ) → SheetNumber n → Number n)
+        → ((n : ℕ) → ListNumber n → Number n)
+        → ((cards shapes : ℕ) → Numbered ListNumber (readList strict cards shapes bookings))
+        → Numbered Number (then (readSheet template script) (withList strict bookings))
+    list-numbers strict ListNumber Number sheet list h =
+        then-numbered Number (readSheet template script) (withList strict bookings)
+        (numbered-map SheetNumber Number (readSheet template script) sheet (sheet-numbers template script))
+        (λ s. mapped-numbered Number (λ count. s) (readList strict (s .cards) (s .shapes) bookings)
+        (numbered-map ListNumber Number (readList strict (s .cards) (s .shapes) bookings) list
+        (h (s .cards) (s .shapes))))
 
     pub smallest-numbers : (grid : List ℕ) → Numbered SmallestNumber (smallestReading template script bookings grid)
     smallest-numbers grid =
         grid-numbers SmallestNumber (inl (inr refl)) grid (then (readSheet template script) (withBookings bookings))
-        list-numbers
+        (list-numbers true BookingNumber SmallestNumber (λ n h. inl (inl h)) (λ n h. inr h)
+        (λ cards shapes. bookings-numbers cards shapes bookings))
 
     pub both-numbers : (grids : Grids) → Numbered SmallestNumber (bothReading template script bookings grids)
     both-numbers grids =
         grid-numbers SmallestNumber (inl (inr refl)) (grids .large)
         (smallestReading template script bookings (grids .small)) (smallest-numbers (grids .small))
+
+    pub tidy-numbers : (out : List ℕ) → Numbered TidyNumber (tidyReading template script bookings out)
+    tidy-numbers out =
+        forty-numbers TidyNumber (inl (inr refl)) (λ s. not (eqb (length out) (length bookings)))
+        (then (readSheet template script) (withStored bookings))
+        (list-numbers false StoredNumber TidyNumber (λ n h. inl (inl h)) (λ n h. inr h)
+        (λ cards shapes. stored-numbers cards shapes bookings))
 
 -- ---- the judge
 -- A number with one place, or 62 with a card and a shape.

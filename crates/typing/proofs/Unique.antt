@@ -8,6 +8,7 @@
 use Prim.Native.Nat.{ℕ, _<_}
 use mathlib.Core.Path.{_≡_, refl, sym, ap, _∙_}
 use mathlib.Core.Logic.{_⊎_, inl, inr}
+use mathlib.Core.Bool.{true}
 use mathlib.Core.List.{List}
 use native.Mathlib.Omega.{arith}
 use lib.ListN.{getD}
@@ -205,10 +206,10 @@ module _ (template script : List ℕ) (sheets : Represented (readSheet template 
     listed = then (readSheet template script) (withBookings bookings)
 
     listed-sheets : Represented listed
-    listed-sheets s r = sheets s (bookings-asked bookings (readSheet template script) s r .0)
+    listed-sheets s r = sheets s (bookings-asked true bookings (readSheet template script) s r .0)
 
     listed-in : ListedIn listed (Booked bookings)
-    listed-in s r = bookings-asked bookings (readSheet template script) s r .1
+    listed-in s r = bookings-asked true bookings (readSheet template script) s r .1
 
     pub smallest-says-unique : (before g h : List ℕ) (a b : Said)
         → SmallestSays template script bookings before g a → SmallestSays template script bookings before h b

@@ -1,5 +1,5 @@
--- What each case of the enums `LargestAnswer`, `SmallestAnswer`, `BothAnswer` and `JudgeAnswer` says (docs/FORMAT.md,
--- "Operations").
+-- What each case of the enums `LargestAnswer`, `SmallestAnswer`, `BothAnswer`, `JudgeAnswer` and `TidyAnswer` says
+-- (docs/FORMAT.md, "Operations").
 -- Assumes nothing.
 use mathlib.Core.List.{[], _∷_}
 use Rattle.words.specs.Said.{Said, values, refusal}
@@ -11,6 +11,8 @@ use Rattle.typing.specs.declared.BothAnswer.{BothAnswer}
 use Rattle.typing.specs.declared.BothAnswer.the-variants as both
 use Rattle.typing.specs.declared.JudgeAnswer.{JudgeAnswer}
 use Rattle.typing.specs.declared.JudgeAnswer.the-variants as judge
+use Rattle.typing.specs.declared.TidyAnswer.{TidyAnswer}
+use Rattle.typing.specs.declared.TidyAnswer.the-variants as tidy
 
 -- Typed: rounds, pairs struck, cards with some link and no shape. Refused: a template's or a script's number and place,
 -- or 40.
@@ -43,3 +45,8 @@ abbrev pub judgeSaid : JudgeAnswer → Said
 judgeSaid judge.Accepted = values []
 judgeSaid (judge.NotMet card shape) = refusal 62 (card .0 ∷ shape .0 ∷ [])
 judgeSaid (judge.Refused number place) = refusal number (place ∷ [])
+
+-- Written: the number of words. Refused: the template's, the script's or the list's number and place, or 40.
+abbrev pub tidySaid : TidyAnswer → Said
+tidySaid (tidy.Written words) = values (words ∷ [])
+tidySaid (tidy.Refused number place) = refusal number (place ∷ [])

@@ -1,13 +1,13 @@
 -- What the operations for the largest, the smallest and both typings answer, and what becomes of the grids, on all
 -- inputs (docs/FORMAT.md, "Operations").
--- withBookings, withGrid                            the refusals of a list of bookings and of a grid
+-- withList, withBookings, withStored, withGrid      the refusals of a list of bookings and of a grid
 -- largestReading, smallestReading, bothReading      the sheet of what is lent, or the first refusal
 -- LargestFound, SmallestFound, BothFound            what is said and written where nothing is refused
 -- LargestSays, SmallestSays, BothSays               the contracts: a refusal other than 50 changes no grid
 -- Assumes nothing.
 use Prim.Native.Nat.{ℕ}
 use mathlib.Core.Path.{_≡_}
-use mathlib.Core.Bool.{not}
+use mathlib.Core.Bool.{Bool, true, false, not}
 use mathlib.Core.List.{List, [], _∷_}
 use lib.ListN.{length}
 use lib.Dec.{eqb}
@@ -23,9 +23,16 @@ use Rattle.typing.specs.Demand3.{Outcome, pairs, notMet, Demand3}
 use Rattle.typing.specs.Answer.{BothSaid}
 
 -- ---- the sheet of what is lent, or the first refusal
--- 30 to 33: the list of bookings is refused for the sheet's cards and shapes.
+-- 30 to 33, and by the strict rule 65: the list of bookings is refused for the sheet's cards and shapes.
+abbrev pub withList : Bool → List ℕ → Sheet → Reading Sheet
+withList strict bookings s = mapped (λ count. s) (list.readList strict (s .cards) (s .shapes) bookings)
+
+-- A list as every call takes it, and one stored before, as the tidying pass takes it.
 abbrev pub withBookings : List ℕ → Sheet → Reading Sheet
-withBookings bookings s = mapped (λ count. s) (list.readBookings (s .cards) (s .shapes) bookings)
+withBookings = withList true
+
+abbrev pub withStored : List ℕ → Sheet → Reading Sheet
+withStored = withList false
 
 -- 40: the grid has other bytes than the sheet has pairs.
 abbrev pub withGrid : List ℕ → Sheet → Reading Sheet

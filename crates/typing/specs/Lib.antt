@@ -1,4 +1,4 @@
--- The promise: Typing, Largest, Smallest, Demand3, what the typings are; Answer, Calls and Judge, what the
+-- The promise: Typing, Largest, Smallest, Demand3, what the typings are; Answer, Calls, Judge and Tidy, what the
 -- calls answer.
 -- Needs: the board of a sheet; no part of a promise.
 pub mod Needs
@@ -9,3 +9,4 @@ pub mod Demand3
 pub mod Answer
 pub mod Calls
 pub mod Judge
+pub mod Tidy

@@ -1,5 +1,6 @@
-// The two typings of a script: the largest that it allows, and the smallest that holds the bookings; and grids of other
-// makers, which are judged. Here are the answers of the calls; the definitions are in specs/, the theory in proofs/.
+// The two typings of a script: the largest that it allows, and the smallest that holds the bookings; grids of other
+// makers, which are judged; and lists of bookings, which are tidied. Here are the answers of the calls; the definitions
+// are in specs/, the theory in proofs/.
 use script::Card;
 use template::Shape;
 
@@ -28,5 +29,11 @@ pub enum BothAnswer {
 pub enum JudgeAnswer {
     Accepted,
     NotMet(Card, Shape),
+    Refused(u16, usize),
+}
+
+// The number of words that are written; or what is refused: number and place.
+pub enum TidyAnswer {
+    Written(usize),
     Refused(u16, usize),
 }

@@ -5,6 +5,7 @@
 --   wrote-next                  a byte more of a text
 --   wrote-length                the buffer keeps its length
 --   wrote-front                 what is written from the start on is the buffer's front
+--   wrote-head                  a word in front of what was written behind the first place
 --   wrote-unique                no choice is left
 -- Assumes nothing.
 use mathlib.Core.Path.{_≡_, refl, sym, ap, _∙_, subst}
@@ -71,6 +72,13 @@ wrote-next text i l w v =
 pub wrote-front : {b s c : List ℕ} {next : ℕ} → Wrote b 0 s c next → take next c ≡ s
 wrote-front {b} {s} {c} {next} w =
     ap (take next) (w .holds) ∙ take-at s (drop next b) next (omega (arith, w .moved))
+
+-- a word in front of what was written behind the first place
+pub wrote-head : (x : ℕ) (b s c : List ℕ) (next : ℕ) → 1 ≤ length b → Wrote b 1 s c next
+    → Wrote b 0 (x ∷ s) (set c 0 x) next
+wrote-head x [] s c next some w = absurd (omega arith)
+wrote-head x (y ∷ ys) s c next some w =
+    record { room = w .room; moved = omega (arith, w .moved); holds = ap (λ (l : List ℕ). set l 0 x) (w .holds) }
 
 -- no choice is left
 pub wrote-unique : {b s c d : List ℕ} {at next end : ℕ} → Wrote b at s c next → Wrote b at s d end

@@ -1,9 +1,11 @@
 -- `calls::read_booked` reads the sheet and then the bookings: a law of proofs/Readings for each answer.
 -- Assumes nothing.
+use mathlib.Core.Bool.{true}
 use denote.Ref.{now}
 use borrow.Author.Needs.{needs}
 use Rattle.sheet.specs.Opened.{Known}
-use Rattle.calls.proofs.Readings.{known-by, sheet-refused, list-refused, listed-by}
+use Rattle.calls.proofs.Known.{read as accepted}
+use Rattle.calls.proofs.Readings.{known-by, sheet-refused, list-refused, list-read}
 use Rattle.calls.proofs.read_booked.Statement.{statement}
 use Rattle.calls.proofs.read_booked.Tie as tie
 
@@ -28,7 +30,7 @@ enum-known-read-2 : tie.Need-enum-known-read-2
 enum-known-read-2 c = search needs
 
 read-bookings-requires : tie.Need-read-bookings-requires
-read-bookings-requires c κs = search needs
+read-bookings-requires c κs = accepted (known c) .links .cards-bound
 
 enum-known-list : tie.Need-enum-known-list
 enum-known-list c = search needs
@@ -42,7 +44,8 @@ same-length c = search needs
 returns : tie.Need-returns
 returns c =
     let sheet = c .before .before .before .before .before in
-    sheet-refused _ _ _ (sheet .read-sheet .ensures) (now (start sheet .args .bookings)) (c .before .read .given .1)
+    sheet-refused _ _ _ (sheet .read-sheet .ensures) true (now (start sheet .args .bookings))
+    (c .before .read .given .1)
 
 same-length-2 : tie.Need-same-length-2
 same-length-2 c = search needs
@@ -50,7 +53,7 @@ same-length-2 c = search needs
 returns-2 : tie.Need-returns-2
 returns-2 c =
     let list = c .before .before .before in
-    list-refused (known (list .before)) (now (start (read (list .before)) .args .bookings))
+    list-refused true (known (list .before)) (now (start (read (list .before)) .args .bookings))
     (list .read-bookings .ensures) (c .before .list .given .1)
 
 same-length-3 : tie.Need-same-length-3
@@ -59,8 +62,12 @@ same-length-3 c = search needs
 returns-3 : tie.Need-returns-3
 returns-3 c =
     let list = c .before .before .before in
-    listed-by (known (list .before)) (now (start (read (list .before)) .args .bookings))
-    (list .read-bookings .ensures) (c .before .list2 .given .1)
+    let k = known (list .before) in
+    record {
+      known = k;
+      list = list-read true k (now (start (read (list .before)) .args .bookings)) (list .read-bookings .ensures)
+          (c .before .list2 .given .1);
+    }
 
 pub read-booked-spec : {M : Type 1} → statement M
 read-booked-spec =

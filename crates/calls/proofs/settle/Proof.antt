@@ -1,11 +1,13 @@
 -- `calls::settle` leaves the smallest typing that holds the bookings, or 50, of each sheet whose pairs that fit it was
 -- lent. Assumes nothing.
 use mathlib.Core.Path.{sym, _∙_}
+use mathlib.Core.Bool.{true}
 use native.Mathlib.Omega.{arith}
 use denote.Ref.{now}
 use borrow.Author.Needs.{needs}
+use Rattle.bookings.proofs.Accepted.{bookings-sized, bookings-each}
 use Rattle.calls.proofs.Known.{read, links-ready, few-pairs}
-use Rattle.calls.proofs.Settling.{listed-room, listed-in, closure-full, met-found, unmet-found}
+use Rattle.calls.proofs.Settling.{closure-full, met-found, unmet-found}
 use Rattle.calls.proofs.settle.Statement.{statement}
 use Rattle.calls.proofs.settle.Tie as tie
 
@@ -37,8 +39,8 @@ close-requires c κs =
     record {
       links = links-ready k (s .pre .some .links);
       all-cards = read k .links .cards;
-      words = listed-room (e .cards) (e .shapes) bookings (s .pre .list);
-      booked-in = listed-in (e .cards) (e .shapes) bookings (s .pre .list);
+      sized = bookings-sized true (e .cards) (e .shapes) bookings _ (s .pre .list);
+      booked-in = bookings-each true (e .cards) (e .shapes) bookings _ (s .pre .list);
       full = s .pre .size;
       room = omega (arith, few-pairs k);
     }

@@ -1,12 +1,15 @@
 -- `judging::first_unheld` finds the first booking that the grid does not hold. The invariant: none of the first `i` is
 -- such a booking. Assumes nothing.
 use Prim.Native.Nat.{ℕ, _*_, _+_, _-_, _<_, _≤_}
+use mathlib.Core.Path.{_≡_, _∙_}
 use native.Mathlib.Omega.{arith}
 use lib.ListN.{length}
 use denote.Ref.{now}
 use borrow.Author.Count.{below-more}
 use borrow.Author.Needs.{needs}
 use Rattle.board.proofs.Grids.{on-yes, on-no}
+use Rattle.bookings.specs.Bookings.{cardAt, shapeAt}
+use Rattle.bookings.proofs.Accepted.{booking-in}
 use Rattle.judging.specs.Judging.{Missing}
 use Rattle.judging.proofs.Judging.{booked-in-grid, missing-here, held-here}
 use Rattle.judging.proofs.first_unheld.Statement.{statement}
@@ -30,6 +33,14 @@ Card a = a .before .before
 abbrev Turn : tie.After-wide3 Inv-loop μ-loop → tie.In-loop Inv-loop μ-loop
 Turn a = Card a .before .before
 
+card-here : (a : tie.After-wide3 Inv-loop μ-loop) → let l = Turn a .before in
+    Card a .wide2 .result ≡ cardAt (now (Start l .args .bookings)) (l .loop .i)
+card-here a = Card a .wide2 .ensures .same ∙ Card a .before .card-at .ensures
+
+shape-here : (a : tie.After-wide3 Inv-loop μ-loop) → let l = Turn a .before in
+    a .wide3 .result ≡ shapeAt (now (Start l .args .bookings)) (l .loop .i)
+shape-here a = a .wide3 .ensures .same ∙ a .before .shape-at .ensures
+
 -- the place that is read
 abbrev Place : tie.After-wide3 Inv-loop μ-loop → ℕ
 Place a = Card a .wide2 .result * Start (Turn a .before) .args .shapes + a .wide3 .result
@@ -37,7 +48,7 @@ Place a = Card a .wide2 .result * Start (Turn a .before) .args .shapes + a .wide
 place-in-grid : (a : tie.After-wide3 Inv-loop μ-loop) → Place a < length (now (Start (Turn a .before) .args .grid))
 place-in-grid a =
     let s = Start (Turn a .before) in
-    booked-in-grid (s .pre) (omega arith) (Card a .wide2 .ensures .same) (a .wide3 .ensures .same)
+    booked-in-grid (s .pre) (omega arith) (card-here a) (shape-here a)
 
 wide-requires : tie.Need-wide-requires Inv-loop μ-loop
 wide-requires c κs = search needs
@@ -45,32 +56,14 @@ wide-requires c κs = search needs
 loop-holds : tie.Need-loop-holds Inv-loop μ-loop
 loop-holds c = (λ q l. absurd (omega arith), omega arith)
 
-mul-wide : tie.Need-mul-wide Inv-loop μ-loop
-mul-wide c = search needs
-
-add-wide : tie.Need-add-wide Inv-loop μ-loop
-add-wide c = search needs
-
-mul-wide-2 : tie.Need-mul-wide-2 Inv-loop μ-loop
-mul-wide-2 c = search needs
-
-shared-slice-read-wide : tie.Need-shared-slice-read-wide Inv-loop μ-loop
-shared-slice-read-wide c = search needs
+card-at-requires : tie.Need-card-at-requires Inv-loop μ-loop
+card-at-requires c κs = booking-in (Start (c .before) .pre .sized) (omega arith)
 
 wide-requires-2 : tie.Need-wide-requires-2 Inv-loop μ-loop
 wide-requires-2 c κs = search needs
 
-mul-wide-3 : tie.Need-mul-wide-3 Inv-loop μ-loop
-mul-wide-3 c = search needs
-
-add-wide-2 : tie.Need-add-wide-2 Inv-loop μ-loop
-add-wide-2 c = search needs
-
-mul-wide-4 : tie.Need-mul-wide-4 Inv-loop μ-loop
-mul-wide-4 c = search needs
-
-shared-slice-read-wide-2 : tie.Need-shared-slice-read-wide-2 Inv-loop μ-loop
-shared-slice-read-wide-2 c = search needs
+shape-at-requires : tie.Need-shape-at-requires Inv-loop μ-loop
+shape-at-requires c κs = booking-in (Start (c .before .before .before) .pre .sized) (omega arith)
 
 wide-requires-3 : tie.Need-wide-requires-3 Inv-loop μ-loop
 wide-requires-3 c κs = search needs
@@ -92,7 +85,7 @@ returns c =
     record {
       within = l .loop .inv .1;
       before = l .loop .inv .0;
-      here = λ below. missing-here (s .pre) below (Card a .wide2 .ensures .same) (a .wide3 .ensures .same)
+      here = λ below. missing-here (s .pre) below (card-here a) (shape-here a)
           (on-no (now (s .args .grid)) (Place a) (c .if1 .taken));
     }
 
@@ -109,7 +102,7 @@ loop-again c =
     let s = Start l in (
       below-more (λ q. Missing (now (s .args .bookings)) (s .args .shapes) (now (s .args .grid)) q → ⊥)
           (l .loop .i) (l .loop .inv .0)
-          (held-here (s .pre) (omega arith) (Card a .wide2 .ensures .same) (a .wide3 .ensures .same)
+          (held-here (s .pre) (omega arith) (card-here a) (shape-here a)
           (on-yes (now (s .args .grid)) (Place a) (c .if1 .left))),
       omega arith,
     )
@@ -127,15 +120,9 @@ first-unheld-spec =
     μ-loop
     wide-requires
     loop-holds
-    mul-wide
-    add-wide
-    mul-wide-2
-    shared-slice-read-wide
+    card-at-requires
     wide-requires-2
-    mul-wide-3
-    add-wide-2
-    mul-wide-4
-    shared-slice-read-wide-2
+    shape-at-requires
     wide-requires-3
     mul-if1
     add-if1

@@ -1,15 +1,15 @@
 -- `calls::judge_tested` gives the verdict on a grid of zeros and ones, of each sheet whose pairs that fit it was lent.
 -- Assumes nothing.
 use mathlib.Core.Path.{_∙_, ap}
+use mathlib.Core.Bool.{true}
 use Prim.Native.Nat.{ℕ, _*_}
 use native.Mathlib.Nat.{div-le-self}
 use native.Mathlib.Omega.{arith}
 use denote.Ref.{now}
 use borrow.Author.Needs.{needs}
 use Rattle.words.proofs.Places.{shape-in}
-use Rattle.bookings.proofs.Accepted.{bookings-count}
+use Rattle.bookings.proofs.Accepted.{bookings-count, bookings-sized, bookings-each}
 use Rattle.calls.proofs.Known.{read, links-ready, few-pairs}
-use Rattle.calls.proofs.Settling.{listed-room, listed-in}
 use Rattle.calls.proofs.Judging.{unmet-tested, unheld-tested, passes-tested}
 use Rattle.calls.proofs.verdict.judge_tested.Statement.{statement}
 use Rattle.calls.proofs.verdict.judge_tested.Tie as tie
@@ -71,33 +71,35 @@ first-unheld-requires c κs =
     let e = s .args .e in
     record {
       cards = e .cards;
-      words = listed-room (e .cards) (e .shapes) (now (s .args .bookings)) (asked .list);
+      sized = bookings-sized true (e .cards) (e .shapes) (now (s .args .bookings)) _ (asked .list);
       full = asked .size;
-      booked-in = listed-in (e .cards) (e .shapes) (now (s .args .bookings)) (asked .list);
+      booked-in = bookings-each true (e .cards) (e .shapes) (now (s .args .bookings)) _ (asked .list);
     }
 
-mul-t24 : tie.Need-mul-t24
-mul-t24 c = search needs
-
-add-t25 : tie.Need-add-t25
-add-t25 c = search needs
+card-index-requires : tie.Need-card-index-requires
+card-index-requires c κs =
+    let s = start (c .before .before .before .before) in
+    let e = s .args .e in
+    omega (arith, bookings-sized true (e .cards) (e .shapes) (now (s .args .bookings)) _ (s .pre .settling .list) .few)
 
 returns-2 : tie.Need-returns-2
 returns-2 c sheet t =
-    let held = c .before in
+    let found = c .before in
+    let held = found .before in
     let met = held .before in
     let s = start (met .before .before) in
-    let counted = bookings-count (s .args .e .cards) (s .args .e .shapes) (now (s .args .bookings)) _
+    let counted = bookings-count true (s .args .e .cards) (s .args .e .shapes) (now (s .args .bookings)) _
     (s .pre .settling .list) in
-    unheld-tested t (now (s .args .bookings)) (now (s .args .grid)) (s .pre .marks) (s .pre .settling .size)
-    (met .before .first-unmet .ensures) (met .if1 .left) counted (held .first-unheld .ensures) (c .if2 .taken)
+    rw (c .card-index .ensures)
+    (unheld-tested t (now (s .args .bookings)) (now (s .args .grid)) (s .pre .marks) (s .pre .settling .size)
+    (met .before .first-unmet .ensures) (met .if1 .left) counted (held .first-unheld .ensures) (found .if2 .taken))
 
 returns-3 : tie.Need-returns-3
 returns-3 c sheet t =
     let held = c .before in
     let met = held .before in
     let s = start (met .before .before) in
-    let counted = bookings-count (s .args .e .cards) (s .args .e .shapes) (now (s .args .bookings)) _
+    let counted = bookings-count true (s .args .e .cards) (s .args .e .shapes) (now (s .args .bookings)) _
     (s .pre .settling .list) in
     passes-tested t (now (s .args .bookings)) (now (s .args .grid)) (s .pre .marks) (s .pre .settling .size)
     (met .before .first-unmet .ensures) (met .if1 .left) counted (held .first-unheld .ensures) (c .if2 .left)
@@ -114,7 +116,6 @@ judge-tested-spec =
     cast-t22
     returns
     first-unheld-requires
-    mul-t24
-    add-t25
+    card-index-requires
     returns-2
     returns-3)

@@ -45,7 +45,7 @@ mark-bookings-requires c κs =
     let s = Start filled-grid in
     let fill = filled-grid .fill in
     record {
-      words = s .pre .words;
+      sized = s .pre .sized;
       full = fill .kept .0 ∙ s .pre .full;
       few-cards = omega (arith, s .pre .all-cards, s .pre .links .ready .few-cards);
       few-shapes = s .pre .links .ready .few-shapes;

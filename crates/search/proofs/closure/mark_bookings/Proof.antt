@@ -1,6 +1,6 @@
 -- `search::mark_bookings` turns the booked pairs off. The invariant: those of the first `i` bookings are off, and no
 -- others. Assumes nothing.
-use mathlib.Core.Path.{_∙_, _≡_, ap, refl, subst, sym}
+use mathlib.Core.Path.{_∙_, _≡_, ap, refl, subst}
 use Prim.Native.Nat.{_*_, _+_, _-_, _<_, _≤_, ℕ}
 use native.Mathlib.Nat.{mul-le-mul}
 use native.Mathlib.Omega.{arith}
@@ -11,7 +11,8 @@ use Rattle.words.specs.Sizes.{maxGrid}
 use Rattle.words.proofs.Places.{place-in}
 use Rattle.bookings.specs.Bookings.{cardAt, shapeAt}
 use Rattle.search.specs.Closing.{Marked}
-use Rattle.search.proofs.Marks.{card-word, marked-more, marked-none, shape-word}
+use Rattle.bookings.proofs.Accepted.{booking-in}
+use Rattle.search.proofs.Marks.{marked-more, marked-none}
 use Rattle.search.proofs.closure.mark_bookings.Statement.{statement}
 use Rattle.search.proofs.closure.mark_bookings.Tie as tie
 
@@ -32,12 +33,11 @@ Start a = Loop a .before .before .before
 -- the card and the shape that are read are the booking's, and on the board
 card-here : (a : tie.After-wide3 Inv-loop μ-loop) →
     a .before .before .wide2 .result ≡ cardAt (now (Start a .args .bookings)) (Loop a .loop .i)
-card-here a =
-    a .before .before .wide2 .ensures .same ∙ sym (card-word (now (Start a .args .bookings)) (Loop a .loop .i))
+card-here a = a .before .before .wide2 .ensures .same ∙ a .before .before .before .card-at .ensures
 
 shape-here : (a : tie.After-wide3 Inv-loop μ-loop) →
     a .wide3 .result ≡ shapeAt (now (Start a .args .bookings)) (Loop a .loop .i)
-shape-here a = a .wide3 .ensures .same ∙ sym (shape-word (now (Start a .args .bookings)) (Loop a .loop .i))
+shape-here a = a .wide3 .ensures .same ∙ a .before .shape-at .ensures
 
 place-here : (a : tie.After-wide3 Inv-loop μ-loop) → let s = Start a in
     a .before .before .wide2 .result * s .args .shapes + a .wide3 .result < s .args .cards * s .args .shapes
@@ -58,32 +58,16 @@ loop-holds c =
 wide-requires : tie.Need-wide-requires Inv-loop μ-loop
 wide-requires c κs = search needs
 
-mul-wide : tie.Need-mul-wide Inv-loop μ-loop
-mul-wide c = search needs
-
-add-wide : tie.Need-add-wide Inv-loop μ-loop
-add-wide c = search needs
-
-mul-wide-2 : tie.Need-mul-wide-2 Inv-loop μ-loop
-mul-wide-2 c = search needs
-
-shared-slice-read-wide : tie.Need-shared-slice-read-wide Inv-loop μ-loop
-shared-slice-read-wide c = search needs
+card-at-requires : tie.Need-card-at-requires Inv-loop μ-loop
+card-at-requires c κs = booking-in (c .before .before .before .before .before .pre .sized) (omega arith)
 
 wide-requires-2 : tie.Need-wide-requires-2 Inv-loop μ-loop
 wide-requires-2 c κs = search needs
 
-mul-wide-3 : tie.Need-mul-wide-3 Inv-loop μ-loop
-mul-wide-3 c = search needs
-
-add-wide-2 : tie.Need-add-wide-2 Inv-loop μ-loop
-add-wide-2 c = search needs
-
-mul-wide-4 : tie.Need-mul-wide-4 Inv-loop μ-loop
-mul-wide-4 c = search needs
-
-shared-slice-read-wide-2 : tie.Need-shared-slice-read-wide-2 Inv-loop μ-loop
-shared-slice-read-wide-2 c = search needs
+shape-at-requires : tie.Need-shape-at-requires Inv-loop μ-loop
+shape-at-requires c κs =
+    let l = c .before .before .before .before in
+    booking-in (l .before .before .before .pre .sized) (omega arith)
 
 wide-requires-3 : tie.Need-wide-requires-3 Inv-loop μ-loop
 wide-requires-3 c κs = search needs
@@ -138,15 +122,9 @@ mark-bookings-spec =
     μ-loop
     loop-holds
     wide-requires
-    mul-wide
-    add-wide
-    mul-wide-2
-    shared-slice-read-wide
+    card-at-requires
     wide-requires-2
-    mul-wide-3
-    add-wide-2
-    mul-wide-4
-    shared-slice-read-wide-2
+    shape-at-requires
     wide-requires-3
     mul-grid
     add-grid

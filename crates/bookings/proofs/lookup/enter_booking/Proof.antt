@@ -1,0 +1,168 @@
+-- `bookings::enter_booking` looks a pair up along the chain of its card. The invariant: what is booked below the
+-- booking that it stands at decides.
+-- Assumes nothing.
+use Prim.Native.Nat.{ℕ, _-_}
+use mathlib.Core.Path.{_≡_, ap, _∙_}
+use native.Mathlib.Omega.{arith}
+use lib.ListN.{getD}
+use denote.Ref.{now}
+use borrow.Author.Needs.{needs}
+use Rattle.words.specs.Chain.{lastAt}
+use Rattle.words.proofs.Chains.{last-le}
+use Rattle.bookings.specs.Bookings.{cardAt}
+use Rattle.bookings.proofs.Repeats.{Looking, look-start, look-found, look-next, look-none, entered-again}
+use Rattle.bookings.proofs.Repeats.{entered-new}
+use Rattle.bookings.proofs.lookup.enter_booking.Statement.{statement}
+use Rattle.bookings.proofs.lookup.enter_booking.Tie as tie
+
+abbrev Inv-loop : tie.InvT-loop
+Inv-loop bookings k card shape first next n last at₀ at = Looking bookings card shape k at
+
+abbrev μ-loop : tie.MeasureT-loop
+μ-loop bookings k card shape first next n last at₀ at = at
+
+-- the function's entry
+abbrev Start : tie.At-loop Inv-loop μ-loop → tie.Start Inv-loop μ-loop
+Start l = l .before .before .before .before .before .before .before
+
+abbrev Loop : tie.After-wide3 Inv-loop μ-loop → tie.At-loop Inv-loop μ-loop
+Loop a = a .before .before .before .before .before
+
+-- the next booking of the chain
+next-here : (a : tie.After-wide3 Inv-loop μ-loop) → let l = Loop a in
+    let key = cardAt (now (Start l .args .bookings)) in
+    a .wide3 .result ≡ lastAt key (key (l .loop .at - 1)) (l .loop .at - 1)
+next-here a =
+    let l = Loop a in
+    let s = Start l in
+    a .wide3 .ensures .same ∙ s .pre .chained .nexts (l .loop .at - 1) (omega (
+      arith,
+      l .loop .inv .bound,
+      a .before .before .before .before .loop-test .taken,
+    ))
+
+wide-requires : tie.Need-wide-requires Inv-loop μ-loop
+wide-requires c κs = search needs
+
+mul-last : tie.Need-mul-last Inv-loop μ-loop
+mul-last c = search needs
+
+slice-read-last : tie.Need-slice-read-last Inv-loop μ-loop
+slice-read-last c = search needs
+
+wide-requires-2 : tie.Need-wide-requires-2 Inv-loop μ-loop
+wide-requires-2 c κs = search needs
+
+loop-holds : tie.Need-loop-holds Inv-loop μ-loop
+loop-holds c =
+    let s = c .before .before .before .before .before .before in
+    let card-here = c .before .before .wide .ensures .same in
+    look-start (now (s .args .bookings)) (s .args .card) (s .args .shape)
+    (c .wide2 .ensures .same ∙ ap (λ (m : ℕ). getD (now (s .args .first)) m 0) card-here
+    ∙ s .pre .chained .heads (s .args .card) (s .pre .card-in))
+
+sub-shape-at : tie.Need-sub-shape-at Inv-loop μ-loop
+sub-shape-at c = search needs
+
+shape-at-requires : tie.Need-shape-at-requires Inv-loop μ-loop
+shape-at-requires c κs =
+    let l = c .before in
+    let s = Start l in
+    record {
+      few = omega (arith, l .loop .inv .bound, s .pre .few);
+      inside = omega (arith, l .loop .inv .bound, s .pre .words, c .loop-test .taken);
+    }
+
+returns : tie.Need-returns Inv-loop μ-loop
+returns c =
+    let l = c .before .before .before in
+    entered-again (Start l .pre) (look-found (l .loop .inv) (c .before .before .loop-test .taken) (omega arith))
+
+sub-wide : tie.Need-sub-wide Inv-loop μ-loop
+sub-wide c = search needs
+
+mul-wide : tie.Need-mul-wide Inv-loop μ-loop
+mul-wide c = search needs
+
+slice-read-wide : tie.Need-slice-read-wide Inv-loop μ-loop
+slice-read-wide c =
+    let l = c .before .before .before .before in
+    let s = Start l in
+    omega (arith, l .loop .inv .bound, s .pre .room, c .before .before .before .loop-test .taken)
+
+wide-requires-3 : tie.Need-wide-requires-3 Inv-loop μ-loop
+wide-requires-3 c κs = search needs
+
+loop-less : tie.Need-loop-less Inv-loop μ-loop
+loop-less c =
+    let l = Loop c in
+    let key = cardAt (now (Start l .args .bookings)) in
+    let taken = c .before .before .before .before .loop-test .taken in
+    omega (arith, next-here c, last-le key (key (l .loop .at - 1)) (l .loop .at - 1), taken)
+
+loop-again : tie.Need-loop-again Inv-loop μ-loop
+loop-again c =
+    let l = Loop c in
+    look-next (l .loop .inv) (c .before .before .before .before .loop-test .taken)
+    (λ e. absurd (omega (arith, e))) (next-here c)
+
+mul-next : tie.Need-mul-next Inv-loop μ-loop
+mul-next c = search needs
+
+slice-write-next : tie.Need-slice-write-next Inv-loop μ-loop
+slice-write-next c = search needs
+
+add-first : tie.Need-add-first Inv-loop μ-loop
+add-first c = search needs
+
+cast-first : tie.Need-cast-first Inv-loop μ-loop
+cast-first c = search needs
+
+mul-first : tie.Need-mul-first Inv-loop μ-loop
+mul-first c = search needs
+
+slice-write-first : tie.Need-slice-write-first Inv-loop μ-loop
+slice-write-first c = search needs
+
+same-length : tie.Need-same-length Inv-loop μ-loop
+same-length c = search needs
+
+same-length-2 : tie.Need-same-length-2 Inv-loop μ-loop
+same-length-2 c = search needs
+
+returns-2 : tie.Need-returns-2 Inv-loop μ-loop
+returns-2 c =
+    let l = c .before in
+    let s = Start l in
+    let card-here = l .before .before .before .wide .ensures .same in
+    rw card-here (entered-new (s .pre) (look-none (l .loop .inv) (omega arith)))
+
+pub enter-booking-spec : {M : Type 1} → statement M
+enter-booking-spec =
+    tie.close
+    (tie.spec
+    Inv-loop
+    μ-loop
+    wide-requires
+    mul-last
+    slice-read-last
+    wide-requires-2
+    loop-holds
+    sub-shape-at
+    shape-at-requires
+    returns
+    sub-wide
+    mul-wide
+    slice-read-wide
+    wide-requires-3
+    loop-less
+    loop-again
+    mul-next
+    slice-write-next
+    add-first
+    cast-first
+    mul-first
+    slice-write-first
+    same-length
+    same-length-2
+    returns-2)

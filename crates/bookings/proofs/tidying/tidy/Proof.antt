@@ -1,0 +1,208 @@
+-- `bookings::tidy` writes the first booking of each pair: before booking i those of the bookings before it stand in the
+-- buffer, chained by their cards. Assumes nothing.
+use Prim.Native.Nat.{_-_, _≤_, _<_}
+use mathlib.Core.Path.{_≡_, refl, subst, _∙_}
+use mathlib.Core.Logic.{⊎-elim}
+use native.Mathlib.Omega.{arith}
+use lib.ListN.{length, getD, length-set, getD-replicate}
+use denote.Ref.{now}
+use borrow.Author.Needs.{needs}
+use Rattle.words.specs.Limits.{maxCards, maxBookings}
+use Rattle.words.proofs.Bools.{false-of-not, true-of-not}
+use Rattle.words.proofs.Writing.{wrote-length}
+use Rattle.bookings.specs.Bookings.{shapeIndex}
+use Rattle.bookings.proofs.Accepted.{booking-in}
+use Rattle.bookings.proofs.Keeping.{Keeping, keeping-start, keeping-again, keeping-new, keeping-end}
+use Rattle.bookings.proofs.tidying.tidy.Statement.{statement}
+use Rattle.bookings.proofs.tidying.tidy.Tie as tie
+
+abbrev Inv-loop : tie.InvT-loop
+Inv-loop bookings count out₀ first₀ next₀ pairs kept₀ i₀ out first next kept i =
+    (i ≤ pairs)
+    × (kept ≤ i)
+    × (length first ≡ maxCards)
+    × (length next ≡ maxBookings)
+    × Keeping bookings out₀ out first next kept i
+
+abbrev μ-loop : tie.MeasureT-loop
+μ-loop bookings count out₀ first₀ next₀ pairs kept₀ i₀ out first next kept i = pairs - i
+
+-- the loop, and the function's entry
+abbrev Start : tie.At-loop Inv-loop μ-loop → tie.Start Inv-loop μ-loop
+Start l = l .before .before .before .before
+
+abbrev Loop : tie.After-next2 Inv-loop μ-loop → tie.At-loop Inv-loop μ-loop
+Loop c = c .before .before .before .before .before .before .before .before .before
+
+-- the buffer has a word, and keeps its length
+some-word : (s : tie.Start Inv-loop μ-loop) → 1 ≤ length (now (s .args .out))
+some-word s = omega (arith, s .pre .room, s .pre .sized .size)
+
+-- it has room for one booking more
+room-left : (l : tie.At-loop Inv-loop μ-loop) → l .loop .i < l .before .wide .result
+    → shapeIndex (l .loop .kept) < length (l .loop .out)
+room-left l below =
+    let s = Start l in
+    omega (
+      arith,
+      below,
+      l .before .wide .ensures .same,
+      l .loop .inv .1,
+      wrote-length (l .loop .inv .4 .wrote),
+      s .pre .room,
+      s .pre .sized .size,
+    )
+
+wide-requires : tie.Need-wide-requires Inv-loop μ-loop
+wide-requires c κs = search needs
+
+loop-holds : tie.Need-loop-holds Inv-loop μ-loop
+loop-holds c =
+    let s = c .before .before .before in (
+      omega arith,
+      omega arith,
+      refl,
+      refl,
+      keeping-start _ _ _ _ (some-word s) (λ m l. getD-replicate maxCards m 0 0 l),
+    )
+
+card-at-requires : tie.Need-card-at-requires Inv-loop μ-loop
+card-at-requires c κs = booking-in (Start (c .before) .pre .sized) (omega arith)
+
+shape-at-requires : tie.Need-shape-at-requires Inv-loop μ-loop
+shape-at-requires c κs = booking-in (Start (c .before .before) .pre .sized) (omega arith)
+
+slice-aggregate-enter-booking : tie.Need-slice-aggregate-enter-booking Inv-loop μ-loop
+slice-aggregate-enter-booking c = search needs
+
+slice-aggregate-enter-booking-2 : tie.Need-slice-aggregate-enter-booking-2 Inv-loop μ-loop
+slice-aggregate-enter-booking-2 c = search needs
+
+enter-booking-requires : tie.Need-enter-booking-requires Inv-loop μ-loop
+enter-booking-requires c κs =
+    let l = c .before .before .before .before .before .before in
+    let s = Start l in
+    let card-here = c .before .before .before .before .card-at .ensures in
+    let card-in = s .pre .cards (l .loop .i) (omega arith) in
+    record {
+      chained = l .loop .inv .4 .chained;
+      words = omega (arith, room-left l (omega arith));
+      few = omega (arith, s .pre .sized .few);
+      room = omega (arith, s .pre .sized .few, l .loop .inv .3);
+      card-in = omega (arith, card-in, card-here, l .loop .inv .2);
+    }
+
+card-index-requires : tie.Need-card-index-requires Inv-loop μ-loop
+card-index-requires c κs = search needs
+
+mul-out : tie.Need-mul-out Inv-loop μ-loop
+mul-out c = search needs
+
+slice-write-out : tie.Need-slice-write-out Inv-loop μ-loop
+slice-write-out c =
+    let l = Loop (c .before .before) in
+    omega (arith, c .card-index .ensures, room-left l (omega arith))
+
+shape-index-requires : tie.Need-shape-index-requires Inv-loop μ-loop
+shape-index-requires c κs = search needs
+
+mul-out-2 : tie.Need-mul-out-2 Inv-loop μ-loop
+mul-out-2 c = search needs
+
+slice-write-out-2 : tie.Need-slice-write-out-2 Inv-loop μ-loop
+slice-write-out-2 c =
+    let l = Loop (c .before .before .before) in
+    let here = c .before .card-index .result in
+    let card = c .before .before .before .before .before .before .before .before .before .before .card-at .result in
+    omega (arith, c .shape-index .ensures, room-left l (omega arith), length-set (l .loop .out) here card)
+
+add-kept : tie.Need-add-kept Inv-loop μ-loop
+add-kept c = search needs
+
+add-i : tie.Need-add-i Inv-loop μ-loop
+add-i c = search needs
+
+loop-less : tie.Need-loop-less Inv-loop μ-loop
+loop-less c = search needs
+
+loop-again : tie.Need-loop-again Inv-loop μ-loop
+loop-again c =
+    let l = Loop (c .before) in
+    let s = Start l in
+    let card-here = c .before .before .before .before .before .before .before .before .card-at .ensures in
+    let shape-here = c .before .before .before .before .before .before .before .shape-at .ensures in
+    let e = c .before .before .before .enter-booking .ensures in
+    let w = l .loop .inv .4 in
+    let room : shapeIndex (l .loop .kept) < length (now (s .args .out)) =
+    omega (arith, room-left l (omega arith), wrote-length (w .wrote)) in
+    let heads = e .heads ∙ l .loop .inv .2 in
+    let links = e .links ∙ l .loop .inv .3 in
+    ⊎-elim
+    (λ v. rw (v .3, v .4, v .1 .ensures, v .2 .ensures) (
+      omega arith,
+      omega arith,
+      heads,
+      links,
+      keeping-new (some-word s) w card-here shape-here e (false-of-not (v .0 .taken)) room,
+    ))
+    (λ v. rw (v .1, v .2) (
+      omega arith,
+      omega arith,
+      heads,
+      links,
+      keeping-again (some-word s) w card-here shape-here e (true-of-not (v .0 .left)),
+    ))
+    (c .if1 .came)
+
+cast-out : tie.Need-cast-out Inv-loop μ-loop
+cast-out c = search needs
+
+slice-write-out-3 : tie.Need-slice-write-out-3 Inv-loop μ-loop
+slice-write-out-3 c =
+    let l = c .before in
+    omega (arith, some-word (Start l), wrote-length (l .loop .inv .4 .wrote))
+
+card-index-requires-2 : tie.Need-card-index-requires-2 Inv-loop μ-loop
+card-index-requires-2 c κs = search needs
+
+same-length : tie.Need-same-length Inv-loop μ-loop
+same-length c =
+    let l = c .before .before in
+    length-set (l .loop .out) 0 _ ∙ wrote-length (l .loop .inv .4 .wrote)
+
+returns : tie.Need-returns Inv-loop μ-loop
+returns c =
+    let l = c .before .before in
+    let s = Start l in
+    let all : l .loop .i ≡ getD (now (s .args .bookings)) 0 0 = omega (arith, s .pre .counted) in
+    rw (c .card-index2 .ensures) (keeping-end (some-word s) (subst
+    (Keeping _ _ _ (l .loop .first) (l .loop .next) (l .loop .kept)) all (l .loop .inv .4)))
+
+pub tidy-spec : {M : Type 1} → statement M
+tidy-spec =
+    tie.close
+    (tie.spec
+    Inv-loop
+    μ-loop
+    wide-requires
+    loop-holds
+    card-at-requires
+    shape-at-requires
+    slice-aggregate-enter-booking
+    slice-aggregate-enter-booking-2
+    enter-booking-requires
+    card-index-requires
+    mul-out
+    slice-write-out
+    shape-index-requires
+    mul-out-2
+    slice-write-out-2
+    add-kept
+    add-i
+    loop-less
+    loop-again
+    cast-out
+    slice-write-out-3
+    card-index-requires-2
+    same-length
+    returns)

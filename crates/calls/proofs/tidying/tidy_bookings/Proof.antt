@@ -1,0 +1,131 @@
+-- `calls::tidy_bookings` answers as the format says: a law of proofs/Answered for each way out. Assumes nothing.
+use mathlib.Core.Path.{_≡_}
+use mathlib.Core.Bool.{false}
+use native.Mathlib.Omega.{arith}
+use denote.Ref.{now}
+use borrow.Author.Needs.{needs}
+use Rattle.words.specs.Reading.{accepted}
+use Rattle.sheet.specs.Opened.{Known}
+use Rattle.bookings.specs.Bookings.{readStored}
+use Rattle.bookings.proofs.Accepted.{bookings-count, bookings-sized, bookings-each}
+use Rattle.calls.proofs.Known.{sheet, read as opened}
+use Rattle.calls.proofs.Readings.{known-by, sheet-refused, list-refused, list-read, list-taken}
+use Rattle.calls.proofs.Answered.{tidy-refused, tidy-size, tidy-done}
+use Rattle.calls.proofs.tidying.tidy_bookings.Statement.{statement}
+use Rattle.calls.proofs.tidying.tidy_bookings.Tie as tie
+
+-- The start, the sheet as it was read, and the list.
+abbrev start : tie.After-read-sheet → tie.Start
+start c = c .before .before .before .before .before .before
+
+abbrev read : tie.After-known-told2 → tie.After-read-sheet
+read c = c .before .before .before .before
+
+abbrev list : tie.After-known-told4 → tie.After-read-stored
+list c = c .before .before .before
+
+known : (c : tie.After-known-told2) → let s = start (read c) .args in
+    Known (now (s .template)) (now (s .script)) (read c .read-sheet .last .1 .1 .0) (c .before .read2 .given .0 .0)
+known c = known-by _ _ _ (read c .read-sheet .ensures) (c .before .read2 .given .1)
+
+stored : (c : tie.After-known-told4) → let told = list c .before in
+    let e = told .before .read2 .given .0 .0 in
+    readStored (e .cards) (e .shapes) (now (start (read told) .args .bookings))
+    ≡ accepted (c .before .list2 .given .0 .0)
+stored c =
+    let told = list c .before in
+    list-read false (known told) (now (start (read told) .args .bookings)) (list c .read-stored .ensures)
+    (c .before .list2 .given .1)
+
+slice-aggregate-read-sheet : tie.Need-slice-aggregate-read-sheet
+slice-aggregate-read-sheet c = search needs
+
+read-sheet-requires : tie.Need-read-sheet-requires
+read-sheet-requires c κs = search needs
+
+enum-known-read : tie.Need-enum-known-read
+enum-known-read c = search needs
+
+enum-known-read-2 : tie.Need-enum-known-read-2
+enum-known-read-2 c = search needs
+
+read-stored-requires : tie.Need-read-stored-requires
+read-stored-requires c κs = search needs
+
+enum-known-list : tie.Need-enum-known-list
+enum-known-list c = search needs
+
+enum-known-list-2 : tie.Need-enum-known-list-2
+enum-known-list-2 c = search needs
+
+returns : tie.Need-returns
+returns c =
+    let told = list (c .before) .before in
+    let s = start (read told) .args in
+    let k = known told in
+    tidy-size (now (s .template)) (now (s .script)) (now (s .bookings)) (sheet k)
+    (list-taken false k (now (s .bookings)) (stored (c .before))) (now (s .out)) (λ e. omega (arith, e))
+
+tidy-requires : tie.Need-tidy-requires
+tidy-requires c κs =
+    let listed = c .before .before in
+    let told = list listed .before in
+    let bookings = now (start (read told) .args .bookings) in
+    let e = told .before .read2 .given .0 .0 in
+    record {
+      sized = bookings-sized false (e .cards) (e .shapes) bookings _ (stored listed);
+      counted = bookings-count false (e .cards) (e .shapes) bookings _ (stored listed);
+      cards = λ i l. omega (
+        arith,
+        bookings-each false (e .cards) (e .shapes) bookings _ (stored listed) i l .0,
+        opened (known told) .links .cards-bound,
+      );
+      room = omega arith;
+    }
+
+returns-2 : tie.Need-returns-2
+returns-2 c =
+    let sheet-read = c .before .before .before .before in
+    let s = start sheet-read .args in
+    tidy-refused (now (s .template)) (now (s .script)) (now (s .bookings)) (now (s .out)) _ _
+    (sheet-refused _ _ _ (sheet-read .read-sheet .ensures) false (now (s .bookings)) (c .before .read .given .1))
+
+returns-3 : tie.Need-returns-3
+returns-3 c =
+    let listed = c .before .before .before in
+    let told = listed .before in
+    let s = start (read told) .args in
+    tidy-refused (now (s .template)) (now (s .script)) (now (s .bookings)) (now (s .out)) _ _
+    (list-refused false (known told) (now (s .bookings)) (listed .read-stored .ensures) (c .before .list .given .1))
+
+same-length : tie.Need-same-length
+same-length c = search needs
+
+returns-4 : tie.Need-returns-4
+returns-4 c =
+    let written = c .before .before in
+    let listed = written .before .before .before in
+    let told = list listed .before in
+    let s = start (read told) .args in
+    let k = known told in
+    tidy-done (now (s .template)) (now (s .script)) (now (s .bookings)) (sheet k)
+    (list-taken false k (now (s .bookings)) (stored listed)) (now (s .out)) _ _ (omega arith)
+    (written .tidy .ensures)
+
+pub tidy-bookings-spec : {M : Type 1} → statement M
+tidy-bookings-spec =
+    tie.close
+    (tie.spec
+    slice-aggregate-read-sheet
+    read-sheet-requires
+    enum-known-read
+    enum-known-read-2
+    read-stored-requires
+    enum-known-list
+    enum-known-list-2
+    returns
+    tidy-requires
+    returns-2
+    returns-3
+    same-length
+    returns-4)

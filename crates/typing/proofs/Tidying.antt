@@ -1,0 +1,127 @@
+-- Tidying a list of bookings, over what its contract allows and for all inputs.
+--   tidy-values    a number of words is said of a list that is accepted as it was stored; these words are the tidied
+--                  list, and every call takes it
+--   tidied-alike   the smallest typing or its 50, by the rule that takes repeats on the list and by the strict one on
+--                  what was written, is the same
+--   tidied-unchanged   a list that every call takes is written unchanged
+--   tidy-one-answer, tidy-no-choice   two answers that are allowed for one input are equal, and so are the buffers
+-- Assumes nothing.
+use Prim.Native.Nat.{ℕ}
+use mathlib.Core.Path.{_≡_, refl, sym, ap, _∙_}
+use mathlib.Core.Logic.{_↔_}
+use mathlib.Core.List.{List, [], _∷_, _++_, append-nil}
+use lib.ListN.{length, take}
+use lib.Seq.{take-at, drop-length}
+use borrow.Author.Tests.{eq-eqb}
+use Rattle.words.specs.Said.{Said, values}
+use Rattle.words.specs.Reading.{Reading, accepted, turnedDown, then}
+use Rattle.words.proofs.Said.{values-refusal, one-value}
+use Rattle.words.proofs.Readings.{then-accepted}
+use Rattle.sheet.specs.Sheet.{Sheet, readSheet}
+use Rattle.sheet.proofs.Accepted.{mapped-accepted}
+use Rattle.bookings.specs.Bookings.{readBookings, readStored}
+use Rattle.bookings.specs.Tidied.{different, tidied}
+use Rattle.bookings.proofs.Accepted.{listed-stored}
+use Rattle.bookings.proofs.Tidied.{tidied-booked, tidied-listed, tidied-listed-same}
+use Rattle.typing.specs.declared.TidyAnswer.{TidyAnswer}
+use Rattle.typing.specs.declared.TidyAnswer.the-variants as tidy
+use Rattle.typing.specs.Answer.{tidySaid}
+use Rattle.typing.specs.Calls.{withBookings, withStored, withGrid, SmallestSays}
+use Rattle.typing.specs.Tidy.{tidyReading, TidyFound, TidyAnswered, TidySays, StoredSmallestSays}
+use Rattle.typing.proofs.Booked.{buffer-asked}
+use Rattle.typing.proofs.SamePairs.{smallest-answered-same}
+
+-- ---- no choice
+answered-unique : (r : Reading Sheet) (bookings before g h : List ℕ) (a b : Said) → TidyAnswered r bookings before g a
+    → TidyAnswered r bookings before h b → (a ≡ b) × (g ≡ h)
+answered-unique (turnedDown number place) bookings before g h a b x y = (x .0 ∙ sym (y .0), x .1 ∙ sym (y .1))
+answered-unique (accepted s) bookings before g h a b x y =
+    (x .says ∙ sym (y .says), x .writes ∙ sym (y .writes))
+
+tidy-said-unique : (a b : TidyAnswer) → tidySaid a ≡ tidySaid b → a ≡ b
+tidy-said-unique (tidy.Written m) (tidy.Written k) e = cc
+tidy-said-unique (tidy.Written m) (tidy.Refused number at) e = cc
+tidy-said-unique (tidy.Refused number at) (tidy.Written m) e = cc
+tidy-said-unique (tidy.Refused number at) (tidy.Refused number′ at′) e = cc
+
+module _ (template script bookings : List ℕ) where
+  pub tidy-one-answer : (before g h : List ℕ) (a b : Said) → TidySays template script bookings before g a
+      → TidySays template script bookings before h b → (a ≡ b) × (g ≡ h)
+  tidy-one-answer before = answered-unique (tidyReading template script bookings before) bookings before
+
+  pub tidy-no-choice : (before g h : List ℕ) (a b : TidyAnswer)
+      → TidySays template script bookings before g (tidySaid a)
+      → TidySays template script bookings before h (tidySaid b) → (a ≡ b) × (g ≡ h)
+  tidy-no-choice before g h a b x y =
+      let (e, f) = tidy-one-answer before g h (tidySaid a) (tidySaid b) x y in
+      (tidy-said-unique a b e, f)
+
+-- ---- what is written
+tidy-found : (r : Reading Sheet) (bookings before after found : List ℕ)
+    → TidyAnswered r bookings before after (values found)
+    → (s : Sheet) × (r ≡ accepted s) × TidyFound bookings before after (values found)
+tidy-found (accepted s) bookings before after found x = (s, refl, x)
+tidy-found (turnedDown number place) bookings before after found x = values-refusal (x .0)
+
+-- The files are read, the list by the rule that takes repeats; the buffer begins with the tidied list, of so many
+-- words.
+pub record Tidies (template script bookings after : List ℕ) (words : ℕ) : Type 0 where
+  pub sheet : Sheet
+  pub count : ℕ
+  pub read : readSheet template script ≡ accepted sheet
+  pub stored : readStored (sheet .cards) (sheet .shapes) bookings ≡ accepted count
+  pub front : take words after ≡ tidied bookings
+
+module _ (template script bookings before after : List ℕ) (words : ℕ)
+    (x : TidySays template script bookings before after (values (words ∷ []))) where
+  pub tidy-values : Tidies template script bookings after words
+  tidy-values =
+      let (s, asked, found) = tidy-found (tidyReading template script bookings before) bookings before after _ x in
+      let listed = then (readSheet template script) (withStored bookings) in
+      let taken = buffer-asked bookings before listed s asked .0 in
+      let (p, read, list) = then-accepted (readSheet template script) (withStored bookings) s taken in
+      let (count, stored, same) =
+      mapped-accepted (λ count. p) (readStored (p .cards) (p .shapes) bookings) s list in
+      let long : words ≡ length (tidied bookings) = one-value (found .says) in
+      record {
+        sheet = p;
+        count = count;
+        read = read;
+        stored = stored;
+        front = ap (take words) (found .writes) ∙ take-at (tidied bookings) _ words (sym long);
+      }
+
+  -- every call takes what is written, with as many bookings as there are different pairs
+  pub tidied-taken : (cards shapes count : ℕ) → readStored cards shapes bookings ≡ accepted count
+      → readBookings cards shapes (take words after) ≡ accepted (different bookings count)
+  tidied-taken cards shapes count stored =
+      rw (tidy-values .front) (tidied-listed cards shapes bookings count stored)
+
+  -- the smallest typing or its 50, answer and grid, whatever grid is lent
+  pub tidied-alike : (grid left : List ℕ) (said : Said)
+      → StoredSmallestSays template script bookings grid left said
+      ↔ SmallestSays template script (take words after) grid left said
+  tidied-alike grid left said =
+      let t = tidy-values in
+      let s = t .sheet in
+      let listed = tidied-listed (s .cards) (s .shapes) bookings (t .count) (t .stored) in
+      rw (t .front, t .read, t .stored, listed)
+      (smallest-answered-same (withGrid grid s)
+      (λ n u. (tidied-booked bookings n u .1, tidied-booked bookings n u .0)) grid left said)
+
+-- A list that every call takes is written unchanged, into a buffer of its length.
+pub tidied-unchanged : (template script bookings before after : List ℕ) (said : Said) (s : Sheet)
+    → then (readSheet template script) (withBookings bookings) ≡ accepted s → length before ≡ length bookings
+    → TidySays template script bookings before after said
+    → (said ≡ values (length bookings ∷ [])) × (after ≡ bookings)
+tidied-unchanged template script bookings before after said s taken long x =
+    let (p, read, list) = then-accepted (readSheet template script) (withBookings bookings) s taken in
+    let (count, listed, same) = mapped-accepted (λ count. p) (readBookings (p .cards) (p .shapes) bookings) s list in
+    let stored = listed-stored (p .cards) (p .shapes) bookings count listed in
+    let own : tidied bookings ≡ bookings = tidied-listed-same (p .cards) (p .shapes) bookings count listed in
+    let found : TidyFound bookings before after said =
+    rw (read, stored, eq-eqb (length before) (length bookings) long) at x in (
+      found .says ∙ ap (λ (l : List ℕ). values (length l ∷ [])) own,
+      found .writes
+          ∙ rw (own, sym long) (ap (λ (l : List ℕ). bookings ++ l) (drop-length before) ∙ append-nil bookings),
+    )
