@@ -2,7 +2,7 @@
 --   first-demand    faults get their refusals, and nothing else is refused
 --   second-demand   counts and sound typings are the paper's
 --   third-demand    the smallest and the largest typing
---   judge-demand    grids of other makers
+--   judge-demand    grids of other makers (of lists that are tidied: Tidying)
 -- Assumes nothing.
 use Prim.Native.Nat.{ℕ}
 use mathlib.Core.Path.{_≡_, refl, sym, ap, _∙_, subst}
@@ -24,6 +24,7 @@ use Rattle.board.specs.Grid.{on, tally}
 use Rattle.board.specs.Board.{Board}
 use Rattle.sheet.specs.Sheet.{Sheet, partOf, neighboursOf, size}
 use Rattle.bookings.specs.Bookings.{cardIndex, Booked}
+use Rattle.bookings.specs.Tidied.{tidied}
 use Rattle.counts.specs.Fit.{fitQuestion}
 use Rattle.counts.proofs.Ignoring.{open-fits}
 use Rattle.counts.proofs.Numbers.{fit-numbers}
@@ -37,22 +38,24 @@ use Rattle.typing.specs.Answer.{BothSaid}
 use Rattle.typing.specs.Calls.{largestReading, smallestReading, bothReading, outcomeSaid, BothAnswered, BothFound}
 use Rattle.typing.specs.Calls.{LargestFound, LargestSays, SmallestFound, SmallestSays}
 use Rattle.typing.specs.Judge.{Verdict, over, unmet, unheld, passes, verdictSaid, Passes, JudgeFound, JudgeSays}
-use Rattle.typing.proofs.Numbers.{largest-numbers, smallest-numbers, both-numbers, JudgeRefusal, judge-numbers}
+use Rattle.typing.specs.Tidy.{tidyReading, TidyFound}
+use Rattle.typing.proofs.Numbers.{largest-numbers, smallest-numbers, both-numbers, tidy-numbers}
+use Rattle.typing.proofs.Numbers.{JudgeRefusal, judge-numbers}
 use Rattle.typing.proofs.Represents.{Represents}
 use Rattle.typing.proofs.Largest.{largest-over, largest-bound, largest-unique, some-largest, bare-alike}
 use Rattle.typing.proofs.Existence.{represented}
 use Rattle.typing.proofs.Apart.{apart}
 use Rattle.typing.proofs.Judging.{judge-exact, judge-takes-smallest, judge-takes-largest, judge-between, judge-some}
 use Rattle.demands.specs.Demands.{TemplateListed, ScriptListed, FitListed, LargestListed, SmallestListed}
-use Rattle.demands.specs.Demands.{FromTo, JudgeListed, PrinterListed, FirstDemand, Formed, Neighbourhood}
-use Rattle.demands.specs.Demands.{RuleTwo, SecondDemand}
+use Rattle.demands.specs.Demands.{FromTo, TidyListed, JudgeListed, PrinterListed, FirstDemand, Formed}
+use Rattle.demands.specs.Demands.{Neighbourhood, RuleTwo, SecondDemand}
 use Rattle.demands.specs.Demands.{TurnedDown, LargestTyping, TwoTypings, ThirdDemand, BookingsFormed}
 use Rattle.demands.specs.Demands.{JudgedGrids, JudgeDemand}
 use Rattle.demands.proofs.Formed.{formed-sheet, sheets-are, bookings-are, largest-taken, smallest-taken}
-use Rattle.demands.proofs.Formed.{both-taken}
+use Rattle.demands.proofs.Formed.{both-taken, stored-are, tidy-taken}
 use Rattle.demands.proofs.Counts.{counts-fit-exactly, card-fits-exactly}
 use Rattle.demands.proofs.Listed.{no-values, said-listed, fit-refused, largest-refused, smallest-refused}
-use Rattle.demands.proofs.Listed.{both-refused, script-numbered}
+use Rattle.demands.proofs.Listed.{both-refused, tidy-refused, script-numbered}
 
 -- ---- the first demand
 -- An outcome is a number of pairs, or the bookings are turned down.
@@ -82,9 +85,11 @@ first-demand = record {
   template-exact = templates-are;
   sheet-exact = sheets-are;
   bookings-exact = bookings-are;
+  stored-exact = stored-are;
   largest-takes = largest-taken;
   smallest-takes = smallest-taken;
   both-takes = both-taken;
+  tidy-takes = tidy-taken;
   input-exact = inputs-are;
   largest-first = λ template script before after said number at e x. rw e at x;
   smallest-first = λ template script bookings before after said number at e x. rw e at x;
@@ -95,6 +100,7 @@ first-demand = record {
         y .1,
       );
   judge-first = λ template script bookings grid said number at e x. rw e at x;
+  tidy-first = λ template script bookings before after said number at e x. rw e at x;
   fit-first = λ template shape counts said number at e x. rw e at x;
   template-first = λ template number at e. ap (saidOf templateValues) e;
   script-first = λ template script number at e. ap (saidOf scriptValues) e;
@@ -126,6 +132,13 @@ first-demand = record {
       let found : JudgeFound s bookings grid said =
       rw (smallest-taken template script bookings grid s .1 (f, b, full)) at x in
       accepted-or-faulty said (found .verdict) (found .says);
+  tidy-accepts = λ template script bookings before after said s f b long x.
+      let found : TidyFound bookings before after said =
+      rw (tidy-taken template script bookings before s .1 (f, b, long)) at x in
+      (length (tidied bookings), found .says);
+  tidy-listed = λ template script bookings before after number at.
+      tidy-refused TidyListed (tidyReading template script bookings before)
+      (tidy-numbers template script bookings before) bookings before after number at;
   judge-listed = λ template script bookings grid number at x.
       judge-number number at (judge-numbers template script bookings grid number at x);
   printer-listed = λ bytes number at e.

@@ -1,19 +1,18 @@
 -- What is well-formed is just what is read (docs/FORMAT.md, "Templates", "Scripts", "Bookings").
---   sheets-are     a template and a script; bookings-are: a list of bookings
+--   sheets-are     a template and a script; stored-are, bookings-are: a list of bookings, with and without repeats
 --   formed-template, formed-sheet, formed-read   what reading such words finds
 --   largest-taken, smallest-taken, both-taken   what the calls take: these, and grids with a byte for each pair
+--   tidy-taken     what the tidying pass takes: these, and a buffer of the list's length
 -- Assumes nothing.
-use Prim.Native.Nat.{ℕ, zero, suc, _+_, _*_, _≤_, _<_}
+use Prim.Native.Nat.{ℕ}
 use mathlib.Core.Path.{_≡_, refl, sym, ap, ap₂, _∙_, subst}
 use mathlib.Core.Logic.{_↔_}
+use mathlib.Core.Bool.{Bool, true, false}
 use mathlib.Core.List.{List}
-use native.Mathlib.Omega.{arith}
 use lib.ListN.{length, getD}
-use lib.Dec.{ltb, eqb}
-use borrow.Author.Tests.{lt-leb, le-ltb, eq-eqb, ne-eqb, ltb-false}
-use Rattle.words.specs.Limits.{maxBookings}
 use Rattle.words.specs.Reading.{Reading, accepted, then, mapped}
-use Rattle.words.proofs.Readings.{passed, then-accepted}
+use Rattle.words.proofs.Bools.{never-both, is-false}
+use Rattle.words.proofs.Readings.{then-accepted}
 use Rattle.template.specs.Template.{Template, readTemplate}
 use Rattle.template.proofs.RoundTrip.{templates-are}
 use Rattle.script.specs.Script.{ScriptCounts, countsOf, readScript}
@@ -21,11 +20,14 @@ use Rattle.script.proofs.RoundTrip.{scripts-are}
 use Rattle.sheet.specs.Sheet.{Sheet, size, sheetOf, readSheet}
 use Rattle.sheet.specs.Opened.{templateAs}
 use Rattle.sheet.proofs.Accepted.{SheetAccepted, mapped-accepted, sheet-asked, sheet-made}
-use Rattle.bookings.specs.Bookings.{cardAt, shapeAt, readPairs, readBookings}
-use Rattle.bookings.proofs.Accepted.{bookings-size, bookings-in}
-use Rattle.typing.specs.Calls.{withBookings, withGrid, largestReading, smallestReading, Grids, bothReading}
-use Rattle.typing.proofs.Booked.{grid-asked, grid-taken}
-use Rattle.demands.specs.Demands.{Formed, BookingsFormed}
+use Rattle.bookings.specs.Bookings.{readList, readBookings, readStored}
+use Rattle.bookings.proofs.Repeats.{repeated-exact}
+use Rattle.bookings.proofs.Accepted.{list-exact, listed-exact}
+use Rattle.typing.specs.Calls.{withList, withBookings, withStored, withGrid, largestReading, smallestReading}
+use Rattle.typing.specs.Calls.{Grids, bothReading}
+use Rattle.typing.specs.Tidy.{tidyReading}
+use Rattle.typing.proofs.Booked.{grid-asked, grid-taken, buffer-asked, buffer-taken}
+use Rattle.demands.specs.Demands.{Formed, StoredFormed, BookingsFormed}
 
 module _ (words list : List ℕ) (s : Sheet) where
   sheet-formed : readSheet words list ≡ accepted s → Formed words list s
@@ -78,45 +80,41 @@ module _ (words list : List ℕ) (s : Sheet) where
   sheets-are = (sheet-formed, formed-sheet)
 
 module _ (cards shapes : ℕ) (list : List ℕ) where
+  stored-formed : (n : ℕ) → readStored cards shapes list ≡ accepted n → StoredFormed cards shapes list
+  stored-formed n e =
+      let fine = list-exact false cards shapes list n .0 e .0 in
+      record { few = fine .few; size = fine .size; card-in = fine .card-in; shape-in = fine .shape-in }
+
+  formed-stored : StoredFormed cards shapes list → readStored cards shapes list ≡ accepted (getD list 0 0)
+  formed-stored f = list-exact false cards shapes list (getD list 0 0) .1 (
+    record {
+      few = f .few;
+      size = f .size;
+      card-in = f .card-in;
+      shape-in = f .shape-in;
+      new = λ i l. refl;
+    },
+    refl,
+  )
+
+  pub stored-are : ((n : ℕ) × (readStored cards shapes list ≡ accepted n)) ↔ StoredFormed cards shapes list
+  stored-are = (λ h. stored-formed (h .0) (h .1), λ f. (getD list 0 0, formed-stored f))
+
   bookings-formed : (n : ℕ) → readBookings cards shapes list ≡ accepted n → BookingsFormed cards shapes list
-  unfolding readBookings
   bookings-formed n e =
-      let (some, e1) = passed 30 0 (eqb (length list) 0) _ n e in
-      let (few, e2) = passed 31 0 (ltb maxBookings (getD list 0 0)) _ n e1 in
+      let (stored, new) = listed-exact cards shapes list n .0 e in
       record {
-        few = ltb-false maxBookings (getD list 0 0) few;
-        size = bookings-size cards shapes list n e;
-        card-in = λ i l. inside i l .0;
-        shape-in = λ i l. inside i l .1;
+        stored = stored-formed n stored;
+        once = λ j i l li card shape. never-both (repeated-exact list i .1 (j, l, (card, shape))) (new i li);
       }
-    where
-      inside : (i : ℕ) → i < getD list 0 0 → (cardAt list i < cards) × (shapeAt list i < shapes)
-      inside i l = bookings-in cards shapes list n e (cardAt list i) (shapeAt list i)
-          (record { booking = i; listed = l; card = refl; shape = refl })
 
-  -- where each booking is of a card and a shape that there are, the tests find no fault
-  pairs-pass : (n i : ℕ) (done : Reading ℕ)
-      → ((k : ℕ) → i ≤ k → k < i + n → (cardAt list k < cards) × (shapeAt list k < shapes))
-      → readPairs cards shapes list n i done ≡ done
-  unfolding readPairs
-  pairs-pass zero i done each = refl
-  pairs-pass (suc n) i done each =
-      let (c, t) = each i (omega arith) (omega arith) in
-      rw (lt-leb cards (cardAt list i) c, lt-leb shapes (shapeAt list i) t)
-      (pairs-pass n (suc i) done (λ k a b. each k (omega arith) (omega arith)))
-
-  formed-bookings : BookingsFormed cards shapes list
-      → readBookings cards shapes list ≡ accepted (getD list 0 0)
-  unfolding readBookings
-  formed-bookings f =
-      let some : length list ≡ 0 → ⊥ = λ z. omega (arith, f .size) in
-      rw (
-        ne-eqb (length list) 0 some,
-        le-ltb maxBookings (getD list 0 0) (f .few),
-        eq-eqb (length list) (1 + 2 * getD list 0 0) (f .size),
-      )
-      (pairs-pass (getD list 0 0) 0 (accepted (getD list 0 0)) (λ k a b.
-      (f .card-in k (omega arith), f .shape-in k (omega arith))))
+  formed-bookings : BookingsFormed cards shapes list → readBookings cards shapes list ≡ accepted (getD list 0 0)
+  formed-bookings f = listed-exact cards shapes list (getD list 0 0) .1 (
+    formed-stored (f .stored),
+    λ i li. is-false (λ e.
+        let (j, l, (card, shape)) = repeated-exact list i .0 e in
+        f .once j i l li card shape),
+  )
 
   pub bookings-are : ((n : ℕ) × (readBookings cards shapes list ≡ accepted n)) ↔ BookingsFormed cards shapes list
   bookings-are = (λ h. bookings-formed (h .0) (h .1), λ f. (getD list 0 0, formed-bookings f))
@@ -126,16 +124,20 @@ grid-takes : (grid : List ℕ) (r : Reading Sheet) (s : Sheet)
     → (then r (withGrid grid) ≡ accepted s) ↔ ((r ≡ accepted s) × (length grid ≡ size s))
 grid-takes grid r s = (grid-asked grid r s, λ h. grid-taken grid r s (h .0) (h .1))
 
-listed-takes : (words list booked : List ℕ) (s : Sheet)
-    → (then (readSheet words list) (withBookings booked) ≡ accepted s)
-    ↔ (Formed words list s × BookingsFormed (s .cards) (s .shapes) booked)
-listed-takes words list booked s = (
+-- a list by either rule, from which lists that takes
+listed-takes : (strict : Bool) (ListFormed : ℕ → ℕ → Type 0) (words list booked : List ℕ)
+    → ((cards shapes : ℕ) → ((n : ℕ) × (readList strict cards shapes booked ≡ accepted n)) ↔ ListFormed cards shapes)
+    → (s : Sheet) → (then (readSheet words list) (withList strict booked) ≡ accepted s)
+    ↔ (Formed words list s × ListFormed (s .cards) (s .shapes))
+listed-takes strict ListFormed words list booked are s = (
   λ e.
-      let (q, read, rest) = then-accepted (readSheet words list) (withBookings booked) s e in
-      let (n, listed, same) = mapped-accepted (λ n. q) (readBookings (q .cards) (q .shapes) booked) s rest in
-      subst (λ (x : Sheet). Formed words list x × BookingsFormed (x .cards) (x .shapes) booked) same
-      (sheet-formed words list q read, bookings-formed (q .cards) (q .shapes) booked n listed),
-  λ h. rw (formed-sheet words list s (h .0), formed-bookings (s .cards) (s .shapes) booked (h .1)) refl,
+      let (q, read, rest) = then-accepted (readSheet words list) (withList strict booked) s e in
+      let (n, listed, same) = mapped-accepted (λ n. q) (readList strict (q .cards) (q .shapes) booked) s rest in
+      subst (λ (x : Sheet). Formed words list x × ListFormed (x .cards) (x .shapes)) same
+      (sheet-formed words list q read, are (q .cards) (q .shapes) .0 (n, listed)),
+  λ h.
+      let (n, listed) = are (s .cards) (s .shapes) .1 (h .1) in
+      rw (formed-sheet words list s (h .0), listed) refl,
 )
 
 module _ (words list : List ℕ) where
@@ -151,7 +153,8 @@ module _ (words list : List ℕ) where
       ↔ (Formed words list s × BookingsFormed (s .cards) (s .shapes) booked × (length grid ≡ size s))
   smallest-taken booked grid s =
       let g = grid-takes grid (then (readSheet words list) (withBookings booked)) s in
-      let b = listed-takes words list booked s in (
+      let b = listed-takes true (λ cards shapes. BookingsFormed cards shapes booked) words list booked
+      (λ cards shapes. bookings-are cards shapes booked) s in (
         λ e. let (f, l) = b .0 (g .0 e .0) in (f, l, g .0 e .1),
         λ h. g .1 (b .1 (h .0, h .1), h .2),
       )
@@ -164,4 +167,17 @@ module _ (words list : List ℕ) where
       let b = smallest-taken booked (grids .small) s in (
         λ e. let (f, l, m) = b .0 (g .0 e .0) in (f, l, m, g .0 e .1),
         λ h. g .1 (b .1 (h .0, h .1, h .2), h .3),
+      )
+
+  pub tidy-taken : (booked out : List ℕ) (s : Sheet) → (tidyReading words list booked out ≡ accepted s)
+      ↔ (Formed words list s × StoredFormed (s .cards) (s .shapes) booked × (length out ≡ length booked))
+  tidy-taken booked out s =
+      let listed = then (readSheet words list) (withStored booked) in
+      let b = listed-takes false (λ cards shapes. StoredFormed cards shapes booked) words list booked
+      (λ cards shapes. stored-are cards shapes booked) s in (
+        λ e.
+            let (read, long) = buffer-asked booked out listed s e in
+            let (f, l) = b .0 read in
+            (f, l, long),
+        λ h. buffer-taken booked out listed s (b .1 (h .0, h .1)) (h .2),
       )

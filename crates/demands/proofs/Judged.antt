@@ -16,7 +16,7 @@ use Rattle.words.specs.Reading.{Reading, accepted}
 use Rattle.words.proofs.Bools.{never-both, false-true}
 use Rattle.script.specs.Link.{fromAt, kindAt, toAt}
 use Rattle.sheet.specs.Sheet.{Sheet, place}
-use Rattle.bookings.specs.Bookings.{cardAt, shapeAt, readPairs, readBookings, Booked}
+use Rattle.bookings.specs.Bookings.{cardAt, shapeAt, readPairs, readList, Booked, repeated, bookedBefore}
 use Rattle.board.specs.Grid.{on, bit, tally}
 use Rattle.board.specs.Machine.{all}
 use Rattle.typing.specs.Needs.{endTest, linkTest, metTest}
@@ -25,7 +25,7 @@ use Rattle.typing.specs.Calls.{smallestReading}
 use Rattle.typing.specs.Judge.{Verdict, over, unmet, unheld, passes, verdictSaid, Judged, JudgeAnswered, JudgeSays}
 use Rattle.demands.specs.Worked.{template, script, metBookings, unmetBookings, lastShape, noShapes}
 use Rattle.demands.specs.Judged.{overGrid, unmetGrid, AllAllowed, judgements}
-use Rattle.demands.proofs.Worked.{worked, worked-read, below-two, below-six, each-pair, board, stands}
+use Rattle.demands.proofs.Worked.{worked, worked-read, below-six, each-pair, board, stands}
 use Rattle.demands.proofs.Worked.{largest-found, met-asked, unmet-asked}
 
 -- ---- a right verdict may be said
@@ -65,10 +65,7 @@ below-one : (P : ℕ → Type 0) → P 0 → (k : ℕ) → k < 1 → P k
 below-one P a zero l = a
 below-one P a (suc k) l = absurd (omega arith)
 
--- The same pair twice; two pairs; none.
-abbrev twice : List ℕ
-twice = 2 ∷ 2 ∷ 1 ∷ 2 ∷ 1 ∷ []
-
+-- Two pairs; none.
 abbrev pair-after : List ℕ
 pair-after = 2 ∷ 2 ∷ 1 ∷ 0 ∷ 0 ∷ []
 
@@ -83,22 +80,15 @@ accepted-sample = judge-worked metBookings lastShape passes (met-asked lastShape
   holds = held-each metBookings lastShape (below-one _ refl);
 })
 
-twice-sample : JudgeSays template script twice lastShape (values [])
-unfolding readBookings readPairs on cardAt shapeAt
-twice-sample = judge-worked twice lastShape passes (rw worked-read refl) (record {
-  sound = last-shape-sound;
-  holds = held-each twice lastShape (below-two _ refl refl);
-})
-
 empty-sample : JudgeSays template script none-booked noShapes (values [])
-unfolding readBookings readPairs
+unfolding readList readPairs repeated bookedBefore
 empty-sample = judge-worked none-booked noShapes passes (rw worked-read refl) (record {
   sound = no-shapes-sound;
   holds = held-each none-booked noShapes (λ i l. absurd (omega arith));
 })
 
 five-sample : JudgeSays template script metBookings (0 ∷ 0 ∷ 0 ∷ 0 ∷ 0 ∷ []) (refusal 40 (0 ∷ []))
-unfolding readBookings readPairs cardAt shapeAt
+unfolding readList readPairs repeated bookedBefore cardAt shapeAt
 five-sample = rw worked-read refl
 
 over-sample : JudgeSays template script metBookings overGrid (refusal 61 (1 ∷ []))
@@ -144,7 +134,7 @@ unheld-sample = judge-worked unmetBookings lastShape (unheld 0) (unmet-asked las
 })
 
 second-sample : JudgeSays template script pair-after lastShape (refusal 63 (3 ∷ []))
-unfolding readBookings readPairs on cardAt shapeAt
+unfolding readList readPairs repeated bookedBefore on cardAt shapeAt
 second-sample = judge-worked pair-after lastShape (unheld 1) (rw worked-read refl) (record {
   sound = last-shape-sound;
   listed = omega arith;
@@ -153,8 +143,12 @@ second-sample = judge-worked pair-after lastShape (unheld 1) (rw worked-read ref
 })
 
 card-sample : JudgeSays template script (1 ∷ 3 ∷ 1 ∷ []) lastShape (refusal 32 (1 ∷ []))
-unfolding readBookings readPairs cardAt shapeAt
+unfolding readList readPairs repeated bookedBefore cardAt shapeAt
 card-sample = rw worked-read refl
+
+twice-sample : JudgeSays template script (2 ∷ 2 ∷ 1 ∷ 2 ∷ 1 ∷ []) lastShape (refusal 65 (3 ∷ []))
+unfolding readList readPairs repeated bookedBefore cardAt shapeAt
+twice-sample = rw worked-read refl
 
 -- One row of a table, and then the others.
 infixr 5 _&_
@@ -163,5 +157,5 @@ _&_ a b = (a, b)
 
 pub samples-judged : AllAllowed judgements
 samples-judged =
-    accepted-sample & twice-sample & empty-sample & five-sample & over-sample & unmet-sample & unheld-sample
-    & second-sample & card-sample & tt
+    accepted-sample & empty-sample & five-sample & over-sample & unmet-sample & unheld-sample & second-sample
+    & card-sample & twice-sample & tt

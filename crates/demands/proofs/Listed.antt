@@ -1,6 +1,8 @@
--- A refusal that an operation's contract allows is one of a listed number, and changes no grid but for 50.
+-- A refusal that an operation's contract allows is one of a listed number, and changes no grid but for 50, and no
+-- buffer.
 --   no-values                                    a refusal is no value
---   said-listed, fit-refused, largest-refused, smallest-refused, both-refused   from the numbers of the readings
+--   said-listed, fit-refused, largest-refused, smallest-refused, both-refused, tidy-refused   from the numbers of the
+--                                                readings
 --   script-numbered                              the numbers that a script with its template is refused with
 -- Assumes nothing.
 use Prim.Native.Nat.{ℕ}
@@ -21,6 +23,7 @@ use Rattle.counts.specs.Fit.{Question, Answers}
 use Rattle.typing.specs.Demand3.{Outcome, pairs, notMet}
 use Rattle.typing.specs.Answer.{BothSaid}
 use Rattle.typing.specs.Calls.{Grids, Leaves, outcomeSaid, LargestAnswered, SmallestAnswered, BothAnswered}
+use Rattle.typing.specs.Tidy.{TidyAnswered}
 use Rattle.demands.specs.Demands.{ScriptListed}
 
 pub no-values : {B : Type 0} {xs at : List ℕ} {number : ℕ} → refusal number at ≡ values xs → B
@@ -37,6 +40,12 @@ module _ (Number : ℕ → Type 0) where
       → LargestAnswered r before after (refusal number at) → Number number × (after ≡ before)
   largest-refused (accepted s) h before after number at x = no-values (x .says)
   largest-refused (turnedDown n p) h before after number at x =
+      (subst Number (sym (refusal-number (x .0))) h, x .1)
+
+  pub tidy-refused : (r : Reading Sheet) → Numbered Number r → (bookings before after : List ℕ) (number : ℕ)
+      (at : List ℕ) → TidyAnswered r bookings before after (refusal number at) → Number number × (after ≡ before)
+  tidy-refused (accepted s) h bookings before after number at x = no-values (x .says)
+  tidy-refused (turnedDown n p) h bookings before after number at x =
       (subst Number (sym (refusal-number (x .0))) h, x .1)
 
   pub fit-refused : (r : Reading Question) → Numbered Number r → (number : ℕ) (at : List ℕ)

@@ -7,7 +7,7 @@ use mathlib.Core.Path.{_≡_, refl, sym, ap, ap₂, _∙_, subst}
 use mathlib.Core.List.{List, _++_}
 use native.Mathlib.Omega.{arith}
 use Rattle.words.specs.Reading.{accepted, then}
-use Rattle.bookings.specs.Bookings.{readBookings, Booked, readPairs, cardAt, shapeAt}
+use Rattle.bookings.specs.Bookings.{readList, Booked, readPairs, cardAt, shapeAt, repeated, bookedBefore}
 use Rattle.sheet.specs.Sheet.{readSheet}
 use Rattle.input.specs.Input.{inputOf, readInput, wordAt, wordsFrom, sectionEnd, sectionWords, scriptStart}
 use Rattle.input.specs.Input.{bookingsStart, inputEnd}
@@ -36,11 +36,11 @@ unmet-input = refl
 
 -- The sheet is asked of its bookings.
 met-listed : then (readSheet template script) (withBookings metBookings) ≡ accepted worked
-unfolding readBookings readPairs cardAt shapeAt
+unfolding readList readPairs repeated bookedBefore cardAt shapeAt
 met-listed = rw worked-read refl
 
 unmet-listed : then (readSheet template script) (withBookings unmetBookings) ≡ accepted worked
-unfolding readBookings readPairs cardAt shapeAt
+unfolding readList readPairs repeated bookedBefore cardAt shapeAt
 unmet-listed = rw worked-read refl
 
 -- What is said of an outcome tells the outcome.

@@ -13,7 +13,7 @@ use Rattle.script.specs.Link.{fromAt, kindAt, toAt, above, greater}
 use Rattle.script.specs.Script.{readLinks, readScript, scriptSays}
 use Rattle.counts.specs.Fit.{firstOver, fitQuestion}
 use Rattle.sheet.specs.Sheet.{readSheet}
-use Rattle.bookings.specs.Bookings.{cardAt, shapeAt, readPairs, readBookings}
+use Rattle.bookings.specs.Bookings.{cardAt, shapeAt, readPairs, readList, repeated, bookedBefore}
 use Rattle.input.specs.Input.{wordAt, sectionEnd, scriptStart, bookingsStart, inputEnd, readInput}
 use Rattle.demands.specs.Worked.{lastShape}
 use Rattle.typing.specs.Judge.{over, JudgeSays}
@@ -27,7 +27,7 @@ all-listed = refl
 -- The byte of one card and one shape is 2.
 over-alone : JudgeSays plain alone (0 ∷ []) (2 ∷ []) (refusal 61 (0 ∷ []))
 unfolding readSheet readTemplate openAt partAt readShape readShapes readPart readRun readLink readScript readLinks
-    fromAt kindAt toAt above greater readBookings readPairs
+    fromAt kindAt toAt above greater readList readPairs repeated bookedBefore
 over-alone = record {
   verdict = over 0;
   says = refl;
@@ -36,19 +36,19 @@ over-alone = record {
 
 pub every-number-happens : AllGet refusals
 unfolding readTemplate openAt partAt readShape readShapes readPart readRun readLink templateSays readScript readLinks
-    fromAt kindAt toAt above greater scriptSays firstOver fitQuestion readSheet cardAt shapeAt readPairs readBookings
-    wordAt sectionEnd scriptStart bookingsStart inputEnd readInput
+    fromAt kindAt toAt above greater scriptSays firstOver fitQuestion readSheet cardAt shapeAt readPairs readList
+    repeated bookedBefore wordAt sectionEnd scriptStart bookingsStart inputEnd readInput
 every-number-happens =
     refl & refl & refl & refl & refl & refl & refl & refl & refl & refl & refl & refl & refl & refl & refl &
     refl & refl & refl & (refl, refl) & (refl, refl) & (refl, refl) & (refl, refl) & (refl, refl) & refl & refl
     & refl & worked-not-met lastShape refl & refl & over-alone & unmet-sample & unheld-sample
-    & refl & tt
+    & refl & (refl, refl) & tt
 
 pub other-faults-happen : AllGet others
 unfolding readTemplate openAt partAt readShape readShapes readPart readRun readLink templateSays readScript readLinks
-    fromAt kindAt toAt above greater scriptSays firstOver fitQuestion readSheet cardAt shapeAt readPairs readBookings
-    wordAt sectionEnd scriptStart bookingsStart inputEnd readInput
+    fromAt kindAt toAt above greater scriptSays firstOver fitQuestion readSheet cardAt shapeAt readPairs readList
+    repeated bookedBefore wordAt sectionEnd scriptStart bookingsStart inputEnd readInput
 other-faults-happen =
     refl & refl & refl & refl & refl & refl & refl & refl & refl & refl & refl & refl & refl & refl & refl & refl &
-    refl & refl & refl & refl & refl & refl & (refl, refl) & (refl, refl) & refl & refl & refl & refl & refl & refl
-    & refl & tt
+    refl & refl & refl & refl & refl & refl & (refl, refl) & (refl, refl) & refl & (refl, refl) & refl & refl & refl
+    & refl & refl & refl & refl & tt

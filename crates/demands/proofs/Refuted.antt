@@ -31,7 +31,7 @@ use Rattle.board.specs.Grid.{on}
 use Rattle.board.proofs.Tally.{tally-none}
 use Rattle.template.specs.Reading.{readLink, readRun, readPart}
 use Rattle.template.specs.Template.{openAt, partAt, readShape, readShapes, readTemplate, templateSays}
-use Rattle.bookings.specs.Bookings.{readBookings}
+use Rattle.bookings.specs.Bookings.{readList}
 use Rattle.script.specs.Link.{linked}
 use Rattle.script.specs.Script.{linksStart}
 use Rattle.script.proofs.Answers.{LinksPart}
@@ -146,7 +146,7 @@ refusal-changes before after said five changed x = changed (five-refused before 
 
 -- An empty list of bookings and a grid of a wrong size, here of five bytes: 30 is said, so 40 is not allowed.
 pub list-first : (before : List ℕ) → SmallestSays template script [] before before (refusal 30 (0 ∷ []))
-unfolding readBookings
+unfolding readList
 list-first before = rw worked-read (refl, refl)
 
 pub size-first : (before after : List ℕ) → SmallestSays template script [] before after (refusal 40 (0 ∷ [])) → ⊥

@@ -43,7 +43,7 @@ use Rattle.board.specs.Board.{Board}
 use Rattle.board.proofs.Tally.{all-at}
 use Rattle.board.proofs.Rounds.{after, Last, Noisy, struck}
 use Rattle.typing.specs.Needs.{endTest, linkTest, metTest, boardOf}
-use Rattle.bookings.specs.Bookings.{cardAt, shapeAt, readPairs, readBookings, Booked}
+use Rattle.bookings.specs.Bookings.{cardAt, shapeAt, readPairs, readList, Booked, repeated, bookedBefore}
 use Rattle.typing.specs.Typing.{Pairs, Has, Met, Typing}
 use Rattle.typing.specs.Largest.{Largest, bare, bareCards}
 use Rattle.typing.specs.Smallest.{Closure, booked, follow, IsClosure}
@@ -376,12 +376,12 @@ not-met-found = record {
 
 pub met-asked : (before : List ℕ) → length before ≡ 6
     → smallestReading template script metBookings before ≡ accepted worked
-unfolding readBookings readPairs cardAt shapeAt
+unfolding readList readPairs repeated bookedBefore cardAt shapeAt
 met-asked before l = rw (worked-read, l) refl
 
 pub unmet-asked : (before : List ℕ) → length before ≡ 6
     → smallestReading template script unmetBookings before ≡ accepted worked
-unfolding readBookings readPairs cardAt shapeAt
+unfolding readList readPairs repeated bookedBefore cardAt shapeAt
 unmet-asked before l = rw (worked-read, l) refl
 
 -- The right answers of "Smallest" are allowed.

@@ -6,11 +6,15 @@
 -- From the crates below, each defined there in a few lines:
 --   Said                  what is said: values, or a refusal with its number and its place
 --   Reading               accepted with what was read, or turnedDown with a refusal's number and place
---   readTemplate, readWith, readSheet, readBookings, fitQuestion, readInput, largestReading, smallestReading,
---   bothReading           the tests of docs/FORMAT.md in their order, a line each: the first that finds a fault turns
---                         down. readWith is of a script with its template, readSheet of both, the last three of a call
---   templateSays, scriptSays, FitSays, LargestSays, SmallestSays, BothSays, JudgeSays   what each operation may say and
---                         write; the judge of grids reads as the call for the smallest does, and writes nothing
+--   readTemplate, readWith, readSheet, readBookings, readStored, fitQuestion, readInput, largestReading,
+--   smallestReading, bothReading, tidyReading   the tests of docs/FORMAT.md in their order, a line each: the first that
+--                         finds a fault turns down. readWith is of a script with its template, readSheet of both,
+--                         readStored of a list in which pairs may stand several times, the last four of a call
+--   templateSays, scriptSays, FitSays, LargestSays, SmallestSays, BothSays, JudgeSays, TidySays   what each operation
+--                         may say and write; the judge of grids reads as the call for the smallest does, and writes
+--                         nothing
+--   tidied, StoredSmallestSays   a list with the first booking of each pair alone; what the call for the smallest would
+--                         say and write if it took lists in which pairs stand several times
 --   Template, Sheet       what is read of a template; of a template and a script. opens: whether a shape is open.
 --                         partOf: the part of a shape. neighboursOf: the labels and far cards of a card's links, from
 --                         either end, that a shape looks at. size: how many pairs there are
@@ -31,19 +35,21 @@
 --
 -- Here:
 --   FormedTemplate, Formed, BookingsFormed   a well-formed template; with a script; a well-formed list of bookings
+--   StoredFormed                        a list that is well-formed but for pairs that stand in it several times
 --   TemplateListed .. PrinterListed     the numbers that an operation's refusals have
 --   TurnedDown                          the bookings cannot be met: 50
 --   FirstDemand                         faults get their refusals, and nothing else is refused
 --   Neighbourhood, RuleTwo, Belong, SecondDemand   the bag language and sound typings are the paper's
 --   LargestTyping, TwoTypings, ThirdDemand   the largest typing, and with it the smallest
 --   JudgedGrids                         grids of other makers, which are judged
+--   TidiedLists                         lists stored before, which are tidied
 -- Assumes nothing.
 use Prim.Native.Nat.{ℕ, _+_, _*_, _≤_, _<_}
 use mathlib.Core.Path.{_≡_}
 use mathlib.Core.Logic.{_⊎_, _↔_}
 use mathlib.Core.Bool.{true, false}
 use mathlib.Core.List.{List, [], _∷_}
-use lib.ListN.{length, getD, replicate}
+use lib.ListN.{length, getD, take, drop, replicate}
 use Rattle.words.specs.Limits.{maxCount, maxBookings}
 use Rattle.words.specs.Said.{Said, values, refusal}
 use Rattle.words.specs.Reading.{accepted, turnedDown}
@@ -58,7 +64,8 @@ use Rattle.script.specs.Counts.{cardCounts}
 use Rattle.script.specs.Script.{readWith, scriptSays}
 use Rattle.script.specs.Writer as scripts
 use Rattle.sheet.specs.Sheet.{Sheet, partOf, opensOf, neighboursOf, place, size, readSheet}
-use Rattle.bookings.specs.Bookings.{cardAt, shapeAt, readBookings, Booked}
+use Rattle.bookings.specs.Bookings.{cardAt, shapeAt, readBookings, readStored, Booked}
+use Rattle.bookings.specs.Tidied.{tidied}
 use Rattle.counts.specs.Fit.{fitQuestion, FitSays}
 use Rattle.board.specs.Grid.{on, tally}
 use Rattle.typing.specs.Typing.{Pairs, Has, Below, Holds, Typing, SoundTyping}
@@ -68,6 +75,7 @@ use Rattle.typing.specs.Answer.{BothSaid}
 use Rattle.typing.specs.Calls.{Grids, largestReading, smallestReading, bothReading, LargestSays, SmallestSays}
 use Rattle.typing.specs.Calls.{BothSays}
 use Rattle.typing.specs.Judge.{JudgeSays}
+use Rattle.typing.specs.Tidy.{tidyReading, TidySays, StoredSmallestSays}
 use Rattle.input.specs.Input.{Input, readInput}
 use Rattle.input.specs.Writer.{writeInput, InputFormed, Bytes}
 
@@ -93,12 +101,19 @@ pub record Formed (template script : List ℕ) (s : Sheet) : Type 0 where
   pub template-words : s .template ≡ template
   pub script-words : s .script ≡ script
 
--- The words are a list of bookings within all limits: at most 1,024, each of a card and a shape that there are.
-pub record BookingsFormed (cards shapes : ℕ) (bookings : List ℕ) : Type 0 where
+-- The words are a list of bookings within all limits, in which pairs may stand several times: at most 1,024 bookings,
+-- each of a card and a shape that there are.
+pub record StoredFormed (cards shapes : ℕ) (bookings : List ℕ) : Type 0 where
   pub few : getD bookings 0 0 ≤ maxBookings
   pub size : length bookings ≡ 1 + 2 * getD bookings 0 0
   pub card-in : (i : ℕ) → i < getD bookings 0 0 → cardAt bookings i < cards
   pub shape-in : (i : ℕ) → i < getD bookings 0 0 → shapeAt bookings i < shapes
+
+-- And no pair stands twice.
+pub record BookingsFormed (cards shapes : ℕ) (bookings : List ℕ) : Type 0 where
+  pub stored : StoredFormed cards shapes bookings
+  pub once : (j i : ℕ) → j < i → i < getD bookings 0 0 → cardAt bookings j ≡ cardAt bookings i
+      → shapeAt bookings j ≡ shapeAt bookings i → ⊥
 
 -- ================ the numbers of the refusals
 -- A number from low to high.
@@ -121,9 +136,13 @@ FitListed n = TemplateListed n ⊎ FromTo 41 43 n
 abbrev pub LargestListed : ℕ → Type 0
 LargestListed n = ScriptListed n ⊎ (n ≡ 40)
 
--- "Smallest" and "Both": these, and 30 to 33; 50 stands apart.
+-- "Smallest" and "Both": these, 30 to 33, and 65; 50 stands apart.
 abbrev pub SmallestListed : ℕ → Type 0
-SmallestListed n = LargestListed n ⊎ FromTo 30 33 n
+SmallestListed n = LargestListed n ⊎ FromTo 30 33 n ⊎ (n ≡ 65)
+
+-- "Tidy": those of the script, 40, and 30 to 33.
+abbrev pub TidyListed : ℕ → Type 0
+TidyListed n = LargestListed n ⊎ FromTo 30 33 n
 
 -- "Judge": those of the smallest, and 61 to 63.
 abbrev pub JudgeListed : ℕ → Type 0
@@ -151,6 +170,8 @@ pub record FirstDemand : Type 0 where
   -- with bookings exactly if these are too,
   pub bookings-exact : (cards shapes : ℕ) (bookings : List ℕ)
       → ((n : ℕ) × (readBookings cards shapes bookings ≡ accepted n)) ↔ BookingsFormed cards shapes bookings
+  pub stored-exact : (cards shapes : ℕ) (bookings : List ℕ)
+      → ((n : ℕ) × (readStored cards shapes bookings ≡ accepted n)) ↔ StoredFormed cards shapes bookings
   -- and with a grid, or two, exactly if each has a byte for each pair
   pub largest-takes : (template script grid : List ℕ) (s : Sheet)
       → (largestReading template script grid ≡ accepted s) ↔ (Formed template script s × (length grid ≡ size s))
@@ -161,11 +182,15 @@ pub record FirstDemand : Type 0 where
       → (bothReading template script bookings grids ≡ accepted s)
       ↔ (Formed template script s × BookingsFormed (s .cards) (s .shapes) bookings
       × (length (grids .small) ≡ size s) × (length (grids .large) ≡ size s))
+  -- a list is tidied exactly if it is well-formed but for repeats, and the buffer has as many words
+  pub tidy-takes : (template script bookings out : List ℕ) (s : Sheet)
+      → (tidyReading template script bookings out ≡ accepted s)
+      ↔ (Formed template script s × StoredFormed (s .cards) (s .shapes) bookings × (length out ≡ length bookings))
   -- the printer's bytes are taken exactly if they are those of three lists of words, with their counts, that are within
   -- the limits
   pub input-exact : (bytes : List ℕ) → Bytes bytes → (i : Input)
       → (readInput bytes ≡ accepted i) ↔ (InputFormed i × (bytes ≡ writeInput i))
-  -- ---- the first fault is said, and no grid changes
+  -- ---- the first fault is said, and no grid and no buffer changes
   pub template-first : (template : List ℕ) (number at : ℕ) → readTemplate template ≡ turnedDown number at
       → templateSays template ≡ refusal number (at ∷ [])
   pub script-first : (template script : List ℕ) (number at : ℕ) → readWith template script ≡ turnedDown number at
@@ -184,6 +209,10 @@ pub record FirstDemand : Type 0 where
   pub judge-first : (template script bookings grid : List ℕ) (said : Said) (number at : ℕ)
       → smallestReading template script bookings grid ≡ turnedDown number at
       → JudgeSays template script bookings grid said → said ≡ refusal number (at ∷ [])
+  pub tidy-first : (template script bookings before after : List ℕ) (said : Said) (number at : ℕ)
+      → tidyReading template script bookings before ≡ turnedDown number at
+      → TidySays template script bookings before after said
+      → (said ≡ refusal number (at ∷ [])) × (after ≡ before)
   pub fit-first : (template : List ℕ) (shape : ℕ) (counts : List ℕ) (said : Said) (number at : ℕ)
       → fitQuestion template shape counts ≡ turnedDown number at → FitSays template shape counts said
       → said ≡ refusal number (at ∷ [])
@@ -199,7 +228,10 @@ pub record FirstDemand : Type 0 where
       → Formed template script s → BookingsFormed (s .cards) (s .shapes) bookings → length grid ≡ size s
       → JudgeSays template script bookings grid said
       → (said ≡ values []) ⊎ ((number : ℕ) × (at : List ℕ) × FromTo 61 63 number × (said ≡ refusal number at))
-  -- ---- a refusal is a listed one, and but for 50 no grid changes
+  pub tidy-accepts : (template script bookings before after : List ℕ) (said : Said) (s : Sheet)
+      → Formed template script s → StoredFormed (s .cards) (s .shapes) bookings → length before ≡ length bookings
+      → TidySays template script bookings before after said → (words : ℕ) × (said ≡ values (words ∷ []))
+  -- ---- a refusal is a listed one, and but for 50 no grid and no buffer changes
   pub template-listed : (template : List ℕ) (number : ℕ) (at : List ℕ) → templateSays template ≡ refusal number at
       → TemplateListed number
   pub script-listed : (template script : List ℕ) (number : ℕ) (at : List ℕ)
@@ -220,6 +252,8 @@ pub record FirstDemand : Type 0 where
       ⊎ ((number ≡ 50) × (after .small ≡ replicate (length (before .small)) 0)))
   pub judge-listed : (template script bookings grid : List ℕ) (number : ℕ) (at : List ℕ)
       → JudgeSays template script bookings grid (refusal number at) → JudgeListed number
+  pub tidy-listed : (template script bookings before after : List ℕ) (number : ℕ) (at : List ℕ)
+      → TidySays template script bookings before after (refusal number at) → TidyListed number × (after ≡ before)
   pub printer-listed : (bytes : List ℕ) (number at : ℕ) → readInput bytes ≡ turnedDown number at → PrinterListed number
 
 -- ================ the second demand
@@ -351,3 +385,32 @@ pub record JudgedGrids (template script bookings : List ℕ) (s : Sheet) : Type 
 abbrev pub JudgeDemand : Type 0
 JudgeDemand = (template script bookings : List ℕ) (s : Sheet) → Formed template script s
     → BookingsFormed (s .cards) (s .shapes) bookings → JudgedGrids template script bookings s
+
+-- ================ lists stored before
+-- The tidying pass, for every well-formed template and script, every list of bookings that is well-formed but for
+-- repeats, and a buffer of its length whatever the words were; so many words are said to be written:
+pub record TidiedLists (template script bookings : List ℕ) (s : Sheet) (before after : List ℕ) (words : ℕ)
+    : Type 0 where
+  -- these words, at the buffer's start, are a list that every call takes,
+  pub formed : BookingsFormed (s .cards) (s .shapes) (take words after)
+  -- of the first booking of each pair, in the order in which they stood,
+  pub firsts : take words after ≡ tidied bookings
+  -- and the buffer's rest is as it was
+  pub rest : drop words after ≡ drop words before
+  -- it books the pairs that the list books and no others, each once
+  pub booked : (n t : ℕ) → Booked (take words after) n t ↔ Booked bookings n t
+  pub counted : (X : Pairs) → ((n t : ℕ) → n < s .cards → t < s .shapes → Has s X n t ↔ Booked bookings n t)
+      → words ≡ 1 + 2 * tally X (size s)
+  -- a list in which no pair stands twice is written as it is
+  pub unchanged : BookingsFormed (s .cards) (s .shapes) bookings → (words ≡ length bookings) × (after ≡ bookings)
+  -- the smallest typing or its 50, answer and grid, is that of the list if pairs could stand in it several times
+  pub alike : (grid left : List ℕ) (said : Said)
+      → StoredSmallestSays template script bookings grid left said
+      ↔ SmallestSays template script (take words after) grid left said
+
+abbrev pub TidyDemand : Type 0
+TidyDemand = (template script bookings : List ℕ) (s : Sheet) → Formed template script s
+    → StoredFormed (s .cards) (s .shapes) bookings
+    → (before after : List ℕ) → length before ≡ length bookings
+    → (said : Said) → TidySays template script bookings before after said
+    → (words : ℕ) × (said ≡ values (words ∷ [])) × TidiedLists template script bookings s before after words

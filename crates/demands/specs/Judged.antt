@@ -33,8 +33,6 @@ abbrev pub judgements : List Sample
 judgements =
     -- both typings are this grid
     sample metBookings lastShape (values [])
-    -- the same pair is booked twice
-    ∷ sample (2 ∷ 2 ∷ 1 ∷ 2 ∷ 1 ∷ []) lastShape (values [])
     -- the empty typing is sound, and nothing is booked
     ∷ sample (0 ∷ []) noShapes (values [])
     -- five bytes for six pairs
@@ -49,4 +47,6 @@ judgements =
     ∷ sample (2 ∷ 2 ∷ 1 ∷ 0 ∷ 0 ∷ []) lastShape (refusal 63 (3 ∷ []))
     -- there is no card 3
     ∷ sample (1 ∷ 3 ∷ 1 ∷ []) lastShape (refusal 32 (1 ∷ []))
+    -- the same pair is booked twice
+    ∷ sample (2 ∷ 2 ∷ 1 ∷ 2 ∷ 1 ∷ []) lastShape (refusal 65 (3 ∷ []))
     ∷ []

@@ -1,7 +1,9 @@
 -- Demands: the three demands on one page. Refusals: an input for each refusal. Worked: a worked sheet and its
--- answers. Printed: its bytes and its text. Judged: grids of it that are judged.
+-- answers. Printed: its bytes and its text. Judged: grids of it that are judged. Repeats: bookings of it in which a
+-- pair stands twice.
 pub mod Worked
 pub mod Printed
 pub mod Judged
+pub mod Repeats
 pub mod Refusals
 pub mod Demands

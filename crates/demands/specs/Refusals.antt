@@ -18,6 +18,7 @@ use Rattle.script.specs.Script.{scriptSays}
 use Rattle.counts.specs.Fit.{FitSays}
 use Rattle.typing.specs.Calls.{LargestSays, SmallestSays}
 use Rattle.typing.specs.Judge.{JudgeSays}
+use Rattle.typing.specs.Tidy.{TidySays}
 use Rattle.input.specs.Input.{readInput}
 use Rattle.demands.specs.Worked as worked
 use Rattle.demands.specs.Judged.{unmetGrid}
@@ -36,6 +37,8 @@ pub data Asked : Type 0 where
   smallest : List ℕ → List ℕ → List ℕ → List ℕ → Asked
   -- "Judge": a template, a script, bookings and a grid
   judge : List ℕ → List ℕ → List ℕ → List ℕ → Asked
+  -- "Tidy": a template, a script, bookings and a buffer
+  tidy : List ℕ → List ℕ → List ℕ → List ℕ → Asked
   -- the printer's input
   printer : List ℕ → Asked
 
@@ -56,6 +59,7 @@ Gets (row number at (largest words list grid)) = LargestSays words list grid gri
 Gets (row number at (smallest words list bookings grid)) =
     SmallestSays words list bookings grid (afterRefusal number grid) (refusal number at)
 Gets (row number at (judge words list bookings grid)) = JudgeSays words list bookings grid (refusal number at)
+Gets (row number at (tidy words list bookings out)) = TidySays words list bookings out out (refusal number at)
 Gets (row number at (printer bytes)) = saidOf (λ input. []) (readInput bytes) ≡ refusal number at
 
 -- Every row does.
@@ -139,13 +143,15 @@ refusals =
     ∷ row 63 (1 ∷ []) (judge worked.template worked.script worked.unmetBookings worked.lastShape)
     -- the word of an open shape twice
     ∷ row 64 (4 ∷ []) (template (1 ∷ 1 ∷ 3 ∷ 18 ∷ 18 ∷ 0 ∷ []))
+    -- a pair that is booked twice
+    ∷ row 65 (3 ∷ []) (smallest plain alone (2 ∷ 0 ∷ 0 ∷ 0 ∷ 0 ∷ []) (7 ∷ []))
     ∷ []
 
 -- The numbers of docs/FORMAT.md.
 abbrev pub listed : List ℕ
 listed =
     1 ∷ 2 ∷ 3 ∷ 4 ∷ 5 ∷ 6 ∷ 7 ∷ 8 ∷ 9 ∷ 10 ∷ 11 ∷ 12 ∷ 20 ∷ 21 ∷ 22 ∷ 23 ∷ 24 ∷ 25 ∷ 30 ∷ 31 ∷ 32 ∷ 33
-    ∷ 40 ∷ 41 ∷ 42 ∷ 43 ∷ 50 ∷ 60 ∷ 61 ∷ 62 ∷ 63 ∷ 64 ∷ []
+    ∷ 40 ∷ 41 ∷ 42 ∷ 43 ∷ 50 ∷ 60 ∷ 61 ∷ 62 ∷ 63 ∷ 64 ∷ 65 ∷ []
 
 -- The numbers of some rows.
 abbrev pub numbersOf : List Row → List ℕ
@@ -207,6 +213,8 @@ others =
     ∷ row 40 (0 ∷ []) (smallest plain alone (0 ∷ []) (7 ∷ 7 ∷ []))
     -- a grid of no bytes, judged
     ∷ row 40 (0 ∷ []) (judge plain alone (0 ∷ []) [])
+    -- a buffer of two words for a list of three
+    ∷ row 40 (0 ∷ []) (tidy plain alone (1 ∷ 0 ∷ 0 ∷ []) (7 ∷ 7 ∷ []))
     -- one count where there is one kind, which leaves and arrives
     ∷ row 41 (0 ∷ []) (fit plain 0 (0 ∷ []))
     -- 8,193 arriving links
@@ -218,4 +226,6 @@ others =
     -- the word of an open shape in a star, and in a group
     ∷ row 64 (4 ∷ []) (template (1 ∷ 1 ∷ 3 ∷ 1 ∷ 18 ∷ 0 ∷ []))
     ∷ row 64 (6 ∷ []) (template (1 ∷ 1 ∷ 5 ∷ 17 ∷ 2 ∷ 0 ∷ 18 ∷ 0 ∷ []))
+    -- a pair that is booked twice, and a grid of no bytes
+    ∷ row 65 (3 ∷ []) (judge plain alone (2 ∷ 0 ∷ 0 ∷ 0 ∷ 0 ∷ []) [])
     ∷ []
