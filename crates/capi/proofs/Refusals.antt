@@ -1,6 +1,7 @@
 -- The number of a refusal at one place is neither 0 nor one of those with a card and a shape: so the number of an
 -- answer tells what the answer says. Each law composes what the readers refuse with.
---   template-plain, fit-plain, script-plain, largest-plain, smallest-plain, both-plain, judge-plain   of each operation
+--   template-plain, fit-plain, script-plain, largest-plain, smallest-plain, both-plain, judge-plain, tidy-plain   of
+--   each operation
 -- Assumes nothing.
 use Prim.Native.Nat.{ℕ, _≤_, _<_}
 use mathlib.Core.Path.{_≡_, refl, sym, ap, subst}
@@ -20,12 +21,14 @@ use Rattle.typing.specs.Demand3.{Outcome, pairs, notMet}
 use Rattle.typing.specs.Calls.{LargestAnswered, LargestSays, SmallestAnswered, SmallestSays, outcomeSaid}
 use Rattle.typing.specs.Calls.{largestReading, smallestReading, Grids, bothReading, BothAnswered, BothSays}
 use Rattle.typing.specs.Judge.{JudgeSays}
+use Rattle.typing.specs.Tidy.{tidyReading, TidyAnswered, TidySays}
 use Rattle.typing.proofs.Numbers.{LargestNumber, largest-numbers, SmallestNumber, smallest-numbers, both-numbers}
-use Rattle.typing.proofs.Numbers.{JudgeNumber, judge-numbers}
+use Rattle.typing.proofs.Numbers.{JudgeNumber, judge-numbers, TidyNumber, tidy-numbers}
 use Rattle.capi.proofs.Told.{Plain, plain-number}
 use Rattle.counts.specs.Fit.{Question, fitQuestion, Answers, FitSays}
 use Rattle.counts.proofs.Numbers.{FitNumber, fit-numbers}
 use Rattle.bookings.specs.Bookings.{Booked}
+use Rattle.bookings.proofs.Reading.{StoredNumber, BookingNumber}
 use Rattle.typing.specs.Answer.{BothSaid}
 
 -- ---- the numbers of the readers are plain
@@ -44,9 +47,17 @@ largest-number n h =
     ⊎-elim (λ s. ⊎-elim (template-number n) (script-number n) s)
     (λ (e : n ≡ 40). low-plain n (omega arith) (omega arith)) h
 
+stored-number : (n : ℕ) → StoredNumber n → Plain n
+stored-number n h = low-plain n (omega (arith, h .0)) (omega (arith, h .1))
+
+booking-number : (n : ℕ) → BookingNumber n → Plain n
+booking-number n h = ⊎-elim (stored-number n) (λ e. subst Plain (sym e) (refl, refl)) h
+
 smallest-number : (n : ℕ) → SmallestNumber n → Plain n
-smallest-number n h =
-    ⊎-elim (largest-number n) (λ b. low-plain n (omega (arith, b .0)) (omega (arith, b .1))) h
+smallest-number n h = ⊎-elim (largest-number n) (booking-number n) h
+
+tidy-number : (n : ℕ) → TidyNumber n → Plain n
+tidy-number n h = ⊎-elim (largest-number n) (stored-number n) h
 
 -- 61 or 63
 grid-plain : (n : ℕ) → (n ≡ 61) ⊎ (n ≡ 63) → Plain n
@@ -139,3 +150,14 @@ module _ (number place : ℕ) where
   judge-plain template script bookings grid e = ⊎-elim
       (judge-number number) (λ two. absurd (omega (arith, two .1)))
       (judge-numbers template script bookings grid number (place ∷ []) e)
+
+  tidy-by : (r : Reading Sheet) (bookings before after : List ℕ) → Numbered TidyNumber r
+      → TidyAnswered r bookings before after (refusal number (place ∷ [])) → Plain number
+  tidy-by (turnedDown n p) bookings before after h e = same-number n p (e .0) (tidy-number n h)
+  tidy-by (accepted s) bookings before after h e = values-refusal (sym (e .says))
+
+  pub tidy-plain : (template script bookings before after : List ℕ)
+      → TidySays template script bookings before after (refusal number (place ∷ [])) → Plain number
+  tidy-plain template script bookings before after e =
+      tidy-by (tidyReading template script bookings before) bookings before after
+      (tidy-numbers template script bookings before) e

@@ -1,7 +1,7 @@
 -- No choice at the C boundary: two answers that the contract of a C function allows for the same input are equal, and
 -- so is the memory that they leave.
 --   template-no-choice, fit-no-choice, script-no-choice, links-no-choice, largest-no-choice, smallest-no-choice,
---   both-no-choice, judge-no-choice   of each function
+--   both-no-choice, judge-no-choice, tidy-no-choice   of each function
 -- Assumes nothing.
 use Prim.Native.Nat.{ℕ}
 use mathlib.Core.Path.{_≡_, refl, sym, ap, ap₂, _∙_}
@@ -14,8 +14,10 @@ use Rattle.script.specs.Script.{scriptSays, cardLinks}
 use Rattle.typing.specs.Answer.{BothSaid}
 use Rattle.typing.specs.Calls.{LargestSays, SmallestSays, Grids, BothSays}
 use Rattle.typing.specs.Judge.{JudgeSays}
+use Rattle.typing.specs.Tidy.{TidySays}
 use Rattle.typing.proofs.Existence.{largest-one-answer, smallest-one-answer, both-one-answer}
 use Rattle.typing.proofs.Judging.{judge-one-answer}
+use Rattle.typing.proofs.Tidying.{tidy-one-answer}
 use Rattle.capi.specs.declared.PrepTemplate.{PrepTemplate}
 use Rattle.capi.specs.declared.PrepFit.{PrepFit}
 use Rattle.capi.specs.declared.PrepScript.{PrepScript}
@@ -23,8 +25,10 @@ use Rattle.capi.specs.declared.PrepLargest.{PrepLargest}
 use Rattle.capi.specs.declared.PrepSmallest.{PrepSmallest}
 use Rattle.capi.specs.declared.PrepBoth.{PrepBoth}
 use Rattle.capi.specs.declared.PrepJudge.{PrepJudge}
+use Rattle.capi.specs.declared.PrepTidy.{PrepTidy}
 use Rattle.capi.specs.Numbers.{Numbers, said, Tells, TellsBoth, copied, templateNumbers, fitNumbers}
 use Rattle.capi.specs.Numbers.{scriptNumbers, largestNumbers, smallestNumbers, largePart, smallPart, judgeNumbers}
+use Rattle.capi.specs.Numbers.{tidyNumbers}
 use Rattle.capi.proofs.Told.{numbers-unique}
 
 -- ---- a struct, from its numbers
@@ -73,6 +77,9 @@ bothOf large small =
 
 abbrev judgeOf : Numbers → PrepJudge
 judgeOf n = record { number = n .number; card = n .card; shape = n .shape; place = n .place }
+
+abbrev tidyOf : Numbers → PrepTidy
+tidyOf n = record { number = n .number; place = n .place; words = getD (n .found) 0 0 }
 
 -- ---- the functions
 pub template-no-choice : (words : List ℕ) (a b : PrepTemplate) → Tells (λ x. x ≡ templateSays words) (templateNumbers a)
@@ -131,3 +138,11 @@ module _ (template script : List ℕ) where
   judge-no-choice bookings grid a b (x, p) (y, q) =
       let same = judge-one-answer template script bookings grid (said (judgeNumbers a)) (said (judgeNumbers b)) x y in
       ap judgeOf (numbers-unique (judgeNumbers a) (judgeNumbers b) refl same p q)
+
+  pub tidy-no-choice : (bookings before g h : List ℕ) (a b : PrepTidy)
+      → Tells (TidySays template script bookings before g) (tidyNumbers a)
+      → Tells (TidySays template script bookings before h) (tidyNumbers b) → (a ≡ b) × (g ≡ h)
+  tidy-no-choice bookings before g h a b (x, p) (y, q) =
+      let (same, buffers) = tidy-one-answer template script bookings before g h
+      (said (tidyNumbers a)) (said (tidyNumbers b)) x y in
+      (ap tidyOf (numbers-unique (tidyNumbers a) (tidyNumbers b) refl same p q), buffers)

@@ -22,6 +22,7 @@ use Rattle.capi.specs.declared.PrepLargest.{PrepLargest}
 use Rattle.capi.specs.declared.PrepSmallest.{PrepSmallest}
 use Rattle.capi.specs.declared.PrepBoth.{PrepBoth}
 use Rattle.capi.specs.declared.PrepJudge.{PrepJudge}
+use Rattle.capi.specs.declared.PrepTidy.{PrepTidy}
 
 -- The numbers of an answer; a struct without a card and a shape has 0 for them.
 pub record Numbers : Type 0 where
@@ -112,6 +113,10 @@ TellsBoth Allowed r =
 -- Nothing where the grid is accepted, or the card and shape of its pair that is not met.
 abbrev pub judgeNumbers : PrepJudge → Numbers
 judgeNumbers r = record { number = r .number; place = r .place; card = r .card; shape = r .shape; found = [] }
+
+-- The number of words that are written.
+abbrev pub tidyNumbers : PrepTidy → Numbers
+tidyNumbers r = record { number = r .number; place = r .place; card = 0; shape = 0; found = r .words ∷ [] }
 
 -- The buffer's own words stay where there are no words for them.
 abbrev pub copied : List ℕ → List ℕ → List ℕ

@@ -7,12 +7,14 @@ ghost use Rattle.counts.specs.Fit.{FitSays};
 ghost use Rattle.script.specs.Script.{scriptSays, cardLinks};
 ghost use Rattle.typing.specs.Calls.{LargestSays, SmallestSays, BothSays};
 ghost use Rattle.typing.specs.Judge.{JudgeSays};
+ghost use Rattle.typing.specs.Tidy.{TidySays};
 ghost use Rattle.capi.specs.Numbers.{Tells, TellsBoth, templateNumbers, fitNumbers, scriptNumbers};
-ghost use Rattle.capi.specs.Numbers.{largestNumbers, smallestNumbers, judgeNumbers, copied};
+ghost use Rattle.capi.specs.Numbers.{largestNumbers, smallestNumbers, judgeNumbers, tidyNumbers, copied};
 use calls::both_typings;
 use calls::judge;
 use calls::largest;
 use calls::smallest;
+use calls::tidy_bookings;
 use counts::FitAnswer;
 use counts::fit_counts;
 use script::Card;
@@ -26,6 +28,7 @@ use typing::BothAnswer;
 use typing::JudgeAnswer;
 use typing::LargestAnswer;
 use typing::SmallestAnswer;
+use typing::TidyAnswer;
 
 // A template's counts of kinds and of shapes; or a refusal's number and place.
 #[repr(C)]
@@ -93,6 +96,14 @@ pub struct PrepJudge {
     pub card: u16,
     pub shape: u16,
     pub place: usize,
+}
+
+// The number of words of a tidied list; or a refusal's number and place.
+#[repr(C)]
+pub struct PrepTidy {
+    pub number: u16,
+    pub place: usize,
+    pub words: usize,
 }
 
 // Read a template.
@@ -336,6 +347,32 @@ pub extern "C" fn prep_judge(
             card: 0,
             shape: 0,
             place,
+        },
+    }
+}
+
+// Tidy bookings.
+#[no_mangle]
+pub extern "C" fn prep_tidy_bookings(
+    template: &[u16],
+    script: &[u16],
+    bookings: &[u16],
+    out: &mut [u16],
+) -> PrepTidy
+    ensures { λ r. ⌜ Tells (TidySays (now (template .entry)) (now (script .entry)) (now (bookings .entry))
+        (now (out .entry)) (now (out .exit))) (tidyNumbers r) ⌝ }
+{
+    let answer = tidy_bookings(template, script, bookings, out);
+    match answer {
+        TidyAnswer::Written(words) => PrepTidy {
+            number: 0,
+            place: 0,
+            words,
+        },
+        TidyAnswer::Refused(number, place) => PrepTidy {
+            number,
+            place,
+            words: 0,
         },
     }
 }
