@@ -3,8 +3,8 @@ use mathlib.Core.Path.{sym}
 use native.Mathlib.Omega.{arith}
 use lib.Seq.{length-take-le}
 use borrow.Author.Needs.{needs}
-use Rattle.judge_cases.proofs.read_words.Statement.{statement}
-use Rattle.judge_cases.proofs.read_words.Tie as tie
+use Rattle.sections.proofs.read_words.Statement.{statement}
+use Rattle.sections.proofs.read_words.Tie as tie
 
 next-length-requires : tie.Need-next-length-requires
 next-length-requires c κs = search needs

@@ -3,8 +3,8 @@ use mathlib.Core.Path.{sym}
 use native.Mathlib.Omega.{arith}
 use lib.Seq.{length-take-le}
 use borrow.Author.Needs.{needs}
-use Rattle.judge_cases.proofs.take_words.Statement.{statement}
-use Rattle.judge_cases.proofs.take_words.Tie as tie
+use Rattle.sections.proofs.take_words.Statement.{statement}
+use Rattle.sections.proofs.take_words.Tie as tie
 
 read-full-requires : tie.Need-read-full-requires
 read-full-requires c κs = search needs
