@@ -4,6 +4,7 @@
 --   bookings-count, bookings-sized  the count that is read is the list's first word, and the list has that many
 --   bookings-each, bookings-in      each is of a card and a shape below the counts
 --   listed-stored, listed-exact     the strict rule accepts just the lists without repeats that the other accepts
+--   repeat-in                       65 is never of a booking that 32 or 33 would be of: its first one is refused before
 -- Assumes nothing.
 use Prim.Native.Nat.{ℕ, zero, suc, _+_, _*_, _≤_, _<_}
 use mathlib.Core.Path.{_≡_, refl, sym, ap, subst, subst₂, _∙_}
@@ -21,6 +22,7 @@ use Rattle.words.proofs.Readings.{accepted-same, passed}
 use Rattle.bookings.specs.Bookings.{cardAt, shapeAt, repeated, readPairs, readList, readBookings, readStored}
 use Rattle.bookings.specs.Bookings.{Booked}
 use Rattle.bookings.specs.Steps.{BookingIn, Sized}
+use Rattle.bookings.proofs.Repeats.{repeated-exact}
 
 -- In a list of so many bookings the words of each are there.
 pub booking-in : {bookings : List ℕ} {count i : ℕ} → Sized bookings count → i < count → BookingIn bookings i
@@ -148,3 +150,11 @@ module _ (cards shapes : ℕ) (bookings : List ℕ) (count : ℕ) where
   pub listed-stored : readBookings cards shapes bookings ≡ accepted count
       → readStored cards shapes bookings ≡ accepted count
   listed-stored read = listed-exact .0 read .0
+
+-- The first booking with a pair is tested before its repeat, so the repeat's own card and shape are in order.
+pub repeat-in : (cards shapes : ℕ) (bookings : List ℕ) (i : ℕ)
+    → ((j : ℕ) → j < i → (cardAt bookings j < cards) × (shapeAt bookings j < shapes)) → repeated bookings i ≡ true
+    → (cardAt bookings i < cards) × (shapeAt bookings i < shapes)
+repeat-in cards shapes bookings i before again =
+    let (j, below, (card, shape)) = repeated-exact bookings i .0 again in
+    subst₂ (λ (m u : ℕ). (m < cards) × (u < shapes)) card shape (before j below)
