@@ -1,7 +1,7 @@
 //! Writes inputs with what is owed for them: into a folder, each with the text that the sheet printer owes beside
 //! it, or all of them into one file and what is owed into another.
 
-use crate::generate::{self, judging};
+use crate::generate::{self, judging, tidying};
 use crate::sheet;
 use std::fs;
 use std::path::Path;
@@ -46,19 +46,35 @@ pub fn stream(inputs: &Path, texts: &Path, seed: u64, count: usize) -> Result<()
     write_file(texts, text.as_bytes())
 }
 
-/// A random case with a grid is left out of the stored ones if it has more bytes than this.
-const STORED_WITH_GRID: usize = 3_000;
+/// A random case with a grid or a buffer is left out of the stored ones if it has more bytes than this.
+const STORED_CASE: usize = 3_000;
 
 /// Writes the sheets with grids of this seed into one file, and their answers into another, a line each. The fixed
 /// ones come first; random ones that are long are left out.
 pub fn judged(inputs: &Path, answers: &Path, seed: u64, count: usize) -> Result<(), String> {
+    let cases = judging::cases(seed, count).map(|case| (case.bytes(), move || case.answer()));
+    answered(inputs, answers, judging::fixed().len(), cases)
+}
+
+/// The same for the stored lists that are tidied.
+pub fn tidied(inputs: &Path, answers: &Path, seed: u64, count: usize) -> Result<(), String> {
+    let cases = tidying::cases(seed, count).map(|case| (case.bytes(), move || case.answer()));
+    answered(inputs, answers, tidying::fixed().len(), cases)
+}
+
+/// Writes cases, of which the first so many are fixed, and their answers.
+fn answered<Answer: FnOnce() -> String>(
+    inputs: &Path,
+    answers: &Path,
+    fixed: usize,
+    cases: impl Iterator<Item = (Result<Vec<u8>, String>, Answer)>,
+) -> Result<(), String> {
     let (mut input, mut lines) = (Vec::new(), String::new());
-    let fixed = judging::fixed().len();
-    for (number, case) in judging::cases(seed, count).enumerate() {
-        let bytes = case.bytes()?;
-        if number < fixed || bytes.len() <= STORED_WITH_GRID {
+    for (number, (bytes, answer)) in cases.enumerate() {
+        let bytes = bytes?;
+        if number < fixed || bytes.len() <= STORED_CASE {
             input.extend(bytes);
-            lines += &(case.answer() + "\n");
+            lines += &(answer() + "\n");
         }
     }
     write_file(inputs, &input)?;

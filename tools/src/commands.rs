@@ -7,7 +7,9 @@ use prep_tools::refusal::Refusal;
 use prep_tools::sheet::Files;
 use prep_tools::text::form::{form, Form};
 use prep_tools::text::load::{load_input, load_sheet, tell_refusal};
+use prep_tools::text::report::counted;
 use prep_tools::text::roots::Roots;
+use prep_tools::text::tidy::tidy;
 use prep_tools::text::trouble::{Trouble, Why};
 use prep_tools::text::{judged, machine, report, write as writing};
 use prep_tools::typing::Pair;
@@ -95,6 +97,16 @@ const COMMANDS: &[Command] = &[
         run: run_text,
     },
     Command {
+        name: "tidy",
+        forms: &[&["FILE", "OUT"]],
+        options: &[],
+        about: "drop the bookings that repeat an earlier one",
+        more: "Words stay words. A text stays as it is, but for the lines of the bookings that go; a comment on\n\
+               such a line stays. How many go is told on standard error. OUT may be FILE. Nothing is written for\n\
+               a sheet that is refused for another fault.",
+        run: run_tidy,
+    },
+    Command {
         name: "print",
         forms: &[&["FILE"]],
         options: &[],
@@ -151,6 +163,16 @@ const COMMANDS: &[Command] = &[
         more: "A case is a template, a script, bookings and a grid, each after its length in two bytes, low byte\n\
                first, which counts words for the files and bytes for the grid. Each answer is a line.",
         run: run_judge_cases,
+    },
+    Command {
+        name: "tidy-cases",
+        forms: &[&["IN", "OUT", "SEED", "COUNT"]],
+        options: &[],
+        about: "write sheets with stored lists to tidy, and their answers, for stored cases",
+        more: "A case is a template, a script and a stored list, each after its count of words in two bytes, low\n\
+               byte first, and then in two bytes how many words the buffer has. Each answer is a line, with the\n\
+               buffer after the call.",
+        run: run_tidy_cases,
     },
     Command {
         name: "compare",
@@ -355,6 +377,15 @@ fn run_text(given: &Given) -> Result<Outcome, String> {
     Ok(Outcome::Fine)
 }
 
+fn run_tidy(given: &Given) -> Result<Outcome, String> {
+    let (file, out) = (given.at(0), given.at(1));
+    let tidied = tidy(file, &read(file)?).map_err(told)?;
+    write(out, &tidied.bytes)?;
+    let bookings = counted(tidied.bookings, "booking");
+    eprintln!("{file}: {} of {bookings} dropped", tidied.dropped);
+    Ok(Outcome::Fine)
+}
+
 fn run_print(given: &Given) -> Result<Outcome, String> {
     let file = given.at(0);
     let input = load_input(file, &read(file)?).map_err(told)?;
@@ -395,14 +426,23 @@ fn run_cases(given: &Given) -> Result<Outcome, String> {
 }
 
 fn run_stream(given: &Given) -> Result<Outcome, String> {
-    let (inputs, texts) = (Path::new(given.at(0)), Path::new(given.at(1)));
-    cases::stream(inputs, texts, given.number(2, "SEED")?, given.number(3, "COUNT")?)?;
-    Ok(Outcome::Fine)
+    store(given, cases::stream)
 }
 
 fn run_judge_cases(given: &Given) -> Result<Outcome, String> {
+    store(given, cases::judged)
+}
+
+fn run_tidy_cases(given: &Given) -> Result<Outcome, String> {
+    store(given, cases::tidied)
+}
+
+/// Writes cases of a seed into one file, and what is owed for them into another.
+type Store = fn(&Path, &Path, u64, usize) -> Result<(), String>;
+
+fn store(given: &Given, store: Store) -> Result<Outcome, String> {
     let (inputs, answers) = (Path::new(given.at(0)), Path::new(given.at(1)));
-    cases::judged(
+    store(
         inputs,
         answers,
         given.number(2, "SEED")?,

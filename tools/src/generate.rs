@@ -1,5 +1,5 @@
 //! Random inputs for the sheet printer: sheets of all sizes up to the limits, and damaged ones. And sheets with grids
-//! that are judged.
+//! that are judged, and with stored lists that are tidied.
 //!
 //! | here       | what                                                              |
 //! |------------|-------------------------------------------------------------------|
@@ -11,6 +11,7 @@
 //! | `alike`    | sheets with many cards that are alike or nearly so                |
 //! | `sparse`   | cards that few links touch or none, with and without a shape      |
 //! | `bookings` | bookings that are met, and others                                 |
+//! | `repeats`  | booking lists in which a pair stands twice, or nearly so          |
 //! | `heavy`    | the sheets that take longest, for timing                          |
 //! | `special`  | the worked sheet, long chains, everything at its limit            |
 //! | `turns`    | sheets on which strikes and closures run against the links        |
@@ -24,6 +25,7 @@
 //! | `open`     | open shapes, the same in every run                                |
 //! | `runs`     | counting the links of a card, the same in every run               |
 //! | `judging`  | sheets with grids for *Judge a grid*, fixed and random ones       |
+//! | `tidying`  | stored lists for *Tidy bookings*, fixed and random ones           |
 
 pub mod alike;
 pub mod arriving;
@@ -41,15 +43,18 @@ pub mod matched;
 pub mod open;
 pub mod openings;
 pub mod parts;
+pub mod repeats;
 pub mod runs;
 pub mod scripts;
 pub mod sparse;
 pub mod special;
+pub mod tidying;
 pub mod turns;
 
 use crate::random::Random;
 use crate::sheet::Files;
 use crate::template::{self, Template};
+use crate::typing::bookings::words;
 use crate::typing::Setting;
 
 /// One input with a name that says how it was made.
@@ -136,6 +141,7 @@ fn fixed_cases() -> impl Iterator<Item = Case> {
         open::open(),
         runs::runs(),
         alike::fixed::fixed(),
+        repeats::fixed::fixed(),
     ];
     lists.into_iter().flatten()
 }
@@ -176,11 +182,16 @@ fn in_turn<T>(
 /// One random input that is neither about counting nor about alike cards.
 pub fn case(random: &mut Random) -> Case {
     match random.below(100) {
-        0..=21 => sound(random, "derived", derived),
-        22..=41 => sound(random, "matched", matched::matched),
-        42..=51 => sound(random, "loose", loose),
-        52..=57 => special::random(random),
-        58..=84 => aimed(random),
+        0..=20 => sound(random, "derived", derived),
+        21..=39 => sound(random, "matched", matched::matched),
+        40..=48 => sound(random, "loose", loose),
+        49..=54 => special::random(random),
+        // There are many ways to repeat a booking, so these come more often than other faults.
+        55..=57 => aimed(random, 65),
+        58..=84 => {
+            let number = random.pick(&damage::AIMS);
+            aimed(random, number)
+        }
         85..=92 => {
             let mut files = whole(random);
             knots::tie(random, &mut files);
@@ -252,7 +263,7 @@ fn sheet_with(
 fn booked(random: &mut Random, template: &Template, script: Vec<u16>, scale: Scale) -> Files {
     let template = template::write(template);
     let bookings = match Setting::read(&template, &script) {
-        Ok(setting) => bookings::bookings(random, &setting, scale.bookings),
+        Ok(setting) => words(&bookings::bookings(random, &setting, scale.bookings)),
         Err(refusal) => panic!("a generated sheet has a fault, {refusal}"),
     };
     Files {
@@ -268,9 +279,8 @@ fn whole(random: &mut Random) -> Files {
     any(random, scale)
 }
 
-/// A sheet with one fault, aimed at one refusal.
-fn aimed(random: &mut Random) -> Case {
-    let number = random.pick(&damage::AIMS);
+/// A sheet with one fault, aimed at this refusal.
+fn aimed(random: &mut Random, number: u16) -> Case {
     let mut files = whole(random);
     let bytes = if number == 60 {
         damage::of_bytes(random, &files)

@@ -9,8 +9,8 @@
 //! | `template` | *Read a template*, refusals 1 to 12 and 64; also writes templates           |
 //! | `fit`      | *Fit counts*, refusals 41 to 43; by intervals and by enumeration of bags    |
 //! | `script`   | *Read a script*, refusals 20 to 25; *Links of a card*                       |
-//! | `typing`   | *Largest* (rounds and links) and *Smallest*, refusals 30 to 33, 40 and 50;  |
-//! |            | *Judge a grid*, refusals 61 to 63                                           |
+//! | `typing`   | *Largest* (rounds and links) and *Smallest*, refusals 30 to 33, 65, 40 and  |
+//! |            | 50; *Judge a grid*, refusals 61 to 63; *Tidy bookings*                      |
 //! | `sheet`    | *The sheet printer*, refusal 60                                             |
 //! | `samples`  | the count samples P1 to P12, and random small ones                          |
 //! | `random`   | a small seeded source of numbers                                            |

@@ -44,7 +44,7 @@ impl Refusal {
             31 => "the count of bookings is over 1,024",
             32 => "a booking's card isn't below the count of cards",
             33 => "a booking's shape isn't below the count of shapes",
-            40 => "the grid isn't cards times shapes bytes",
+            40 => "the grid isn't cards times shapes bytes, or the buffer isn't as long as the list",
             41 => "the counts aren't one for each kind each way",
             42 => "the shape isn't below the count of shapes",
             43 => "a count is over 8,192",
@@ -53,6 +53,7 @@ impl Refusal {
             62 => "a pair of the grid isn't met under it",
             63 => "a booking isn't held by the grid",
             64 => "the code of an open shape isn't the first word of a shape",
+            65 => "a pair is booked a second time",
             _ => "a refusal that isn't known",
         }
     }

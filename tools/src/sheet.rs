@@ -29,6 +29,14 @@ impl Files {
         }
         bytes
     }
+
+    /// How many words the longest of the files has.
+    pub fn longest(&self) -> usize {
+        self.template
+            .len()
+            .max(self.script.len())
+            .max(self.bookings.len())
+    }
 }
 
 /// The text of the sheet: what the printer writes for this input.

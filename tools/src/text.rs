@@ -17,6 +17,7 @@
 //! | `hints`      | what a refusal means for the text that the words come from                 |
 //! | `check`      | a sheet that was loaded and run                                            |
 //! | `write`      | a sheet as text                                                            |
+//! | `tidy`       | a sheet, text or words, with its bookings tidied                           |
 //! | `costs`      | how far counts are from those that a part takes                            |
 //! | `misfit`     | what a card's links lack for a shape                                       |
 //! | `roots`      | which card is to blame if another can't have a shape                       |
@@ -47,6 +48,7 @@ pub mod report;
 pub mod roles;
 pub mod roots;
 pub mod sentences;
+pub mod tidy;
 pub mod tokens;
 pub mod told;
 pub mod trouble;

@@ -1,4 +1,4 @@
-//! *Largest* and *Smallest*, both together, and *Judging*.
+//! *Largest* and *Smallest*, both together, *Judging* and *Tidying*.
 //!
 //! | here          | what                                                              |
 //! |---------------|-------------------------------------------------------------------|
@@ -7,9 +7,10 @@
 //! | `rounds`      | the largest typing, round by round as the definition says         |
 //! | `links`       | the largest typing, breadth-first from strike to strike           |
 //! | `counting`    | whether a card's counts fit a shape, card after card; all pairs   |
-//! | `bookings`    | reads a booking list, refusals 30 to 33                           |
+//! | `bookings`    | reads a booking list, refusals 30 to 33 and 65                    |
 //! | `closure`     | the smallest typing                                               |
 //! | `judge`       | judges a grid, refusals 61 to 63                                  |
+//! | `tidying`     | keeps the first booking of each pair of a stored list             |
 
 pub mod bookings;
 pub mod closure;
@@ -18,6 +19,7 @@ pub mod judge;
 pub mod links;
 pub mod met;
 pub mod rounds;
+pub mod tidying;
 
 use crate::numbers::{Card, Shape};
 use crate::refusal::Refusal;

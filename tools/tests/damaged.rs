@@ -5,15 +5,19 @@ use prep_tools::random::Random;
 use prep_tools::refusal::Refusal;
 use prep_tools::text::check::Sheet;
 use prep_tools::text::load::{load_input, load_sheet, tell_refusal};
+use prep_tools::text::tidy::tidy;
+use prep_tools::text::trouble::{Trouble, Why};
 use prep_tools::text::{judged, machine, write};
 
-const TEXTS: [&str; 4] = [
+const TEXTS: [&str; 5] = [
     include_str!("../../examples/prep/programme.txt"),
     include_str!("../../examples/prep/draft.txt"),
     "kinds: a b\nshape A = choice(all(a[1;2]@B, nothing)*, b[0;]@A)+\nshape B = (nothing)?\ncard x \"t \\\" \\\\\"\n\
      card y\nlink x a y x\nlink y b x\nbook x A\ntitle \"T\"\n",
     "kinds: a b\nshape A = all(a[0;2]@B, ^b[0;]@A)\nshape B = choice(^a[1;]@A, all(^b[1;1]@B, b[1;]@A)+)?\n\
      card x\ncard y\ncard z\nlink x a y z\nlink x b x\nlink z b y\nbook y B\n",
+    "kinds: a\nshape A = nothing\nshape B = a[0;]@A\ncard x\nbook x A # once\ncard y\nbook y A\nbook x B\n\
+     # twice\nlink y a x\nbook x A # more\n\tbook y A\n",
 ];
 
 /// Pieces that a text is made of, and some that it isn't.
@@ -48,11 +52,13 @@ const PIECES: [&str; 25] = [
 /// Everything that can be said about a file, to see that nothing panics.
 fn try_all(bytes: &[u8]) -> bool {
     let _ = load_input("x", bytes);
-    for number in [0, 1, 4, 12, 20, 25, 33, 40, 50, 60, 61, 62, 63, 65535] {
+    for number in [0, 1, 4, 12, 20, 25, 33, 40, 50, 60, 61, 62, 63, 65, 65535] {
         let place = usize::from(number) * 7 % 90;
         let _ = tell_refusal("x", bytes, Refusal::at(number, place)).to_string();
     }
-    match load_sheet("x", bytes) {
+    let loaded = load_sheet("x", bytes);
+    try_tidy(bytes, &loaded);
+    match loaded {
         Ok(sheet) => {
             assert!(sheet.report("x").starts_with("x: "));
             let _ = machine::outcome(&sheet, "x").to_string();
@@ -67,6 +73,25 @@ fn try_all(bytes: &[u8]) -> bool {
             let _ = machine::trouble(&trouble).to_string();
             false
         }
+    }
+}
+
+/// A sheet is tidied to itself; from other files a repeat is dropped, and any other fault is told.
+fn try_tidy(bytes: &[u8], loaded: &Result<Sheet, Trouble>) {
+    let is_repeat = |trouble: &Trouble| match &trouble.why {
+        Why::Refused(told) => told.refusal.number == 65,
+        Why::Fault(_) => false,
+    };
+    match (loaded, tidy("x", bytes)) {
+        (Ok(_), tidied) => assert_eq!(
+            tidied.map(|tidied| (tidied.bytes, tidied.dropped)),
+            Ok((bytes.to_vec(), 0))
+        ),
+        (Err(trouble), Ok(tidied)) => {
+            assert!(is_repeat(trouble) && tidied.dropped > 0, "{trouble}");
+            assert!(load_sheet("x", &tidied.bytes).is_ok(), "{trouble}");
+        }
+        (Err(trouble), Err(other)) => assert!(is_repeat(trouble) != (*trouble == other), "{trouble} {other}"),
     }
 }
 

@@ -304,7 +304,7 @@ fn deep_and_wide_parts_come_up() {
 fn every_refusal_and_every_kind_of_answer_comes_up() {
     let mut refusals: BTreeMap<u16, usize> = BTreeMap::new();
     let (mut met, mut not_met, mut many_rounds) = (0, 0, 0);
-    for case in generate::cases(33, 2000) {
+    for case in generate::cases(33, 2200) {
         match sheet::typings(&case.bytes) {
             Err(refusal) => *refusals.entry(refusal.number).or_insert(0) += 1,
             Ok(both) => {

@@ -123,11 +123,12 @@ fn every_answer_is_frequent_among_the_random_cases() {
     let fixed = judging::fixed().len();
     let tally = tally(judging::cases(33, fixed + 3600).skip(fixed));
     let count = |numbers: &[u16]| -> usize { numbers.iter().filter_map(|number| tally.get(number)).sum() };
-    let of_files: Vec<u16> = (1..=12).chain(20..=25).chain(30..=33).chain([64]).collect();
+    let of_files: Vec<u16> = (1..=12).chain(20..=25).chain(30..=33).chain([64, 65]).collect();
     for number in &of_files {
         assert!(count(&[*number]) >= 5, "{number}: {tally:?}");
     }
     assert!(count(&of_files) > 400 && count(&[0]) > 500, "{tally:?}");
+    assert!(count(&[65]) > 20, "{tally:?}");
     assert!(count(&[40]) > 200 && count(&[61]) > 200, "{tally:?}");
     assert!(count(&[62]) > 500 && count(&[63]) > 300, "{tally:?}");
     assert_eq!(count(&of_files) + count(&[0, 40, 61, 62, 63]), 3600, "{tally:?}");
@@ -136,7 +137,7 @@ fn every_answer_is_frequent_among_the_random_cases() {
 #[test]
 fn every_answer_is_frequent_among_the_fixed_cases() {
     let tally = tally(judging::fixed().into_iter());
-    for (number, least) in [(0, 60), (40, 25), (61, 20), (62, 80), (63, 25)] {
+    for (number, least) in [(0, 60), (40, 25), (61, 20), (62, 80), (63, 25), (65, 25)] {
         assert!(tally[&number] >= least, "{number}: {tally:?}");
     }
 }
@@ -160,7 +161,7 @@ fn many_grids_are_accepted_that_are_neither_typing() {
 }
 
 /// Cases at the limits, and what is said about them.
-const LIMITS: [(&str, &str); 22] = [
+const LIMITS: [(&str, &str); 26] = [
     ("full-accepted", "accepted"),
     ("full-last-pair", "refused 62 1023 31"),
     ("full-both-ways-accepted", "accepted"),
@@ -170,7 +171,7 @@ const LIMITS: [(&str, &str); 22] = [
     ("last-byte-missing", "refused 40 0"),
     ("booked-each-last-card", "refused 63 2047"),
     ("booked-backwards-last-card", "refused 63 1"),
-    ("booked-same-last-card", "refused 63 1"),
+    ("booked-same-last-card", "refused 65 3"),
     ("booked-each-held", "accepted"),
     ("booked-one-more-held", "refused 31 0"),
     ("ring-1024", "accepted"),
@@ -183,6 +184,10 @@ const LIMITS: [(&str, &str); 22] = [
     ("longest-file", "refused 30 0"),
     ("template-4096", "accepted"),
     ("template-4097", "refused 1 0"),
+    ("repeat-most-cards-each", "accepted"),
+    ("repeat-most-cards-last-of-first", "refused 65 2047"),
+    ("repeat-most-shapes-each", "accepted"),
+    ("repeat-most-shapes-last-of-next", "refused 65 2047"),
 ];
 
 #[test]
@@ -305,6 +310,40 @@ fn of_several_faults_the_first_is_told() {
 }
 
 #[test]
+fn a_repeat_comes_before_every_fault_of_the_grid() {
+    let fixed = judging::fixed();
+    let found = fixed.iter().filter(|case| case.name.starts_with("repeat-and-"));
+    let mut faults = Vec::new();
+    for case in found {
+        assert_eq!(case.answer(), "refused 65 3", "{}", case.name);
+        let mut once = case.clone();
+        once.files.bookings = vec![1, 2, 1];
+        let line = once.answer();
+        faults.push(line.split(' ').nth(1).expect("the grid has a fault").to_string());
+    }
+    assert_eq!(faults, ["40", "40", "40", "61", "62", "63"]);
+}
+
+#[test]
+fn only_cases_about_repeats_or_faults_have_repeats() {
+    let fixed = judging::fixed().len();
+    let about = [
+        &["sample-", "booked-same-", "repeat-"][..],
+        &["aimed-", "knot-", "several-"],
+    ];
+    for (number, case) in judging::cases(36, fixed + 900).enumerate() {
+        let of_sort = |start: &&str| case.name.starts_with(start);
+        if case.answer().starts_with("refused 65 ") {
+            assert!(
+                about[usize::from(number >= fixed)].iter().any(of_sort),
+                "{}",
+                case.name
+            );
+        }
+    }
+}
+
+#[test]
 fn the_stored_cases_are_those_of_the_command() {
     let stored = |name: &str| fs::read(Path::new(STORED).join(name)).expect("the cases are stored");
     let (inputs, answers) = (stored("stdin"), stored("stdout"));
@@ -315,6 +354,6 @@ fn the_stored_cases_are_those_of_the_command() {
         assert_eq!(quick(files, grid), line, "{files:?}");
     }
     // tools/README.md names this seed and count.
-    let (again, lines) = written("stored", 7, 952);
+    let (again, lines) = written("stored", 7, 1003);
     assert!(again == inputs && lines == answers, "the stored cases are older");
 }

@@ -51,7 +51,7 @@ fn the_page_has_an_example_of_every_refusal() {
         .chain(30..=33)
         .chain(40..=43)
         .chain([50])
-        .chain(60..=64);
+        .chain(60..=65);
     assert_eq!(shown, listed.map(|number: u16| number.to_string()).collect());
 }
 
@@ -190,6 +190,40 @@ fn a_page_that_judges_a_grid_wrongly_is_noticed() {
         let (outcome, told) = checked(&format!("{head}{row}"));
         let outcome = outcome.expect("the page can be read");
         assert_eq!((outcome.checked, outcome.differ), (1, wrong), "{row}{told}");
+    }
+}
+
+#[test]
+fn a_page_that_tidies_a_list_wrongly_is_noticed() {
+    let head = "| number | template | script | bookings | words | answer |\n|---|---|---|---|---|---|\n";
+    let row = |bookings: &str, words: usize, answer: &str| {
+        let number = answer.split(' ').nth(1).expect("an answer has a number");
+        format!("| {number} | `1 1 1 0` | `2 0` | `{bookings}` | {words} | `{answer}` |\n")
+    };
+    for (row, wrong) in [
+        (row("2 1 0 1 0", 6, "refused 40 0"), 0),
+        (row("2 1 0 1 0", 4, "refused 40 0"), 0),
+        (row("2 1 0 1 0", 5, "refused 65 3"), 1),
+        (row("2 1 0 2 0", 5, "refused 32 3"), 0),
+        (row("-", 0, "refused 30 0"), 0),
+        (row("-", 0, "refused 30 1"), 1),
+    ] {
+        let (outcome, told) = checked(&format!("{head}{row}"));
+        let outcome = outcome.expect("the page can be read");
+        assert_eq!((outcome.checked, outcome.differ), (1, wrong), "{row}{told}");
+    }
+    let head = "| template | script | bookings | words | answer |\n|---|---|---|---|---|\n";
+    for (answer, wrong) in [
+        ("written 3 : 1 1 0 7 7", 0),
+        ("written 3 : 1 1 0 1 0", 1),
+        ("written 5 : 1 1 0 7 7", 1),
+        ("written 3", 1),
+    ] {
+        let (outcome, told) = checked(&format!(
+            "{head}| `1 1 1 0` | `2 0` | `2 1 0 1 0` | 5 | `{answer}` |\n"
+        ));
+        let outcome = outcome.expect("the page can be read");
+        assert_eq!((outcome.checked, outcome.differ), (1, wrong), "{answer}: {told}");
     }
 }
 

@@ -175,13 +175,14 @@ fn wrong_words_are_an_error_in_words() {
 }
 
 /// Each command with its arguments.
-const COMMANDS: [(&str, &[&str]); 15] = [
+const COMMANDS: [(&str, &[&str]); 17] = [
     ("check", &["FILE"]),
     ("draw", &["FILE", "OUT.svg"]),
     ("explain", &["FILE"]),
     ("judge", &["FILE", "GRID"]),
     ("words", &["FILE", "OUT"]),
     ("text", &["FILE"]),
+    ("tidy", &["FILE", "OUT"]),
     ("print", &["FILE"]),
     ("fit", &[]),
     ("samples", &[]),
@@ -189,6 +190,7 @@ const COMMANDS: [(&str, &[&str]); 15] = [
     ("cases", &["DIR", "SEED", "COUNT"]),
     ("stream", &["IN", "OUT", "SEED", "COUNT"]),
     ("judge-cases", &["IN", "OUT", "SEED", "COUNT"]),
+    ("tidy-cases", &["IN", "OUT", "SEED", "COUNT"]),
     ("compare", &["PROGRAM", "SEED", "COUNT"]),
     ("longest", &["CARDS", "SHAPES"]),
 ];
@@ -311,6 +313,80 @@ fn words_of_a_refused_text_are_not_written() {
         assert_eq!(explained.status.code(), Some(1));
         assert!(text(&explained).contains(told));
     }
+    fs::remove_dir_all(folder).expect("the folder can be removed");
+}
+
+#[test]
+fn bookings_that_stand_twice_are_told_and_dropped() {
+    let folder = folder("tidy");
+    let path = |name: &str| folder.join(name).to_string_lossy().into_owned();
+    let (in_text, in_words, out) = (path("sheet.txt"), path("sheet.bin"), path("out"));
+    let twice = SHEET.replace("book quiz Item", "book quiz Item\nbook quiz Item # again");
+    fs::write(&in_text, &twice).expect("the file can be written");
+    fs::write(&in_words, document(&[3, 2, 1, 0, 0, 2, 1]).bytes()).expect("the file can be written");
+    assert!(error(&["check", &in_text]).contains(":9:6: refused 65 3: a pair is booked a second time"));
+    assert!(error(&["words", &in_text, &out]).contains("it is booked at line 8, column 6 already"));
+    assert_eq!(text(&run(&["print", &in_words])), "refused 65 5\n");
+    assert!(text(&run(&["explain", "65", "3", &in_text])).contains(":9:6: refused 65 3: "));
+    let tidied = |file: &str, out: &str, told: &str| {
+        let output = run(&["tidy", file, out]);
+        assert_eq!(output.status.code(), Some(0));
+        assert_eq!(
+            String::from_utf8_lossy(&output.stderr),
+            format!("{file}: {told} dropped\n")
+        );
+        output.stdout
+    };
+    assert_eq!(tidied(&in_text, &out, "1 of 2 bookings"), b"");
+    let left = SHEET.to_string() + "# again\n";
+    assert_eq!(fs::read_to_string(&out).expect("a text is written"), left);
+    assert_eq!(tidied(&out, "-", "0 of 1 booking"), left.as_bytes());
+    let words = document(&[2, 2, 1, 0, 0]).bytes();
+    assert_eq!(tidied(&in_words, "-", "1 of 3 bookings"), words);
+    // In place.
+    tidied(&in_words, &in_words, "1 of 3 bookings");
+    assert_eq!(fs::read(&in_words).expect("words are written"), words);
+    fs::remove_dir_all(folder).expect("the folder can be removed");
+}
+
+#[test]
+fn a_sheet_that_is_refused_otherwise_is_not_tidied() {
+    let folder = folder("untidy");
+    let path = |name: &str| folder.join(name).to_string_lossy().into_owned();
+    let (file, out) = (path("sheet"), path("out"));
+    for (bytes, told) in [
+        (document(&[3, 2, 1, 2, 1, 9, 9]).bytes(), "sheet: refused 32 5: "),
+        (vec![0; 5], "sheet: refused 60 0: "),
+        (
+            SHEET.replace("[1;2]", "[2;1]").into_bytes(),
+            ":3:20: refused 10 5: ",
+        ),
+    ] {
+        fs::write(&file, bytes).expect("the file can be written");
+        assert!(error(&["tidy", &file, &out]).contains(told));
+        assert!(!folder.join("out").exists());
+    }
+    fs::remove_dir_all(folder).expect("the folder can be removed");
+}
+
+#[test]
+fn tidy_cases_writes_cases_and_a_line_for_each() {
+    let folder = folder("tidy-cases");
+    let path = |name: &str| folder.join(name).to_string_lossy().into_owned();
+    let (inputs, answers) = (path("in"), path("out"));
+    assert!(run(&["tidy-cases", &inputs, &answers, "3", "20"])
+        .status
+        .success());
+    let lines = fs::read_to_string(&answers).expect("the answers are written");
+    assert_eq!(lines.lines().count(), 20);
+    assert!(
+        lines.starts_with("refused 4 2 : 7 7 7 7 7 7 7 7 7\nrefused 21 0 : 7 7"),
+        "{lines}"
+    );
+    assert!(lines.contains("\nwritten 5 : 2 2 1 0 0 7 7\n"), "{lines}");
+    let bytes = fs::read(&inputs).expect("the cases are written");
+    // The first case: a template of two words, a script of two, an empty list, and a buffer of nine words.
+    assert!(bytes.starts_with(&[2, 0, 1, 0, 1, 0, 2, 0, 1, 4, 0, 0, 0, 0, 9, 0]));
     fs::remove_dir_all(folder).expect("the folder can be removed");
 }
 

@@ -3,11 +3,14 @@
 use prep_tools::fit::fit;
 use prep_tools::generate::parts::filler;
 use prep_tools::generate::special::{document, DOCUMENT_SCRIPT, DOCUMENT_TEMPLATE};
+use prep_tools::numbers::{Card, Shape};
 use prep_tools::refusal::Refusal;
 use prep_tools::script;
 use prep_tools::sheet::{self, MOST_BYTES};
 use prep_tools::template;
-use prep_tools::typing::{largest, largest_by_rounds, smallest, Smallest};
+use prep_tools::typing::judge::judge;
+use prep_tools::typing::{bookings, both, both_by_rounds, largest, largest_by_rounds, smallest};
+use prep_tools::typing::{Setting, Smallest};
 
 /// A template with L kinds, S shapes and one part per shape.
 fn template_of(kinds: u16, parts: &[&[u16]]) -> Vec<u16> {
@@ -346,24 +349,24 @@ fn script_23_to_25_its_links() {
     assert_eq!(script::read(&[1], &[]).map(|_| ()), Err(Refusal::at(1, 0)));
 }
 
+/// The smallest typing of the worked sheet with these bookings, into a grid of this size.
+fn book(words: &[u16], size: usize) -> Result<Smallest, Refusal> {
+    let mut grid = vec![7; size];
+    let answer = smallest(&DOCUMENT_TEMPLATE, &DOCUMENT_SCRIPT, words, &mut grid);
+    if answer.is_err() {
+        assert!(grid.iter().all(|byte| *byte == 7), "a refusal changed the grid");
+    }
+    answer
+}
+
 #[test]
 fn bookings_30_to_33_and_the_grid_40() {
-    let book = |words: &[u16], size: usize| {
-        let mut grid = vec![7; size];
-        let answer = smallest(&DOCUMENT_TEMPLATE, &DOCUMENT_SCRIPT, words, &mut grid);
-        if answer.is_err() {
-            assert!(grid.iter().all(|byte| *byte == 7), "a refusal changed the grid");
-        }
-        answer
-    };
     assert_eq!(book(&[0], 6), Ok(Smallest::Pairs(0)));
     assert_eq!(book(&[], 6), Err(Refusal::at(30, 0)));
     assert_eq!(book(&[1025], 6), Err(Refusal::at(31, 0)));
     assert_eq!(book(&[1024], 6), Err(Refusal::at(30, 0)));
     assert_eq!(book(&[0, 0], 6), Err(Refusal::at(30, 0)));
     assert_eq!(book(&[1, 2], 6), Err(Refusal::at(30, 0)));
-    let many = [vec![1024], [2, 1].repeat(1024)].concat();
-    assert_eq!(book(&many, 6), Ok(Smallest::Pairs(1)));
     assert_eq!(book(&[1, 3, 2], 5), Err(Refusal::at(32, 1)));
     assert_eq!(book(&[1, 2, 2], 5), Err(Refusal::at(33, 2)));
     assert_eq!(book(&[2, 2, 1, 2, 2], 5), Err(Refusal::at(33, 4)));
@@ -375,6 +378,69 @@ fn bookings_30_to_33_and_the_grid_40() {
         let mut grid = [7; 5];
         let answer = method(&DOCUMENT_TEMPLATE, &DOCUMENT_SCRIPT, &mut grid);
         assert_eq!((answer, grid), (Err(Refusal::at(40, 0)), [7; 5]));
+    }
+}
+
+#[test]
+fn bookings_65_a_pair_that_is_booked_earlier() {
+    let refused = |words: &[u16], number: u16, place: usize| {
+        // The same in every call that takes bookings; a grid of the wrong size comes after that.
+        let refusal = Refusal::at(number, place);
+        for size in [6, 5] {
+            assert_eq!(book(words, size), Err(refusal), "{words:?}");
+            let judged = judge(&DOCUMENT_TEMPLATE, &DOCUMENT_SCRIPT, words, &vec![2; size]);
+            assert_eq!(judged, Err(refusal), "{words:?}");
+        }
+        for method in [both, both_by_rounds] {
+            let answer = method(&DOCUMENT_TEMPLATE, &DOCUMENT_SCRIPT, words);
+            assert_eq!(answer, Err(refusal), "{words:?}");
+        }
+        let printed = sheet::print(&document(words).bytes());
+        assert_eq!(printed, format!("refused {number} {place}\n"), "{words:?}");
+    };
+    refused(&[2, 2, 1, 2, 1], 65, 3);
+    refused(&[3, 2, 1, 0, 0, 2, 1], 65, 5);
+    refused(&[2, 0, 0, 0, 0], 65, 3);
+    // The first of several repeats is told, whichever pair it repeats.
+    refused(&[4, 2, 1, 0, 0, 0, 0, 2, 1], 65, 5);
+    refused(&[4, 2, 1, 2, 1, 2, 1, 2, 1], 65, 3);
+    // After the 33 of the same booking, before the 32 of the next.
+    refused(&[3, 2, 1, 2, 1, 9, 9], 65, 3);
+    refused(&[2, 2, 1, 2, 2], 33, 4);
+    refused(&[3, 3, 1, 2, 1, 2, 1], 32, 1);
+    refused(&[3, 2, 1, 2, 2, 2, 1], 33, 4);
+    refused(&[2, 3, 0, 3, 0], 32, 1);
+    refused(&[2, 2, 2, 2, 2], 33, 2);
+    // The size of the list comes before its bookings.
+    refused(&[2, 2, 1, 2, 1, 0], 30, 0);
+    refused(&[3, 2, 1, 2, 1], 30, 0);
+    refused(&[1025, 2, 1, 2, 1], 31, 0);
+    refused(&[vec![1024], [2, 1].repeat(1024)].concat(), 65, 3);
+    refused(&[vec![1025], [2, 1].repeat(1025)].concat(), 31, 0);
+}
+
+#[test]
+fn a_pair_has_to_be_the_same_in_both_words() {
+    let not_met = Ok(Smallest::NotMet(Card(0), Shape(1)));
+    assert_eq!(book(&[2, 0, 0, 0, 1], 6), not_met);
+    assert_eq!(book(&[2, 0, 1, 2, 1], 6), not_met);
+    assert_eq!(book(&[2, 0, 1, 1, 0], 6), not_met);
+    // The words of the last booking stand across the first two.
+    assert_eq!(book(&[3, 0, 1, 1, 0, 1, 1], 6), not_met);
+    assert_eq!(book(&[6, 0, 0, 0, 1, 1, 0, 1, 1, 2, 0, 2, 1], 6), not_met);
+    let read = |cards: u16, words: &[u16]| {
+        let setting = Setting::read(&template_of(1, &[&[0][..]; 32]), &[cards, 0]).expect("well-formed");
+        bookings::read(&setting, words).map(|booked| booked.len())
+    };
+    // As many bookings as can be, by cards and by shapes; then the last is a repeat of the first.
+    for cards in [1024, 32] {
+        let pair = |number: u16| [number % cards, number / cards];
+        let mut words: Vec<u16> = [1024].into_iter().chain((0..1024).flat_map(pair)).collect();
+        assert_eq!(read(cards, &words), Ok(1024));
+        words[2047..].copy_from_slice(&[0, 0]);
+        assert_eq!(read(cards, &words), Err(Refusal::at(65, 2047)));
+        words[2048] = 32;
+        assert_eq!(read(cards, &words), Err(Refusal::at(33, 2048)));
     }
 }
 
@@ -403,7 +469,9 @@ fn sheet_60_the_length_of_the_input() {
 
 #[test]
 fn sheet_order_of_the_files() {
-    let mut files = document(&[1, 3, 0]);
+    let mut files = document(&[2, 2, 1, 2, 1]);
+    assert_eq!(sheet::print(&files.bytes()), "refused 65 3\n");
+    files.bookings[1] = 3;
     assert_eq!(sheet::print(&files.bytes()), "refused 32 1\n");
     files.script[0] = 2;
     assert_eq!(sheet::print(&files.bytes()), "refused 23 4\n");

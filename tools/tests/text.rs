@@ -426,6 +426,10 @@ const HINTS: &[(&str, &str)] = &[
         "kinds: a\nshape A = nothing\ncard x\nlink x a x x",
         "this link stands twice",
     ),
+    (
+        "kinds: a\nshape A = nothing\ncard x\nbook x A\n\n book x A",
+        "it is booked at line 4, column 6 already",
+    ),
 ];
 
 /// What the second line of the message for a refused text says.

@@ -1,35 +1,42 @@
-//! Random bookings: from the pairs that the largest typing keeps, so that they are met, or from all pairs.
+//! Random bookings: from the pairs that the largest typing keeps, so that they are met, or from all pairs. No pair is
+//! booked twice.
 
 use crate::numbers::{Card, Shape};
 use crate::random::Random;
+use crate::typing::tidying::tidied;
 use crate::typing::{links, Pair, Setting};
 
 /// Up to `most` bookings: half of the lists are met if there is any pair that can be.
-pub fn bookings(random: &mut Random, setting: &Setting, most: u16) -> Vec<u16> {
+pub fn bookings(random: &mut Random, setting: &Setting, most: u16) -> Vec<Pair> {
+    tidied(setting, &picked(random, setting, most))
+}
+
+/// The same before repeats are dropped.
+fn picked(random: &mut Random, setting: &Setting, most: u16) -> Vec<Pair> {
     let kept = pairs_with(setting, 1);
     match random.below(10) {
-        0 => words(&[]),
+        0 => Vec::new(),
         1..=6 if !kept.is_empty() => {
             let count = booking_count(random, most);
-            words(&(0..count).map(|_| random.pick(&kept)).collect::<Vec<_>>())
+            (0..count).map(|_| random.pick(&kept)).collect()
         }
         7 if !kept.is_empty() => {
             let count = booking_count(random, most);
             let mut booked: Vec<Pair> = (0..count).map(|_| random.pick(&kept)).collect();
             let odd_one = random.below(booked.len());
             booked[odd_one] = any_pair(random, setting);
-            words(&booked)
+            booked
         }
-        _ if setting.script.cards == 0 => words(&[]),
+        _ if setting.script.cards == 0 => Vec::new(),
         _ => {
             let count = booking_count(random, most.min(8));
-            words(&(0..count).map(|_| any_pair(random, setting)).collect::<Vec<_>>())
+            (0..count).map(|_| any_pair(random, setting)).collect()
         }
     }
 }
 
 /// Bookings with at least one pair that can't be met, if there is such a pair.
-pub fn unmet(random: &mut Random, setting: &Setting) -> Vec<u16> {
+pub fn unmet(random: &mut Random, setting: &Setting) -> Vec<Pair> {
     let kept = pairs_with(setting, 1);
     let struck = pairs_with(setting, 0);
     let mut booked = Vec::new();
@@ -41,14 +48,7 @@ pub fn unmet(random: &mut Random, setting: &Setting) -> Vec<u16> {
             booked.push(random.pick(&struck));
         }
     }
-    words(&booked)
-}
-
-/// The words of a booking list.
-pub fn words(booked: &[Pair]) -> Vec<u16> {
-    let mut words = vec![booked.len() as u16];
-    words.extend(booked.iter().flat_map(|(card, shape)| [card.0, shape.0]));
-    words
+    tidied(setting, &booked)
 }
 
 /// The pairs at which the largest typing has this byte.

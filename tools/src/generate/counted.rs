@@ -1,6 +1,5 @@
 //! Sheets that put a question of *Fit counts* to the printer.
 
-use super::bookings;
 use super::parts::any_outgoing;
 use super::scripts::{self, Links};
 use crate::labels::{Labelled, Way};
@@ -8,6 +7,7 @@ use crate::numbers::{Card, Shape};
 use crate::script::{MOST_CARDS, MOST_LINKS};
 use crate::sheet::Files;
 use crate::template::{self, Definition, Link, Template};
+use crate::typing::bookings;
 
 /// A sheet whose bookings are met exactly if the counts fit the shape. Card 0 has that many links with each label, and
 /// is booked for shape 0, which is the one asked about. At their far ends are cards with shape 1, which takes any links

@@ -1,8 +1,8 @@
 //! Faults, each aimed at one refusal. A fault may miss its aim (there may be no link to spoil, or an earlier fault
 //! comes first); what the right answer is, the implementation says.
 
-use super::bookings;
 use super::layout::{layout, Layout, Spot};
+use super::{bookings, repeats};
 use crate::labels::{Label, Way};
 use crate::numbers::Kind;
 use crate::random::Random;
@@ -10,11 +10,11 @@ use crate::sheet::{Files, MOST_BYTES};
 use crate::template::{
     code_of, label_of, ALL, CHOICE, MOST_COUNT, MOST_DEPTH, MOST_KINDS, MOST_WORDS, NO_LIMIT, OPEN,
 };
-use crate::typing::Setting;
+use crate::typing::{self, Setting};
 
 /// The refusals that a sheet can be aimed at.
-pub const AIMS: [u16; 25] = [
-    1, 2, 3, 4, 5, 6, 7, 8, 9, 10, 11, 12, 20, 21, 22, 23, 24, 25, 30, 31, 32, 33, 50, 60, 64,
+pub const AIMS: [u16; 26] = [
+    1, 2, 3, 4, 5, 6, 7, 8, 9, 10, 11, 12, 20, 21, 22, 23, 24, 25, 30, 31, 32, 33, 50, 60, 64, 65,
 ];
 
 /// Puts one fault into a whole sheet, aimed at this refusal (any of `AIMS` but 60).
@@ -30,7 +30,7 @@ pub fn aimed(random: &mut Random, files: &mut Files, number: u16) {
         }
         50 => {
             if let Ok(setting) = Setting::read(&files.template, &files.script) {
-                files.bookings = bookings::unmet(random, &setting);
+                files.bookings = typing::bookings::words(&bookings::unmet(random, &setting));
             }
         }
         _ => {
@@ -71,7 +71,7 @@ pub fn several(random: &mut Random, files: &mut Files, count: usize) {
                 of_script(random, words, kinds, number);
             }
             (_, Some(words)) => {
-                let number = random.word(30, 33);
+                let number = random.pick(&[30, 31, 32, 33, 65]);
                 of_bookings(random, words, cards, shapes, number);
             }
             (_, None) => {}
@@ -346,6 +346,9 @@ fn not_above(random: &mut Random, words: &mut [u16], link: usize) {
 
 /// A fault in a booking list.
 fn of_bookings(random: &mut Random, words: &mut Vec<u16>, cards: u16, shapes: u16, number: u16) {
+    if number == 65 {
+        return repeats::put(random, words, cards, shapes);
+    }
     if number >= 32 && words.len() < 3 {
         *words = vec![1, 0, 0];
     }

@@ -5,14 +5,14 @@ pub mod nested;
 pub mod wrapped;
 
 use super::parts::{filler, outgoing};
-use super::{bookings, scripts};
+use super::scripts;
 use crate::labels::{Label, Way};
 use crate::numbers::{Card, Kind, Shape};
 use crate::random::Random;
 use crate::script::{MOST_CARDS, MOST_LINKS};
 use crate::sheet::Files;
 use crate::template::{self, Definition, Part, Template, MOST_KINDS, MOST_SHAPES, MOST_WORDS};
-use crate::typing::bookings::MOST_BOOKINGS;
+use crate::typing::bookings::{self, MOST_BOOKINGS};
 
 /// The labels that every shape of the densest sheet names.
 const COMMON: u16 = 24;

@@ -10,6 +10,7 @@
 //! | `orders`   | several faults at once: which one is told                                  |
 //! | `typings`  | both typings of some sheets, typings between them, and what is a pair off  |
 //! | `limits`   | everything at its limit                                                    |
+//! | `repeats`  | booking lists in which a pair stands twice, or nearly so                   |
 //! | `grids`    | random grids                                                               |
 
 pub mod arriving;
@@ -18,6 +19,7 @@ pub mod grids;
 pub mod limits;
 pub mod open;
 pub mod orders;
+pub mod repeats;
 pub mod runs;
 pub mod samples;
 pub mod typings;
@@ -79,9 +81,7 @@ impl JudgeCase {
     /// The three files and the grid, each after its length in two bytes, low byte first: a count of words for the
     /// files, of bytes for the grid.
     pub fn bytes(&self) -> Result<Vec<u8>, String> {
-        let files = [&self.files.template, &self.files.script, &self.files.bookings];
-        let longest = files.iter().map(|words| words.len()).max().unwrap_or(0);
-        if longest > MOST_FILE_WORDS || self.grid.len() > MOST_GRID_BYTES {
+        if self.files.longest() > MOST_FILE_WORDS || self.grid.len() > MOST_GRID_BYTES {
             return Err(format!("the case {} is too long", self.name));
         }
         let mut bytes = self.files.bytes();
@@ -104,6 +104,7 @@ pub fn fixed() -> Vec<JudgeCase> {
         orders::orders(),
         typings::typings(),
         limits::limits(),
+        repeats::repeats(),
     ]
     .concat()
 }

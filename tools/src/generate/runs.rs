@@ -6,10 +6,11 @@ pub mod most;
 
 use super::parts::{incoming, outgoing};
 use super::scripts::{self, Links};
-use super::{bookings, Case};
+use super::Case;
 use crate::numbers::{Card, Shape};
 use crate::sheet::Files;
 use crate::template::{self, Definition, Link, Part, Template, MOST_COUNT, MOST_KINDS};
+use crate::typing::bookings;
 
 /// The runs of a card: kinds, and how many links of each start there.
 pub type Runs<'a> = &'a [(u16, u16)];

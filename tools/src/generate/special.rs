@@ -1,15 +1,17 @@
 //! Sheets made on purpose: the worked one, long chains of strikes, and everything at its limit.
 
+use super::bookings::bookings as any_bookings;
 use super::parts::{filler, outgoing, template as any_template};
-use super::{bookings, scripts, turns, Case, FULL};
+use super::{scripts, turns, Case, FULL};
 use crate::labels::Label;
 use crate::numbers::{Card, Shape};
 use crate::random::Random;
 use crate::script::{MOST_CARDS, MOST_LINKS};
 use crate::sheet::{Files, MOST_BYTES};
 use crate::template::{self, Definition, Part, Template, MOST_KINDS, MOST_SHAPES, MOST_WORDS};
-use crate::typing::bookings::MOST_BOOKINGS;
-use crate::typing::Setting;
+use crate::typing::bookings::{self, MOST_BOOKINGS};
+use crate::typing::tidying::tidied;
+use crate::typing::{Pair, Setting};
 
 /// The template of the worked sheet (docs/FORMAT.md).
 pub const DOCUMENT_TEMPLATE: [u16; 15] = [2, 2, 10, 17, 2, 256, 1, 1, 1, 257, 0, 0, 1, 1, 0];
@@ -23,6 +25,11 @@ pub fn document(booking_words: &[u16]) -> Files {
         script: DOCUMENT_SCRIPT.to_vec(),
         bookings: booking_words.to_vec(),
     }
+}
+
+/// A template with one kind and so many shapes, which are all nothing.
+pub fn nothings(shapes: u16) -> Vec<u16> {
+    [vec![1, shapes], [1, 0].repeat(shapes.into())].concat()
 }
 
 /// The inputs that come first, whatever the seed.
@@ -125,9 +132,8 @@ pub fn limits(random: &mut Random) -> Files {
     let words = template::write(&template);
     let booking_words = match Setting::read(&words, &script) {
         Ok(setting) => {
-            let mut list = bookings::bookings(random, &setting, MOST_BOOKINGS);
-            fill_bookings(&mut list);
-            list
+            let list = any_bookings(random, &setting, MOST_BOOKINGS);
+            fill_bookings(&setting, &list)
         }
         Err(refusal) => panic!("the sheet at its limits has a fault, {refusal}"),
     };
@@ -172,17 +178,10 @@ fn fill_script(random: &mut Random, script: &[u16]) -> Vec<u16> {
     scripts::words(MOST_CARDS, &links)
 }
 
-/// The bookings again and again, up to the limit; the first pair of all if there are none.
-fn fill_bookings(list: &mut Vec<u16>) {
-    if list.len() == 1 {
-        list.extend([0, MOST_SHAPES - 2]);
-    }
-    let pairs = list[1..].to_vec();
-    list.extend(
-        pairs
-            .iter()
-            .cycle()
-            .take(2 * usize::from(MOST_BOOKINGS) - pairs.len()),
-    );
-    list[0] = MOST_BOOKINGS;
+/// The bookings and then one card after the other for the shape that takes any links, up to the limit.
+fn fill_bookings(setting: &Setting, booked: &[Pair]) -> Vec<u16> {
+    let any_links = setting.cards().map(|card| (card, Shape(MOST_SHAPES - 2)));
+    let all: Vec<Pair> = booked.iter().copied().chain(any_links).collect();
+    let different = tidied(setting, &all);
+    bookings::words(&different[..usize::from(MOST_BOOKINGS)])
 }

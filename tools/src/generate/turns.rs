@@ -1,10 +1,11 @@
 //! Sheets on which strikes and closures run against the links, or along and against them in turn.
 
 use super::parts::{any_outgoing, incoming, outgoing};
-use super::{bookings, scripts};
+use super::scripts;
 use crate::numbers::{Card, Shape};
 use crate::sheet::Files;
 use crate::template::{self, Part, Template};
+use crate::typing::bookings;
 
 /// Each card leads to the next one, and has to be led to by one that has shape 0 too; shape 1 is for any card. If the
 /// chain isn't closed, each round strikes its first card that is left, so there are as many rounds as cards and one

@@ -1,15 +1,17 @@
 //! What this implementation answers, written as a page writes it. The lines of a printed sheet have ` / ` between them.
+//! Behind the colon of a tidied list stands the buffer.
 
 use super::cells;
 use super::examples::{Operation, Question};
 use crate::fit;
+use crate::generate::tidying::UNTOUCHED;
 use crate::numbers::{Card, Shape};
 use crate::refusal::Refusal;
 use crate::script::{self, links_of_card};
 use crate::sheet::{self, Files};
 use crate::template;
 use crate::typing::judge::{self, judge_by_choices};
-use crate::typing::{self, bookings, largest_by_rounds, met, smallest, Setting, Smallest};
+use crate::typing::{self, bookings, largest_by_rounds, met, smallest, tidying, Setting, Smallest};
 
 /// What a lent grid is filled with first.
 const FILLED: u8 = 9;
@@ -30,6 +32,7 @@ pub fn answer(question: &Question) -> Result<String, String> {
         Operation::Met => pair_is_met(question),
         Operation::Sound | Operation::Holds | Operation::Between => about_typing(question),
         Operation::Judge => Ok(judged(question)),
+        Operation::Tidy => Ok(tidied(question)),
     }
 }
 
@@ -95,7 +98,7 @@ fn largest(question: &Question) -> Result<String, String> {
             let head = format!("largest {} {} {}\n", answer.rounds, answer.struck, answer.bare);
             Ok(lines(&(head + &cards(question, &grid)?)))
         }
-        Err(refusal) => untouched(&grid, refusal),
+        Err(refusal) => Ok(untouched(&grid, FILLED, refusal)),
     }
 }
 
@@ -116,16 +119,32 @@ fn smallest_typing(question: &Question) -> Result<String, String> {
             Ok(format!("smallest no {} {}", card.0, shape.0))
         }
         Ok(Smallest::NotMet(..)) => Ok("50, but the grid isn't all 0".to_string()),
-        Err(refusal) => untouched(&grid, refusal),
+        Err(refusal) => Ok(untouched(&grid, FILLED, refusal)),
     }
 }
 
-/// A refusal whose grid must be as it was.
-fn untouched(grid: &[u8], refusal: Refusal) -> Result<String, String> {
-    if grid.iter().any(|byte| *byte != FILLED) {
-        return Ok(format!("{}, but the grid has changed", refused(refusal)));
+/// The tidied list; a refusal has to leave the buffer as it was.
+fn tidied(question: &Question) -> String {
+    let Question {
+        template,
+        script,
+        bookings,
+        words,
+        ..
+    } = question;
+    let mut buffer = vec![UNTOUCHED; *words];
+    match tidying::tidy(template, script, bookings, &mut buffer) {
+        Ok(words) => tidying::answer(Ok(words), &buffer),
+        Err(refusal) => untouched(&buffer, UNTOUCHED, refusal),
     }
-    Ok(refused(refusal))
+}
+
+/// A refusal whose grid or buffer must be as it was.
+fn untouched<T: PartialEq>(lent: &[T], filled: T, refusal: Refusal) -> String {
+    if lent.iter().any(|entry| *entry != filled) {
+        return format!("{}, but what was lent has changed", refused(refusal));
+    }
+    refused(refusal)
 }
 
 /// A line for each card of a grid.

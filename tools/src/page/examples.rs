@@ -39,10 +39,12 @@ pub enum Operation {
     Between,
     /// *Judge a grid*.
     Judge,
+    /// *Tidy bookings*, into a buffer of some words.
+    Tidy,
 }
 
 /// The columns that ask, in the order of this list, and what they ask.
-const ASKED: [(&str, Operation); 16] = [
+const ASKED: [(&str, Operation); 17] = [
     ("template", Operation::Template),
     ("template counts", Operation::Fit),
     ("template shape counts", Operation::Fit),
@@ -59,12 +61,13 @@ const ASKED: [(&str, Operation); 16] = [
     ("template script bookings typing", Operation::Holds),
     ("template script typing lower upper", Operation::Between),
     ("template script bookings grid", Operation::Judge),
+    ("template script bookings words", Operation::Tidy),
 ];
 
 /// The columns that ask, in the order in which `ASKED` names them.
-const COLUMNS: [&str; 14] = [
+const COLUMNS: [&str; 15] = [
     "input", "template", "script", "bookings", "shape", "counts", "card", "bytes", "round", "typing",
-    "lower", "upper", "closure", "grid",
+    "lower", "upper", "closure", "grid", "words",
 ];
 
 /// The columns that only people read.
@@ -99,6 +102,8 @@ pub struct Question {
     pub upper: Vec<u8>,
     /// The bytes of a grid that is judged.
     pub grid: Vec<u8>,
+    /// The words of the buffer that is lent.
+    pub words: usize,
     /// The printer's input.
     pub input: Vec<u8>,
 }
@@ -204,6 +209,7 @@ impl Question {
             "lower" => self.lower = cells::grid(cell)?,
             "upper" => self.upper = cells::grid(cell)?,
             "grid" => self.grid = cells::judged_grid(cell)?,
+            "words" => self.words = cells::number(cell)?,
             _ => return Err(format!("no example asks with a column {column:?}")),
         }
         Ok(())

@@ -19,7 +19,7 @@ fn tell_word(compiled: &Compiled, refusal: Refusal) -> Told {
     let (file, section): (&'static str, &Section) = match refusal.number {
         1..=12 | 64 => ("template", &compiled.template),
         20..=25 => ("script", &compiled.script),
-        30..=33 | 63 => ("bookings", &compiled.bookings),
+        30..=33 | 63 | 65 => ("bookings", &compiled.bookings),
         _ => return Told::without_word(refusal, None),
     };
     let Some(origin) = section.origins.get(refusal.place) else {

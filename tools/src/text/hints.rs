@@ -1,6 +1,7 @@
 //! What a refusal means for the text that the words come from, in the words of those who write texts.
 
 use super::compile::Compiled;
+use super::roles::first_place;
 use crate::refusal::Refusal;
 use crate::script::{MOST_CARDS, MOST_LINKS};
 use crate::template::{MOST_COUNT, MOST_DEPTH, MOST_GROUP, MOST_KINDS, MOST_SHAPES, MOST_WORDS};
@@ -38,8 +39,16 @@ pub fn hint(compiled: &Compiled, refusal: Refusal) -> Option<String> {
         31 => over(*compiled.bookings.words.first()?, "bookings", MOST_BOOKINGS),
         // A text gives whole files, so its words can only be too many.
         60 => format!("its words take {} bytes", compiled.files().bytes().len()),
+        65 => booked_before(compiled, place)?,
         _ => return None,
     })
+}
+
+/// Where the pair that is booked at a place is booked first.
+fn booked_before(compiled: &Compiled, place: usize) -> Option<String> {
+    let first = first_place(&compiled.bookings.words, place)?;
+    let spot = compiled.bookings.origins[first].spot;
+    Some(format!("it is booked at {spot} already"))
 }
 
 /// What is wrong with a low and a high.

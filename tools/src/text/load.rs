@@ -66,8 +66,8 @@ pub fn tell_refusal(file: &str, bytes: &[u8], refusal: Refusal) -> Trouble {
     Trouble { file, form, why }
 }
 
-/// A text and its words.
-fn compiled(bytes: &[u8]) -> Result<(Text, Compiled), Why> {
+/// A text and its words, which may be refused.
+pub fn compiled(bytes: &[u8]) -> Result<(Text, Compiled), Why> {
     let text = decode(bytes).and_then(parse).map_err(Why::Fault)?;
     let compiled = compile(&text).map_err(Why::Fault)?;
     Ok((text, compiled))
@@ -86,9 +86,8 @@ fn decode(bytes: &[u8]) -> Result<&str, Fault> {
 
 /// The sheet of a text.
 fn of_text(text: Text, compiled: Compiled) -> Result<Sheet, Why> {
-    let files = compiled.files();
     let told = |refusal| Why::Refused(Box::new(explain::tell(&compiled, refusal)));
-    sheet::split(&files.bytes()).map_err(told)?;
+    let files = sheet::split(&compiled.files().bytes()).map_err(told)?;
     let read = Read::of(&files).map_err(told)?;
     Ok(read.sheet(text, compiled, Form::Text))
 }

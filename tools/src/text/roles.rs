@@ -11,7 +11,7 @@ pub fn file_of(files: &Files, refusal: Refusal) -> Option<(&'static str, &[u16])
     match refusal.number {
         1..=12 | 64 => Some(("template", &files.template)),
         20..=25 => Some(("script", &files.script)),
-        30..=33 | 63 => Some(("bookings", &files.bookings)),
+        30..=33 | 63 | 65 => Some(("bookings", &files.bookings)),
         _ => None,
     }
 }
@@ -27,7 +27,18 @@ pub fn tell(files: &Files, refusal: Refusal) -> Told {
         _ => booking_role(refusal.place),
     };
     let value = words.get(refusal.place).copied();
-    Told::at_word(refusal, Word { file, value, role }, None)
+    let told = Told::at_word(refusal, Word { file, value, role }, None);
+    Told {
+        note: note(words, refusal),
+        ..told
+    }
+}
+
+/// What there is to say about 65 beyond the word at fault.
+fn note(words: &[u16], refusal: Refusal) -> Option<String> {
+    let place = (refusal.number == 65).then_some(refusal.place)?;
+    let first = first_place(words, place)?;
+    Some(format!("its pair is that of booking {}", (first - 1) / 2))
 }
 
 /// Refusal 60 of an input that can't be cut into three files, and why it can't.
@@ -184,6 +195,13 @@ pub fn script_role(place: usize) -> String {
             format!("the {word} of link {}, counted from 0", (place - 2) / 3)
         }
     }
+}
+
+/// The place of the first booking of the pair that is booked at a place; none if there is no earlier one.
+pub fn first_place(bookings: &[u16], place: usize) -> Option<usize> {
+    let pair = bookings.get(place..)?.first_chunk::<2>()?;
+    let mut places = (1..place).step_by(2);
+    places.find(|earlier| place % 2 == 1 && bookings[*earlier..].starts_with(pair))
 }
 
 /// What the word at this place of the bookings is for.

@@ -88,8 +88,8 @@ pub fn random(random: &mut Random, size: Size) -> String {
     for [from, kind, to] in links {
         let _ = writeln!(text, "link c{from} {} c{to}", name('k', kind));
     }
-    for _ in 0..size.cards.min(4) {
-        let (card, shape) = (random.below(size.cards), random.below(size.shapes));
+    let booked = (0..size.cards.min(4)).map(|_| [size.cards, size.shapes].map(|bound| random.below(bound)));
+    for [card, shape] in booked.collect::<BTreeSet<_>>() {
         let _ = writeln!(text, "book c{card} {}", name('S', shape));
     }
     text

@@ -2,7 +2,7 @@
 
 use super::samples::SMALL;
 use super::{counts_of, JudgeCase};
-use crate::generate::special::{DOCUMENT_SCRIPT, DOCUMENT_TEMPLATE};
+use crate::generate::special::{nothings, DOCUMENT_SCRIPT, DOCUMENT_TEMPLATE};
 use crate::samples::turned;
 
 /// One kind and three shapes: no links, one link to a card of shape 0, two of them.
@@ -48,7 +48,7 @@ fn sizes() -> Vec<JudgeCase> {
             &grid,
         ));
     }
-    let wide = [vec![1, 32], [1, 0].repeat(32)].concat();
+    let wide = nothings(32);
     cases.extend([
         JudgeCase::new("size-of-one-0", &SMALL, &[1, 0], &[0], &[]),
         JudgeCase::new("size-of-one-1", &SMALL, &[1, 0], &[0], &[1]),
@@ -175,11 +175,11 @@ fn hubs() -> Vec<JudgeCase> {
     [0, 1, 40].map(case).into()
 }
 
-/// Bookings that are held, and the first, one in the middle, the last, several or a repeated one that isn't, 63.
+/// Bookings that are held, and the first, one in the middle, the last or several that aren't, 63.
 fn held() -> Vec<JudgeCase> {
     let three: &[u16] = &[3, 0, 0, 1, 0, 3, 0];
-    let repeated: &[u16] = &[4, 1, 0, 2, 0, 1, 0, 2, 0];
-    let last_alone: &[u16] = &[3, 1, 0, 1, 0, 2, 0];
+    let two: &[u16] = &[2, 1, 0, 2, 0];
+    let not_ascending: &[u16] = &[3, 1, 0, 0, 0, 2, 0];
     let on_cards: [(&[u16], [u8; 4]); 12] = [
         (three, [1, 1, 1, 1]),
         (three, [1, 1, 0, 1]),
@@ -189,10 +189,10 @@ fn held() -> Vec<JudgeCase> {
         (three, [0, 1, 1, 0]),
         (three, [1, 0, 1, 0]),
         (three, [0, 0, 0, 0]),
-        (repeated, [0, 1, 1, 0]),
-        (repeated, [1, 0, 1, 1]),
-        (repeated, [1, 1, 0, 1]),
-        (last_alone, [1, 1, 0, 1]),
+        (two, [0, 1, 1, 0]),
+        (two, [1, 0, 1, 1]),
+        (two, [1, 1, 0, 1]),
+        (not_ascending, [1, 1, 0, 1]),
     ];
     // The card has another shape than the one that it is booked for, or one of the two.
     let on_shapes: [(&[u16], [u8; 2]); 5] = [

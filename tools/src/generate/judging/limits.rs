@@ -4,16 +4,16 @@ use super::samples::SMALL;
 use super::{JudgeCase, MOST_FILE_WORDS, MOST_GRID_BYTES};
 use crate::generate::heavy::{common_kinds, dense_template, densest_open};
 use crate::generate::parts::filler;
-use crate::generate::special::chain;
+use crate::generate::scripts;
+use crate::generate::special::{chain, nothings};
 use crate::generate::turns::chain_back;
-use crate::generate::{bookings, scripts};
 use crate::labels::{Label, Way};
 use crate::numbers::{Card, Kind, Shape};
 use crate::random::Random;
 use crate::script::{MOST_CARDS, MOST_LINKS};
 use crate::sheet::Files;
 use crate::template::{self, Link, MOST_SHAPES, MOST_WORDS};
-use crate::typing::bookings::MOST_BOOKINGS;
+use crate::typing::bookings::{self, MOST_BOOKINGS};
 use crate::typing::Pair;
 
 /// All cases at the limits.
@@ -87,7 +87,7 @@ fn full_sheet(way: Way, most: u16) -> Files {
 
 /// The last byte of the largest grid is over 1; that byte is missing; the longest grid of all.
 fn grids(pairs: usize) -> Vec<JudgeCase> {
-    let wide = [vec![1, MOST_SHAPES], [1, 0].repeat(usize::from(MOST_SHAPES))].concat();
+    let wide = nothings(MOST_SHAPES);
     let cards = [MOST_CARDS, 0];
     let over = [vec![1; pairs - 1], vec![2]].concat();
     vec![
@@ -98,7 +98,7 @@ fn grids(pairs: usize) -> Vec<JudgeCase> {
     ]
 }
 
-/// As many cards and bookings as can be: all held, all but the first or the last, and one that is repeated.
+/// As many cards and bookings as can be: all held, all but the first or the last; and one that is repeated.
 fn booked() -> Vec<JudgeCase> {
     let cards = [MOST_CARDS, 0];
     let last = usize::from(MOST_CARDS) - 1;

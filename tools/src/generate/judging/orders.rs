@@ -50,12 +50,13 @@ pub fn orders() -> Vec<JudgeCase> {
     cases
 }
 
-/// The worked sheet with a sound grid that holds both bookings, and then these faults, which stand in the order of the
-/// stages. The later ones are made first.
+/// The worked sheet with one blank card more and a sound grid that holds both bookings, and then these faults, which
+/// stand in the order of the stages. The later ones are made first.
 fn spoiled(faults: &[Fault]) -> JudgeCase {
-    let grid = [0, 0, 0, 0, 0, 1];
-    let bookings = [2, 2, 1, 2, 1];
+    let grid = [0, 0, 0, 0, 0, 1, 0, 1];
+    let bookings = [2, 2, 1, 3, 1];
     let mut case = JudgeCase::new("", &DOCUMENT_TEMPLATE, &DOCUMENT_SCRIPT, &bookings, &grid);
+    case.files.script[0] = 4;
     for fault in faults.iter().rev() {
         spoil(&mut case, *fault);
     }
@@ -73,7 +74,7 @@ fn spoil(case: &mut JudgeCase, (stage, late): Fault) {
         (Stage::Template, false) => files.template[0] = 0,
         (Stage::Template, true) => files.template.push(0),
         (Stage::Script, false) => files.script[0] = MOST_CARDS + 1,
-        (Stage::Script, true) => files.script[10] = 3,
+        (Stage::Script, true) => files.script[10] = 4,
         (Stage::Bookings, false) => files.bookings[0] = MOST_BOOKINGS + 1,
         (Stage::Bookings, true) => files.bookings[4] = 2,
         (Stage::Size, false) => {

@@ -1,0 +1,129 @@
+//! Inputs for *Tidy bookings*: sheets with stored lists, each with a buffer.
+//!
+//! | here      | what                                                                        |
+//! |-----------|-----------------------------------------------------------------------------|
+//! | `samples` | the examples of docs/FORMAT.md                                              |
+//! | `orders`  | several faults at once: which one is told                                   |
+//! | `lists`   | how often pairs stand in a list and where, up to the limit                  |
+
+pub mod lists;
+pub mod orders;
+pub mod samples;
+
+use super::judging::MOST_FILE_WORDS;
+use super::{edges, repeats, Case};
+use crate::random::Random;
+use crate::sheet::{self, Files};
+use crate::typing::bookings::{self, MOST_BOOKINGS};
+use crate::typing::tidying::{answer, tidy};
+use crate::typing::{Pair, Setting};
+
+/// What each word of a buffer is before the call.
+pub const UNTOUCHED: u16 = 7;
+
+/// One sheet with a stored list and a buffer, and a name that says how they were made.
+#[derive(Clone, PartialEq, Eq, Debug)]
+pub struct TidyCase {
+    /// How it was made.
+    pub name: String,
+    /// The template, the script and the stored list.
+    pub files: Files,
+    /// How many words the buffer has.
+    pub words: usize,
+}
+
+impl TidyCase {
+    /// A case whose buffer is as long as the list.
+    pub fn new(name: impl Into<String>, files: Files) -> TidyCase {
+        TidyCase {
+            name: name.into(),
+            words: files.bookings.len(),
+            files,
+        }
+    }
+
+    /// The line that is owed: the answer and, behind a colon, the buffer after the call.
+    pub fn answer(&self) -> String {
+        let mut buffer = vec![UNTOUCHED; self.words];
+        let Files {
+            template,
+            script,
+            bookings,
+        } = &self.files;
+        let words = tidy(template, script, bookings, &mut buffer);
+        answer(words, &buffer)
+    }
+
+    /// The three files, each after its count of words in two bytes, low byte first, and how many words the buffer has.
+    pub fn bytes(&self) -> Result<Vec<u8>, String> {
+        if self.files.longest().max(self.words) > MOST_FILE_WORDS {
+            return Err(format!("the case {} is too long", self.name));
+        }
+        let mut bytes = self.files.bytes();
+        bytes.extend((self.words as u16).to_le_bytes());
+        Ok(bytes)
+    }
+}
+
+/// The cases that are the same for every seed.
+pub fn fixed() -> Vec<TidyCase> {
+    let split = |case: Case| Some(TidyCase::new(case.name, sheet::split(&case.bytes).ok()?));
+    let of_repeats = |(name, files): (String, Files)| TidyCase::new(name, files);
+    let lists = [
+        samples::samples(),
+        edges::edges().into_iter().filter_map(split).collect(),
+        orders::orders(),
+        repeats::fixed::sheets().into_iter().map(of_repeats).collect(),
+        lists::lists(),
+    ];
+    lists.concat()
+}
+
+/// The cases of one seed: the fixed ones first, then as many random ones as are asked for.
+pub fn cases(seed: u64, count: usize) -> impl Iterator<Item = TidyCase> {
+    let mut random = Random::new(seed);
+    let any = std::iter::repeat_with(move || case(&mut random));
+    fixed().into_iter().chain(any).take(count)
+}
+
+/// One random case: a sheet that is read, or one with a faulty file.
+pub fn case(random: &mut Random) -> TidyCase {
+    let is_read = random.chance(5, 6);
+    loop {
+        let source = super::case(random);
+        let Ok(mut files) = sheet::split(&source.bytes) else {
+            continue;
+        };
+        let read = Setting::read(&files.template, &files.script)
+            .and_then(|setting| bookings::read_stored(&setting, &files.bookings));
+        match read {
+            Ok(booked) if is_read => files.bookings = bookings::words(&repeated(random, booked)),
+            Err(_) if !is_read => {}
+            _ => continue,
+        }
+        let mut case = TidyCase::new(source.name, files);
+        case.words = buffer(random, case.words);
+        return case;
+    }
+}
+
+/// The list with bookings put in again, anywhere: none, one, as many as there are, or more.
+fn repeated(random: &mut Random, mut booked: Vec<Pair>) -> Vec<Pair> {
+    let all = booked.len();
+    let more = random.pick(&[0, all.min(1), all, 3 * all]);
+    for _ in 0..more.min(usize::from(MOST_BOOKINGS) - all) {
+        let pair = random.pick(&booked);
+        booked.insert(random.below(booked.len() + 1), pair);
+    }
+    booked
+}
+
+/// The length of a buffer for a list of this length, most often the same.
+fn buffer(random: &mut Random, length: usize) -> usize {
+    match random.below(12) {
+        0 => length + 1,
+        1 => length.saturating_sub(random.between(1, 2)),
+        2 => random.between(0, 20),
+        _ => length,
+    }
+}

@@ -1,0 +1,319 @@
+//! The cases for *Tidy bookings*: the stream's format, the mix of the random ones, what the fixed ones have, and those
+//! that are stored.
+
+use prep_tools::cases;
+use prep_tools::generate::tidying::{self, samples, TidyCase};
+use prep_tools::page::examples::{self, Operation};
+use prep_tools::sheet::Files;
+use prep_tools::typing::{bookings, Pair};
+use prep_tools::typing::{closure, Setting, Smallest};
+use std::collections::{BTreeMap, BTreeSet};
+use std::env;
+use std::fs;
+use std::path::Path;
+use std::process;
+
+const PAGE: &str = concat!(env!("CARGO_MANIFEST_DIR"), "/../docs/FORMAT.md");
+/// The stored cases.
+const STORED: &str = concat!(env!("CARGO_MANIFEST_DIR"), "/../crates/tidy_cases");
+
+/// The files of a stream.
+fn written(name: &str, seed: u64, count: usize) -> (Vec<u8>, String) {
+    let path = |end: &str| env::temp_dir().join(format!("prep-tools-{}-{name}-{end}", process::id()));
+    let (inputs, answers) = (path("in"), path("out"));
+    cases::tidied(&inputs, &answers, seed, count).expect("the files can be written");
+    let read = (fs::read(&inputs), fs::read_to_string(&answers));
+    for path in [inputs, answers] {
+        fs::remove_file(path).expect("the file can be removed");
+    }
+    (
+        read.0.expect("the cases can be read"),
+        read.1.expect("the answers can be read"),
+    )
+}
+
+/// Takes a word of a stream, low byte first.
+fn word(stream: &mut &[u8]) -> u16 {
+    let (two, rest) = stream.split_at(2);
+    *stream = rest;
+    u16::from(two[0]) + 256 * u16::from(two[1])
+}
+
+/// The cases of a stream: the files, and how many words the buffer has.
+fn read(mut stream: &[u8]) -> Vec<(Files, usize)> {
+    let mut cases = Vec::new();
+    while !stream.is_empty() {
+        let mut words = || -> Vec<u16> {
+            let count = word(&mut stream);
+            (0..count).map(|_| word(&mut stream)).collect()
+        };
+        let files = Files {
+            template: words(),
+            script: words(),
+            bookings: words(),
+        };
+        cases.push((files, usize::from(word(&mut stream))));
+    }
+    cases
+}
+
+#[test]
+fn a_stream_has_the_cases_that_are_not_long() {
+    let fixed = tidying::fixed().len();
+    let (stream, lines) = written("tidied", 5, fixed + 150);
+    let fits = |(number, case): &(usize, TidyCase)| {
+        *number < fixed || case.bytes().is_ok_and(|bytes| bytes.len() <= 3000)
+    };
+    let cases = tidying::cases(5, fixed + 150).enumerate().filter(fits);
+    let stored: Vec<TidyCase> = cases.map(|(_, case)| case).collect();
+    assert!(stored.len() < fixed + 150 && stored.len() > fixed + 90);
+    let read = read(&stream);
+    assert_eq!((read.len(), lines.lines().count()), (stored.len(), stored.len()));
+    assert!(lines.ends_with('\n'));
+    for ((case, (files, words)), line) in stored.iter().zip(&read).zip(lines.lines()) {
+        assert_eq!((files, *words), (&case.files, case.words), "{}", case.name);
+        assert_eq!(line, case.answer());
+    }
+}
+
+#[test]
+fn a_case_that_is_too_long_is_an_error() {
+    let long = |length: usize, words: usize| {
+        let files = Files {
+            template: vec![1, 1, 1, 0],
+            script: vec![0; length],
+            bookings: vec![0],
+        };
+        let name = "long".to_string();
+        TidyCase { name, files, words }.bytes()
+    };
+    assert!(long(32_767, 32_767).is_ok());
+    assert_eq!(long(32_768, 0), Err("the case long is too long".to_string()));
+    assert!(long(0, 32_768).is_err());
+}
+
+#[test]
+fn the_examples_of_the_page_are_the_samples() {
+    let page = fs::read_to_string(PAGE).expect("the page can be read");
+    let examples = examples::read(&page).expect("the page has examples");
+    let on_the_page: Vec<_> = examples
+        .into_iter()
+        .filter(|example| example.question.operation == Operation::Tidy)
+        .collect();
+    let samples = samples::samples();
+    assert_eq!(on_the_page.len(), samples.len());
+    for (example, sample) in on_the_page.iter().zip(samples) {
+        let question = &example.question;
+        let files = Files {
+            template: question.template.clone(),
+            script: question.script.clone(),
+            bookings: question.bookings.clone(),
+        };
+        assert_eq!((&files, question.words), (&sample.files, sample.words));
+        assert!(sample.answer().starts_with(&example.answer), "{}", example.answer);
+    }
+}
+
+/// The number of a line's refusal; 0 if a list is written.
+fn number(line: &str) -> u16 {
+    let refused = line
+        .strip_prefix("refused ")
+        .and_then(|rest| rest.split(' ').next());
+    refused.map_or(0, |number| number.parse().expect("a refusal has a number"))
+}
+
+/// How often each answer is given, by its number; 0 is that a list is written.
+fn tally(cases: &[TidyCase]) -> BTreeMap<u16, usize> {
+    let mut tally = BTreeMap::new();
+    for case in cases {
+        let line = case.answer();
+        *tally.entry(number(&line)).or_insert(0) += 1;
+        if number(&line) > 0 {
+            let (_, buffer) = line.split_once(" :").expect("a line has a buffer");
+            assert_eq!(buffer, " 7".repeat(case.words), "{}", case.name);
+        }
+    }
+    tally
+}
+
+/// The refusals of the files, which 65 isn't among, and 40.
+fn refusals() -> BTreeSet<u16> {
+    let of_files = (1..=12).chain([64]).chain(20..=25).chain(30..=33);
+    of_files.chain([40]).collect()
+}
+
+#[test]
+fn the_fixed_cases_have_every_refusal_but_65() {
+    let tally = tally(&tidying::fixed());
+    let mut owed = refusals();
+    owed.insert(0);
+    assert_eq!(tally.keys().copied().collect::<BTreeSet<_>>(), owed, "{tally:?}");
+    for (number, least) in [(0, 100), (30, 15), (31, 10), (32, 10), (33, 10), (40, 20)] {
+        assert!(tally[&number] >= least, "{number}: {tally:?}");
+    }
+}
+
+/// The bookings of a case whose list is written, and its sheet.
+fn stored(case: &TidyCase) -> Option<(Setting, Vec<Pair>)> {
+    let setting = Setting::read(&case.files.template, &case.files.script).ok()?;
+    let booked = bookings::read_stored(&setting, &case.files.bookings).ok()?;
+    (number(&case.answer()) == 0).then_some((setting, booked))
+}
+
+/// What a case shows about a list that is written.
+fn shown(case: &TidyCase) -> Option<Vec<&'static str>> {
+    let (setting, booked) = stored(case)?;
+    let written: usize = case.answer().split(' ').nth(1)?.parse().ok()?;
+    let kept = (written - 1) / 2;
+    let is_met = matches!(closure::smallest(&setting, &booked).0, Smallest::Pairs(_));
+    let beside = booked.windows(2).any(|two| two[0] == two[1]);
+    let apart = (2..booked.len()).any(|later| booked[..later - 1].contains(&booked[later]));
+    let all = [
+        ("none is booked", booked.is_empty()),
+        ("none is dropped", !booked.is_empty() && kept == booked.len()),
+        ("one is dropped", kept + 1 == booked.len()),
+        ("many are dropped", kept + 1 < booked.len()),
+        ("all are alike", kept == 1 && booked.len() > 1),
+        ("a repeat beside its first", beside),
+        ("a repeat apart from its first", apart),
+        ("dropped, met", kept < booked.len() && is_met),
+        ("dropped, not met", kept < booked.len() && !is_met),
+    ];
+    Some(
+        all.into_iter()
+            .filter(|(_, is_shown)| *is_shown)
+            .map(|(what, _)| what)
+            .collect(),
+    )
+}
+
+#[test]
+fn lists_of_every_sort_come_up() {
+    let fixed = tidying::fixed();
+    let random: Vec<TidyCase> = tidying::cases(35, fixed.len() + 900).skip(fixed.len()).collect();
+    for (name, cases, least) in [("fixed", fixed, 4), ("random", random, 20)] {
+        let mut tally: BTreeMap<&str, usize> = BTreeMap::new();
+        for what in cases.iter().filter_map(shown).flatten() {
+            *tally.entry(what).or_default() += 1;
+        }
+        assert_eq!(tally.len(), 9, "{name}: {tally:?}");
+        assert!(tally.values().all(|count| *count >= least), "{name}: {tally:?}");
+    }
+}
+
+#[test]
+fn every_answer_comes_up_among_the_random_cases() {
+    let fixed = tidying::fixed().len();
+    let random: Vec<TidyCase> = tidying::cases(36, fixed + 3000).skip(fixed).collect();
+    let tally = tally(&random);
+    for number in refusals() {
+        assert!(
+            tally.get(&number).is_some_and(|count| *count >= 3),
+            "{number}: {tally:?}"
+        );
+    }
+    assert!(
+        tally[&0] > 1500 && tally[&40] > 300 && !tally.contains_key(&65),
+        "{tally:?}"
+    );
+}
+
+/// Cases at the limit, and the start and the end of the line that is owed.
+const LIMITS: [(&str, &str, &str); 12] = [
+    (
+        "repeat-most-cards-each",
+        "written 2049 : 1024 0 0 1 0 2 0",
+        " 1023 0",
+    ),
+    (
+        "repeat-most-cards-last-of-first",
+        "written 2047 : 1023 0 0 1 0",
+        " 1022 0 7 7",
+    ),
+    (
+        "repeat-most-cards-last-of-next",
+        "written 2047 : 1023 0 0 1 0",
+        " 1022 0 7 7",
+    ),
+    (
+        "repeat-most-cards-second",
+        "written 2047 : 1023 0 0 2 0",
+        " 1023 0 7 7",
+    ),
+    ("repeat-most-cards-all", "written 3 : 1 1023 0 7 7 7", " 7 7"),
+    ("repeat-most-cards-one-more", "refused 31 0 : 7 7", " 7 7"),
+    (
+        "repeat-most-shapes-each",
+        "written 2049 : 1024 0 0 0 1 0 2",
+        " 31 31",
+    ),
+    ("repeat-most-shapes-all", "written 3 : 1 31 31 7 7", " 7 7"),
+    ("most-side-by-side", "written 1025 : 512 0 0 0 1 0 2", " 7 7"),
+    ("most-there-and-back", "written 1025 : 512 0 0 0 1 0 2", " 7 7"),
+    ("most-card", "written 65 : 32 0 0 0 1 0 2", " 7 7"),
+    ("most-shape", "written 33 : 16 0 0 1 0 2 0", " 7 7"),
+];
+
+#[test]
+fn the_limits_are_reached() {
+    let fixed = tidying::fixed();
+    for (name, start, end) in LIMITS {
+        let case = fixed.iter().find(|case| case.name == name);
+        let case = case.expect("there is such a case");
+        let line = case.answer();
+        assert!(line.starts_with(start) && line.ends_with(end), "{name}: {line}");
+        assert_eq!(
+            line.split(' ').count(),
+            3 + case.words + usize::from(number(&line) > 0)
+        );
+        let more = usize::from(name.ends_with("one-more"));
+        assert_eq!(
+            (case.files.bookings[0], case.words),
+            (1024 + more as u16, 2049 + 2 * more)
+        );
+    }
+}
+
+#[test]
+fn of_several_faults_the_first_is_told() {
+    let fixed = tidying::fixed();
+    let told = |name: &str| {
+        let case = fixed.iter().find(|case| case.name == name);
+        let line = case.expect("there is such a case").answer();
+        line.split(" :").next().expect("a line has an answer").to_string()
+    };
+    let faults = [
+        ("template", "refused 2 0"),
+        ("template-end", "refused 12 15"),
+        ("script", "refused 21 0"),
+        ("script-end", "refused 23 10"),
+        ("empty", "refused 30 0"),
+        ("over", "refused 31 0"),
+        ("size", "refused 30 0"),
+        ("card", "refused 32 5"),
+        ("shape", "refused 33 8"),
+        ("short", "refused 40 0"),
+        ("long", "refused 40 0"),
+        ("none", "refused 40 0"),
+    ];
+    assert_eq!(told("order"), "written 5");
+    for (order, (first, answer)) in faults.into_iter().enumerate() {
+        assert_eq!(told(&format!("order+{first}")), answer);
+        // Of the faults of the buffer there can be only one.
+        for (second, _) in faults[order + 1..].iter().filter(|_| order < 9) {
+            assert_eq!(told(&format!("order+{first}+{second}")), answer, "{second}");
+        }
+    }
+}
+
+#[test]
+fn the_stored_cases_are_those_of_the_command() {
+    let stored = |name: &str| fs::read(Path::new(STORED).join(name)).expect("the cases are stored");
+    let (inputs, answers) = (stored("stdin"), stored("stdout"));
+    // tools/README.md names this seed and count.
+    let (again, lines) = written("stored-tidied", 7, 630);
+    assert!(
+        again == inputs && lines.as_bytes() == answers,
+        "the stored cases are older"
+    );
+}

@@ -1,0 +1,238 @@
+//! A pair that is booked twice in a sheet, be it text or words: where and how that is told, and how `tidy` drops it.
+
+use prep_tools::generate::special::document;
+use prep_tools::generate::tidying;
+use prep_tools::refusal::Refusal;
+use prep_tools::sheet::Files;
+use prep_tools::text::check;
+use prep_tools::text::load::{load_input, load_sheet, tell_refusal};
+use prep_tools::text::machine;
+use prep_tools::text::tidy::tidy;
+use prep_tools::text::write;
+use prep_tools::typing::tidying::tidy as operation;
+
+/// The worked sheet, with bookings that stand twice, in between other lines.
+const TEXT: &str = "\
+kinds: a b
+shape First = all(a[1;1]@Second, # both
+                  b[0;1]@First)
+shape Second = nothing
+book two Second # the first
+card zero \"The # first\"
+card one
+card two
+book zero First
+  book\ttwo Second   # once more
+link zero a two
+link zero b one
+book zero First
+book two First
+link one a zero";
+
+/// The same without repeats.
+const TIDY: &str = "\
+kinds: a b
+shape First = all(a[1;1]@Second, # both
+                  b[0;1]@First)
+shape Second = nothing
+book two Second # the first
+card zero \"The # first\"
+card one
+card two
+book zero First
+# once more
+link zero a two
+link zero b one
+book two First
+link one a zero";
+
+#[test]
+fn the_line_of_the_second_booking_is_told_with_that_of_the_first() {
+    let message = check::run("x.txt", TEXT).expect_err("a pair is booked twice");
+    assert_eq!(
+        message,
+        "x.txt:10:8: refused 65 5: a pair is booked a second time\n  \
+         it is booked at line 5, column 6 already\n  \
+         word 5 of the bookings is 2: the card of the booking two Second"
+    );
+    let once = TEXT.replace("  book\ttwo Second", "");
+    let message = check::run("x.txt", &once).expect_err("another pair is booked twice");
+    assert!(message.starts_with("x.txt:13:6: refused 65 5: "), "{message}");
+    assert!(
+        message.contains("\n  it is booked at line 9, column 6 already\n"),
+        "{message}"
+    );
+    let cards = TEXT
+        .replace("zero First", "one Second")
+        .replace("two First", "one First");
+    let message = check::run("x.txt", &cards).expect_err("a pair is booked twice");
+    assert!(message.starts_with("x.txt:10:8: refused 65 5: "), "{message}");
+}
+
+#[test]
+fn words_tell_the_first_booking_by_its_number() {
+    let bytes = document(&[3, 2, 1, 0, 0, 2, 1]).bytes();
+    let trouble = load_sheet("x.bin", &bytes).expect_err("a pair is booked twice");
+    assert_eq!(
+        trouble.to_string(),
+        "x.bin: refused 65 5: a pair is booked a second time\n  \
+         its pair is that of booking 0\n  \
+         word 5 of the bookings is 2: the card of booking 2, counted from 0"
+    );
+}
+
+#[test]
+fn json_has_the_refusal_with_its_line() {
+    let told = |bytes: &[u8]| {
+        let trouble = load_sheet("x", bytes).expect_err("a pair is booked twice");
+        machine::trouble(&trouble).to_string()
+    };
+    assert_eq!(
+        told(TEXT.as_bytes()),
+        "{\"file\":\"x\",\"form\":\"text\",\"outcome\":\"refused\",\"refusal\":{\"number\":65,\"place\":5,\
+         \"message\":\"a pair is booked a second time\",\"section\":\"bookings\",\"word\":2,\
+         \"role\":\"the card of the booking two Second\",\
+         \"note\":\"it is booked at line 5, column 6 already\",\"line\":10,\"column\":8}}"
+    );
+    assert_eq!(
+        told(&document(&[2, 2, 1, 2, 1]).bytes()),
+        "{\"file\":\"x\",\"form\":\"words\",\"outcome\":\"refused\",\"refusal\":{\"number\":65,\"place\":3,\
+         \"message\":\"a pair is booked a second time\",\"section\":\"bookings\",\"word\":2,\
+         \"role\":\"the card of booking 1, counted from 0\",\
+         \"note\":\"its pair is that of booking 0\",\"line\":null,\"column\":null}}"
+    );
+}
+
+#[test]
+fn a_printed_65_is_explained_at_any_place() {
+    let tell = |bytes: &[u8], place: usize| tell_refusal("x", bytes, Refusal::at(65, place)).to_string();
+    let (text, words) = (TEXT.as_bytes(), document(&[3, 2, 1, 0, 0, 2, 1]).bytes());
+    assert!(
+        tell(text, 5).starts_with("x:10:8: refused 65 5: a pair is booked a second time\n  it is booked at")
+    );
+    // These are no repeats, whatever a program printed.
+    for place in [0, 1, 2, 3, 4, 6, 12, 100, usize::MAX] {
+        for bytes in [text, &words] {
+            let told = tell(bytes, place);
+            assert!(told.contains(&format!("refused 65 {place}: ")), "{told}");
+            assert!(
+                !told.contains("it is booked at") && !told.contains("its pair"),
+                "{told}"
+            );
+        }
+    }
+}
+
+#[test]
+fn of_a_text_only_the_later_bookings_go() {
+    let tidied = tidy("x.txt", TEXT.as_bytes()).expect("the text is tidied");
+    assert_eq!(String::from_utf8_lossy(&tidied.bytes), TIDY);
+    assert_eq!((tidied.bookings, tidied.dropped), (5, 2));
+    let again = tidy("x.txt", TIDY.as_bytes()).expect("the text is tidied");
+    assert_eq!((again.bookings, again.dropped), (3, 0));
+    assert_eq!(again.bytes, TIDY.as_bytes());
+    check::run("x.txt", TIDY).expect("the tidied text is a sheet");
+}
+
+#[test]
+fn marks_and_ends_of_lines_stay() {
+    let windows = |text: &str| format!("{text}\n").replace('\n', "\r\n");
+    for (source, left) in [
+        (
+            format!("\u{feff}{TEXT}\nbook two First"),
+            format!("\u{feff}{TIDY}\n"),
+        ),
+        (windows(TEXT), windows(TIDY)),
+    ] {
+        let tidied = tidy("x.txt", source.as_bytes()).expect("the text is tidied");
+        assert_eq!(String::from_utf8_lossy(&tidied.bytes), left);
+    }
+}
+
+#[test]
+fn words_are_tidied_as_the_operation_does() {
+    let mut dropped = 0;
+    for case in tidying::cases(95, tidying::fixed().len() + 200) {
+        let Files {
+            template,
+            script,
+            bookings,
+        } = &case.files;
+        let mut buffer = bookings.clone();
+        match (
+            tidy("x", &case.files.bytes()),
+            operation(template, script, bookings, &mut buffer),
+        ) {
+            (Ok(tidied), Ok(words)) => {
+                buffer.truncate(words);
+                let owed = Files {
+                    bookings: buffer,
+                    ..case.files.clone()
+                };
+                assert_eq!(tidied.bytes, owed.bytes(), "{}", case.name);
+                let gone = (bookings.len() - words) / 2;
+                assert_eq!((tidied.bookings, tidied.dropped), (bookings.len() / 2, gone));
+                dropped += gone;
+            }
+            (Err(trouble), Err(refusal)) => {
+                let told = format!("x: refused {} {}: ", refusal.number, refusal.place);
+                assert!(trouble.to_string().starts_with(&told), "{trouble}");
+            }
+            (command, operation) => panic!("{}: {command:?}, {operation:?}", case.name),
+        }
+    }
+    assert!(dropped > 5000, "only {dropped} are dropped");
+}
+
+#[test]
+fn a_text_and_its_words_are_tidied_alike() {
+    for case in tidying::cases(96, tidying::fixed().len() + 100) {
+        // The text of a list with repeats: that of the sheet without bookings, and a line for each booking.
+        let mut bare = case.files.clone();
+        bare.bookings = vec![0];
+        let (Ok(text), Ok(tidied)) = (write::text(&bare.bytes()), tidy("x", &case.files.bytes())) else {
+            continue;
+        };
+        let (list, _) = case.files.bookings[1..].as_chunks::<2>();
+        let lines = list
+            .iter()
+            .map(|[card, shape]| format!("book card{card} Shape{shape}\n"));
+        let source = text + &lines.collect::<String>();
+        let of_text = tidy("x", source.as_bytes()).expect("the text is tidied");
+        assert_eq!(
+            (of_text.bookings, of_text.dropped),
+            (tidied.bookings, tidied.dropped)
+        );
+        let words = load_input("x", &of_text.bytes).expect("the text is read");
+        assert_eq!(words, tidied.bytes, "{}", case.name);
+    }
+}
+
+#[test]
+fn a_sheet_with_another_fault_is_not_tidied() {
+    for (source, start) in [
+        (TEXT.replace("[1;1]", "[2;1]"), "x.txt:2:21: refused 10 7: "),
+        (
+            TEXT.replace("link one", "link zero a two\nlink one"),
+            "x.txt:15:13: refused 25 5: ",
+        ),
+        (TEXT.replace("[1;1]", "[1;1"), "x.txt:2:20: this `[` isn't closed"),
+        (
+            TEXT.replace("two First", "three First"),
+            "x.txt:14:6: no card is named `three`",
+        ),
+    ] {
+        let told = tidy("x.txt", source.as_bytes())
+            .expect_err("the text has a fault")
+            .to_string();
+        assert!(told.starts_with(start), "{told}");
+    }
+    let many = "book two Second\n".repeat(1025);
+    let told = tidy("x.txt", format!("{TIDY}\n{many}").as_bytes())
+        .expect_err("too many")
+        .to_string();
+    assert!(
+        told.contains("refused 31 0: ") && told.contains("there are 1028 bookings"),
+        "{told}"
+    );
+}
