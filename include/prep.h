@@ -1,7 +1,7 @@
 /*
  * Prep sheet shapes for C and C++: read a template, fit counts, read a script, the links of a card,
- * the two typings of a script, and judge a grid. The library is libprep.a or libprep.so, for x86-64
- * Linux. FORMAT.md sets out words, typings and refusals.
+ * the two typings of a script, judge a grid, and tidy a stored booking list. The library is
+ * libprep.a or libprep.so, for x86-64 Linux. FORMAT.md sets out words, typings and refusals.
  *
  * Words and grids. Template, script, bookings and counts are arrays of 16-bit words in the
  * machine's own byte order; in a file they stand low byte first. A grid is an array of cards x
@@ -9,8 +9,7 @@
  * the length of the call and is given as a pointer and its length in elements. A pointer to words
  * must be aligned to 2 bytes. A pointer whose length is 0 may be NULL; every other pointer must
  * point to that many elements. Arrays that a call only reads (const) may overlap each other; an
- * array that a call writes may overlap no other array of the call. A grid that a call writes need
- * not be set before.
+ * array that a call writes may overlap no other array of the call, and need not be set before.
  *
  * Answers and refusals. No input is forbidden: what is wrong with it is answered by a refusal.
  * `number` is 0 where nothing is refused. Otherwise `number` is a constant of enum prep_refusal and
@@ -19,8 +18,8 @@
  * is 0. Each call tests in a fixed order and answers the first fault. A refusal other than
  * PREP_NOT_MET changes no array.
  *
- * What is proved. The functions from prep_read_template to prep_judge are proved to answer as
- * FORMAT.md says, on all inputs, to do nothing undefined, and to end, as long as pointers and
+ * What is proved. The functions from prep_read_template to prep_tidy_bookings are proved to answer
+ * as FORMAT.md says, on all inputs, to do nothing undefined, and to end, as long as pointers and
  * lengths are what they say. prep_version, prep_reason and prep_file_of are plain C: words are no
  * matter of proof.
  *
@@ -43,9 +42,9 @@
 #include <stdint.h>
 
 /* The version of this header; prep_version gives the library's. */
-#define PREP_VERSION_MAJOR 3
+#define PREP_VERSION_MAJOR 4
 #define PREP_VERSION_MINOR 0
-#define PREP_VERSION_PATCH 2
+#define PREP_VERSION_PATCH 0
 #define PREP_VERSION (PREP_VERSION_MAJOR * 10000 + PREP_VERSION_MINOR * 100 + PREP_VERSION_PATCH)
 
 /* The format's limits, for callers that set arrays aside. */
@@ -71,7 +70,7 @@ enum {
 enum { PREP_STACK_BYTES = 160 * 1024 };
 
 /*
- * A constant for each refusal, PREP_TEMPLATE_SIZE to PREP_TEMPLATE_OPEN; prep_refusals.def lists
+ * A constant for each refusal, PREP_TEMPLATE_SIZE to PREP_BOOKINGS_TWICE; prep_refusals.def lists
  * them with their numbers and words. PREP_NOT_MET and PREP_GRID_NOT_MET have a card and a shape
  * instead of a place. PREP_INPUT is the sheet printer's; no function here answers it. Later versions
  * may have more, so test `number != 0` for "refused".
@@ -90,7 +89,7 @@ enum prep_file {
     PREP_IN_SCRIPT = 2,
     PREP_IN_BOOKINGS = 3,
     PREP_IN_COUNTS = 4,
-    PREP_IN_GRID = 5,
+    PREP_IN_GRID = 5, /* or, for 40, in the array that prep_tidy_bookings writes */
     PREP_IN_INPUT = 6
 };
 
@@ -161,6 +160,13 @@ struct prep_judge_answer {
     size_t place;
 };
 
+/* Of a tidied booking list: how many words were written. */
+struct prep_tidy_answer {
+    uint16_t number;
+    size_t place;
+    size_t words;
+};
+
 #ifdef __cplusplus
 extern "C" {
 #endif
@@ -206,9 +212,9 @@ struct prep_largest_answer prep_largest(const uint16_t *template_words, size_t t
 
 /*
  * Writes the smallest typing that holds the bookings to `smallest_grid`, which has cards x shapes
- * bytes. Refusals: the template's, the script's, 30 to 33, then 40 at place 0. Last 50, with the
- * lowest card and then lowest shape of the bookings' closure that is not met: then the grid is all
- * 0.
+ * bytes. Refusals: the template's, the script's, the bookings' (30 to 33, and 65 at the card of a
+ * booking whose pair is booked earlier in the list), then 40 at place 0. Last 50, with the lowest
+ * card and then lowest shape of the bookings' closure that is not met: then the grid is all 0.
  */
 struct prep_smallest_answer prep_smallest(const uint16_t *template_words, size_t template_length,
                                           const uint16_t *script_words, size_t script_length,
@@ -227,15 +233,28 @@ struct prep_both_answer prep_both_typings(const uint16_t *template_words, size_t
 
 /*
  * Judges a grid of cards x shapes bytes, which is only read: nothing is refused exactly if it is a
- * sound typing that holds the bookings. Refusals: the template's, the script's, 30 to 33, then 40 at
- * place 0 and 61 at the first byte over 1. Then 62, with the lowest card and then lowest shape of
- * the grid that is not met under it. Last 63, at the card of the first booking that is not in the
- * grid.
+ * sound typing that holds the bookings. Refusals: the template's, the script's, the bookings' as for
+ * prep_smallest, then 40 at place 0 and 61 at the first byte over 1. Then 62, with the lowest card
+ * and then lowest shape of the grid that is not met under it. Last 63, at the card of the first
+ * booking that is not in the grid.
  */
 struct prep_judge_answer prep_judge(const uint16_t *template_words, size_t template_length,
                                     const uint16_t *script_words, size_t script_length,
                                     const uint16_t *booking_words, size_t bookings_length,
                                     const uint8_t *judged_grid, size_t judged_length);
+
+/*
+ * Tidies a booking list in which pairs may stand several times, such as one that was stored with a
+ * version before 4. Writes to `tidied_words`, which is as long as the list, the new count and then
+ * the first booking of each pair, in the list's order; leaves the rest of it as it was, and answers
+ * how many words were written. The list that is written has the same smallest typing, or the same
+ * 50, and is not refused with 65; a list without repeats is written as it is. Refusals: the
+ * template's, the script's, 30 to 33, then 40 at place 0 if `tidied_words` has another length.
+ */
+struct prep_tidy_answer prep_tidy_bookings(const uint16_t *template_words, size_t template_length,
+                                           const uint16_t *script_words, size_t script_length,
+                                           const uint16_t *booking_words, size_t bookings_length,
+                                           uint16_t *tidied_words, size_t tidied_length);
 
 /* The version of the library that is linked, as PREP_VERSION is made. */
 uint32_t prep_version(void);

@@ -1,7 +1,7 @@
 /*
  * Checks of the library as a C caller sees it: an answer and a refusal of each function, links that
- * arrive, open shapes, arrays that a refusal leaves alone, empty arrays given as NULL, refusals in
- * words, and the layout of answers. Builds as C and as C++.
+ * arrive, open shapes, bookings that stand twice, arrays that a refusal leaves alone, empty arrays
+ * given as NULL, refusals in words, and the layout of answers. Builds as C and as C++.
  */
 #include "prep.h"
 
@@ -396,6 +396,142 @@ static void check_judge_reads(void)
     CHECK(judged(j, PREP_NOT_REFUSED, 0, 0, 0));
 }
 
+/* Whether every call that takes bookings refuses a list of the sheet so, and leaves the grids as they were. */
+static int bookings_refused(const uint16_t *words, size_t length, uint16_t number, size_t place)
+{
+    uint8_t small[6], large[6];
+    struct prep_smallest_answer s;
+    struct prep_both_answer b;
+    struct prep_judge_answer j;
+    memset(small, 9, sizeof small);
+    memset(large, 9, sizeof large);
+    s = prep_smallest(LENT(sheet_template), LENT(sheet_script), words, length, LENT(small));
+    b = prep_both_typings(LENT(sheet_template), LENT(sheet_script), words, length, LENT(small), LENT(large));
+    j = prep_judge(LENT(sheet_template), LENT(sheet_script), words, length, LENT(large));
+    return s.number == number && s.place == place && s.card == 0 && s.shape == 0 && s.pairs == 0 &&
+           b.number == number && b.place == place && b.card == 0 && b.shape == 0 && b.rounds == 0 && b.pairs == 0 &&
+           judged(j, number, 0, 0, place) && all_are(LENT(small), 9) && all_are(LENT(large), 9);
+}
+
+/* A pair is refused where it is booked again: after the other faults of its booking, before those of the next. */
+static void check_repeats(void)
+{
+    static const uint16_t twice[] = {2, 2, 1, 2, 1};
+    static const uint16_t apart[] = {3, 2, 1, 0, 0, 2, 1};
+    static const uint16_t before_no_card[] = {3, 2, 1, 2, 1, 9, 9};
+    static const uint16_t after_no_card[] = {3, 9, 9, 2, 1, 2, 1};
+    static const uint16_t no_shape[] = {2, 2, 1, 2, 2};
+    static const uint16_t two_repeats[] = {4, 2, 1, 0, 0, 0, 0, 2, 1};
+    static const uint16_t too_long[] = {2, 2, 1, 2, 1, 2};
+    static const uint16_t two_shapes[] = {2, 0, 0, 0, 1};
+    uint8_t grid[6];
+    struct prep_smallest_answer s;
+    CHECK(bookings_refused(LENT(twice), PREP_BOOKINGS_TWICE, 3));
+    CHECK(bookings_refused(LENT(apart), PREP_BOOKINGS_TWICE, 5));
+    CHECK(bookings_refused(LENT(before_no_card), PREP_BOOKINGS_TWICE, 3));
+    CHECK(bookings_refused(LENT(after_no_card), PREP_BOOKINGS_NO_CARD, 1));
+    CHECK(bookings_refused(LENT(no_shape), PREP_BOOKINGS_NO_SHAPE, 4));
+    CHECK(bookings_refused(LENT(two_repeats), PREP_BOOKINGS_TWICE, 5));
+    CHECK(bookings_refused(LENT(too_long), PREP_BOOKINGS_SIZE, 0));
+    s = prep_smallest(LENT(sheet_template), LENT(sheet_script), LENT(two_shapes), LENT(grid));
+    CHECK(s.number == PREP_NOT_MET && s.card == 0 && s.shape == 1);
+    /* A repeat comes before a grid of the wrong size. */
+    s = prep_smallest(LENT(sheet_template), LENT(sheet_script), LENT(twice), NULL, 0);
+    CHECK(s.number == PREP_BOOKINGS_TWICE && s.place == 3);
+}
+
+/* Every number of an answer to prep_tidy_bookings. */
+static int tidied(struct prep_tidy_answer t, uint16_t number, size_t place, size_t words)
+{
+    return t.number == number && t.place == place && t.words == words;
+}
+
+/* A booking list of the sheet that is tidied. */
+#define TIDY(bookings, out, length) \
+    prep_tidy_bookings(LENT(sheet_template), LENT(sheet_script), LENT(bookings), (out), (length))
+
+/* What an array holds before a list is tidied into it. */
+static const uint16_t sevens[] = {7, 7, 7, 7, 7, 7, 7, 7, 7};
+
+static void check_tidy(void)
+{
+    static const uint16_t apart[] = {3, 2, 1, 0, 0, 2, 1};
+    static const uint16_t apart_tidied[] = {2, 2, 1, 0, 0, 7, 7};
+    static const uint16_t alike[] = {4, 2, 1, 2, 1, 2, 1, 2, 1};
+    static const uint16_t alike_tidied[] = {1, 2, 1, 7, 7, 7, 7, 7, 7};
+    static const uint16_t different[] = {4, 2, 1, 0, 0, 0, 1, 2, 0};
+    uint16_t out[9];
+    memcpy(out, sevens, sizeof out);
+    CHECK(tidied(TIDY(apart, out, 7), PREP_NOT_REFUSED, 0, 5) && memcmp(out, apart_tidied, sizeof apart) == 0);
+    CHECK(out[7] == 7 && out[8] == 7);
+    memcpy(out, sevens, sizeof out);
+    CHECK(tidied(TIDY(alike, out, 9), PREP_NOT_REFUSED, 0, 3) && memcmp(out, alike_tidied, sizeof out) == 0);
+    CHECK(tidied(TIDY(different, out, 9), PREP_NOT_REFUSED, 0, 9) && memcmp(out, different, sizeof out) == 0);
+    memcpy(out, sevens, sizeof out);
+    CHECK(tidied(TIDY(no_bookings, out, 1), PREP_NOT_REFUSED, 0, 1));
+    CHECK(out[0] == 0 && memcmp(out + 1, sevens, 8 * sizeof out[0]) == 0);
+    /* What is written is taken: only the grid is missing. */
+    CHECK(TIDY(apart, out, 7).words == 5);
+    CHECK(prep_smallest(LENT(sheet_template), LENT(sheet_script), out, 5, NULL, 0).number == PREP_GRID_SIZE);
+}
+
+/* The order of the refusals; none of them writes. */
+static void check_tidy_refuses(void)
+{
+    static const uint16_t apart[] = {3, 2, 1, 0, 0, 2, 1};
+    static const uint16_t over[] = {1025, 9};
+    static const uint16_t too_short[] = {1, 9};
+    static const uint16_t no_such_card[] = {3, 2, 1, 2, 1, 3, 9};
+    static const uint16_t no_such_shape[] = {1, 2, 2};
+    uint16_t out[9];
+    struct prep_tidy_answer t;
+    memcpy(out, sevens, sizeof out);
+    t = prep_tidy_bookings(LENT(code_4), LENT(to_card_2), LENT(over), LENT(out));
+    CHECK(tidied(t, PREP_TEMPLATE_CODE, 3, 0));
+    t = prep_tidy_bookings(LENT(sheet_template), LENT(to_card_2), LENT(over), LENT(out));
+    CHECK(tidied(t, PREP_SCRIPT_NO_CARD, 4, 0));
+    t = prep_tidy_bookings(LENT(sheet_template), LENT(sheet_script), NULL, 0, LENT(out));
+    CHECK(tidied(t, PREP_BOOKINGS_SIZE, 0, 0));
+    CHECK(tidied(TIDY(over, out, 9), PREP_BOOKINGS_COUNT, 0, 0));
+    CHECK(tidied(TIDY(too_short, out, 9), PREP_BOOKINGS_SIZE, 0, 0));
+    CHECK(tidied(TIDY(no_such_card, out, 9), PREP_BOOKINGS_NO_CARD, 5, 0));
+    CHECK(tidied(TIDY(no_such_shape, out, 9), PREP_BOOKINGS_NO_SHAPE, 2, 0));
+    CHECK(tidied(TIDY(apart, out, 8), PREP_GRID_SIZE, 0, 0));
+    CHECK(tidied(TIDY(apart, out, 6), PREP_GRID_SIZE, 0, 0));
+    CHECK(tidied(TIDY(apart, NULL, 0), PREP_GRID_SIZE, 0, 0));
+    CHECK(memcmp(out, sevens, sizeof out) == 0);
+    CHECK(tidied(prep_tidy_bookings(NULL, 0, NULL, 0, NULL, 0, NULL, 0), PREP_TEMPLATE_SIZE, 0, 0));
+}
+
+/* As many bookings as there may be: all different, then the last one a repeat, then all alike. */
+static void check_most_bookings(void)
+{
+    static const uint16_t all_cards[] = {PREP_MAX_CARDS, 0};
+    static uint16_t list[PREP_MAX_BOOKING_WORDS], out[PREP_MAX_BOOKING_WORDS];
+    static uint8_t grid[PREP_MAX_CARDS];
+    struct prep_smallest_answer s;
+    struct prep_tidy_answer t;
+    size_t i;
+    list[0] = PREP_MAX_BOOKINGS;
+    for (i = 0; i < PREP_MAX_BOOKINGS; i++) {
+        list[1 + 2 * i] = (uint16_t)(PREP_MAX_CARDS - 1 - i);
+    }
+    s = prep_smallest(LENT(small_template), LENT(all_cards), LENT(list), LENT(grid));
+    CHECK(s.number == PREP_NOT_REFUSED && s.pairs == PREP_MAX_BOOKINGS);
+    t = prep_tidy_bookings(LENT(small_template), LENT(all_cards), LENT(list), LENT(out));
+    CHECK(tidied(t, PREP_NOT_REFUSED, 0, LENGTH(list)) && memcmp(out, list, sizeof out) == 0);
+    list[PREP_MAX_BOOKING_WORDS - 2] = list[1];
+    s = prep_smallest(LENT(small_template), LENT(all_cards), LENT(list), LENT(grid));
+    CHECK(s.number == PREP_BOOKINGS_TWICE && s.place == PREP_MAX_BOOKING_WORDS - 2);
+    t = prep_tidy_bookings(LENT(small_template), LENT(all_cards), LENT(list), LENT(out));
+    CHECK(tidied(t, PREP_NOT_REFUSED, 0, LENGTH(list) - 2) && out[0] == PREP_MAX_BOOKINGS - 1);
+    for (i = 1; i < LENGTH(list); i++) {
+        list[i] = 0;
+    }
+    t = prep_tidy_bookings(LENT(small_template), LENT(all_cards), LENT(list), LENT(out));
+    CHECK(tidied(t, PREP_NOT_REFUSED, 0, 3) && out[0] == 1 && out[1] == 0 && out[2] == 0);
+}
+
 /* Each number of the table has words of its own and says where its place is; no other number has. */
 static void check_words(void)
 {
@@ -433,6 +569,8 @@ static void check_layout(void)
     CHECK(offsetof(struct prep_both_answer, rounds) == 16 && offsetof(struct prep_both_answer, struck) == 24);
     CHECK(sizeof(struct prep_judge_answer) == 16 && offsetof(struct prep_judge_answer, place) == 8);
     CHECK(offsetof(struct prep_judge_answer, card) == 2 && offsetof(struct prep_judge_answer, shape) == 4);
+    CHECK(sizeof(struct prep_tidy_answer) == 24 && offsetof(struct prep_tidy_answer, place) == 8);
+    CHECK(offsetof(struct prep_tidy_answer, words) == 16);
     CHECK(sizeof(enum prep_file) == 4);
 }
 
@@ -456,6 +594,10 @@ int main(void)
     check_judge();
     check_judge_refuses();
     check_judge_reads();
+    check_repeats();
+    check_tidy();
+    check_tidy_refuses();
+    check_most_bookings();
     check_words();
     return failures != 0;
 }

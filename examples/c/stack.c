@@ -26,6 +26,7 @@ static uint16_t full_script[PREP_MAX_SCRIPT_WORDS];
 static uint16_t full_bookings[PREP_MAX_BOOKING_WORDS];
 static uint16_t zero_counts[PREP_MAX_COUNTS];
 static uint16_t some_links[PREP_MAX_SCRIPT_WORDS];
+static uint16_t tidied_bookings[PREP_MAX_BOOKING_WORDS];
 static uint8_t smallest_grid[PREP_MAX_GRID_BYTES];
 static uint8_t largest_grid[PREP_MAX_GRID_BYTES];
 
@@ -89,7 +90,7 @@ static void fill_script(void)
 
 static const char *const functions[] = {"prep_read_template", "prep_fit_counts", "prep_read_script",
                                         "prep_links_of_card", "prep_largest",    "prep_smallest",
-                                        "prep_both_typings",  "prep_judge"};
+                                        "prep_both_typings",  "prep_judge",      "prep_tidy_bookings"};
 
 /*
  * Calls a function; 0 if it answers, 50 if the bookings are not met. The grid that is judged is the
@@ -116,8 +117,11 @@ static int call_function(int function)
         return prep_both_typings(t, t_length, s, s_length, b, b_length, smallest_grid, LENGTH(smallest_grid),
                                  largest_grid, LENGTH(largest_grid))
             .number;
-    default:
+    case 7:
         return prep_judge(t, t_length, s, s_length, b, b_length, largest_grid, LENGTH(largest_grid)).number;
+    default:
+        return prep_tidy_bookings(t, t_length, s, s_length, b, b_length, tidied_bookings, LENGTH(tidied_bookings))
+            .number;
     }
 }
 

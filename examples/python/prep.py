@@ -1,4 +1,4 @@
-"""Prep sheet shapes: templates, scripts, their two typings and grids to judge, by the proved library.
+"""Prep sheet shapes by the proved library: templates, scripts, their two typings, grids to judge, bookings to tidy.
 
     import prep
 
@@ -23,6 +23,10 @@ And a shape may be open, so that links of kinds that it does not name may start 
 
     template = prep.Template.of(2, [prep.open_shape(prep.link(0, 1, 1, 1)), prep.nothing()])
 
+A pair is booked once. A stored list in which pairs stand several times is tidied:
+
+    bookings = script.tidy_bookings([(2, 1), (0, 0), (2, 1)])  # [(2, 1), (0, 0)]
+
 What the library turns down is a Refused, which says in words what is wrong and where. The library is libprep.so in
 the folder that PREP_LIB_DIR names, or in the lib folder of the package that this file came with, or where the system
 looks. Python 3.8 or later; nothing but the standard library. Other threads run while the library works.
@@ -34,7 +38,7 @@ import os
 from typing import Iterable, List, NamedTuple, Sequence, Tuple
 
 # The versions that this file is for: this major one, with this minor one or a later one.
-MAJOR = 3
+MAJOR = 4
 MINOR = 0
 
 # The refusals that have a card and a shape instead of a place.
@@ -49,7 +53,7 @@ _FILES = ("nothing", "template", "script", "bookings", "counts", "grid", "input"
 
 def _answer(name: str, *fields: str) -> type:
     """A struct of prep.h. Its sizes and counts of pairs are size_t, all else is words."""
-    sizes = ("place", "rounds", "struck", "bare", "pairs")
+    sizes = ("place", "rounds", "struck", "bare", "pairs", "words")
     kinds = [(field, _SIZE if field in sizes else _WORD) for field in fields]
     return type(name, (ctypes.Structure,), {"_fields_": kinds})
 
@@ -61,6 +65,7 @@ _LargestAnswer = _answer("_LargestAnswer", "number", "place", "rounds", "struck"
 _SmallestAnswer = _answer("_SmallestAnswer", "number", "card", "shape", "place", "pairs")
 _BothAnswer = _answer("_BothAnswer", "number", "card", "shape", "place", "rounds", "struck", "bare", "pairs")
 _JudgeAnswer = _answer("_JudgeAnswer", "number", "card", "shape", "place")
+_TidyAnswer = _answer("_TidyAnswer", "number", "place", "words")
 
 
 def _library_path() -> str:
@@ -95,6 +100,7 @@ def _load() -> ctypes.CDLL:
         ("prep_smallest", _SmallestAnswer, lent * 4),
         ("prep_both_typings", _BothAnswer, lent * 5),
         ("prep_judge", _JudgeAnswer, lent * 4),
+        ("prep_tidy_bookings", _TidyAnswer, lent * 4),
         ("prep_reason", ctypes.c_char_p, [_WORD]),
         ("prep_file_of", ctypes.c_uint, [_WORD]),
     ):
@@ -354,13 +360,14 @@ class Script:
         return Largest(self._typing(grid), answer.rounds, answer.struck, answer.bare)
 
     def smallest(self, bookings: Iterable[Tuple[int, int]]) -> Smallest:
-        """The smallest sound typing that has the booked pairs of card and shape. Refusals: 31 to 33; or NotMet."""
+        """The smallest sound typing that has the booked pairs of card and shape. Refusals: 31 to 33, 65 where a pair
+        is booked a second time; or NotMet."""
         grid, listed = self._grid(), _booking_words(bookings)
         answer = _accept(_library.prep_smallest(*_lend(self.template._words, self._words, listed, grid)))
         return Smallest(self._typing(grid), answer.pairs)
 
     def both(self, bookings: Iterable[Tuple[int, int]]) -> Both:
-        """Both typings in one call. Refusals: 31 to 33; bookings that are not met are no exception here."""
+        """Both typings in one call. Refusals: 31 to 33, 65; bookings that are not met are no exception here."""
         small, large, listed = self._grid(), self._grid(), _booking_words(bookings)
         lent = _lend(self.template._words, self._words, listed, small, large)
         answer = _library.prep_both_typings(*lent)
@@ -373,9 +380,17 @@ class Script:
 
     def judge(self, bookings: Iterable[Tuple[int, int]], grid: Iterable[int]) -> None:
         """Returns if a grid of bytes, such as a typing's, is a sound typing that has the booked pairs. Refusals: 31 to
-        33, 40, 61, 63; or GridNotMet."""
+        33, 65, 40, 61, 63; or GridNotMet."""
         lent = _lend(self.template._words, self._words, _booking_words(bookings), _bytes(grid))
         _accept(_library.prep_judge(*lent))
+
+    def tidy_bookings(self, bookings: Iterable[Tuple[int, int]]) -> List[Tuple[int, int]]:
+        """The first booking of each pair, in the list's order, for stored lists in which a pair may stand several
+        times. What the list books stays the same, and it is no longer refused with 65. Refusals: 31 to 33."""
+        listed = _booking_words(bookings)
+        tidied = (_WORD * len(listed))()
+        answer = _accept(_library.prep_tidy_bookings(*_lend(self.template._words, self._words, listed, tidied)))
+        return list(zip(tidied[1 : answer.words : 2], tidied[2 : answer.words : 2]))
 
     def _grid(self) -> ctypes.Array:
         return (_BYTE * (self.cards * self.template.shapes))()
@@ -384,7 +399,7 @@ class Script:
         return Typing(bytes(grid), self.cards, self.template.shapes)
 
 
-def _booking_words(bookings: Iterable[Tuple[int, int]]) -> array.array:
+def _booking_words(bookings: Iterable[Tuple[int, int]]) -> ctypes.Array:
     """A booking list: its count, then each pair. A count that no word holds is refused as any over 1,024 is."""
     pairs = list(bookings)
     return _words([min(len(pairs), 65535)] + [number for pair in pairs for number in pair])

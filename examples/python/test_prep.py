@@ -80,13 +80,34 @@ class Words(unittest.TestCase):
         self.refused(31, 0, script.both, [(0, 0)] * 1025)
         self.refused(31, 0, script.smallest, [(0, 0)] * 70000)
 
+    def test_repeats_are_refused(self):
+        script = prep.Script(prep.Template(TEMPLATE), SCRIPT)
+        for call in (script.smallest, script.both, lambda listed: script.judge(listed, [])):
+            told = self.refused(65, 3, call, [(2, 1), (2, 1)])
+            self.assertEqual(str(told), "a pair is booked a second time (refusal 65, word 3)")
+            self.assertEqual(told.file, "bookings")
+            self.refused(65, 5, call, [(2, 1), (0, 0), (2, 1)])
+            self.refused(65, 3, call, [(2, 1), (2, 1), (9, 9)])
+            self.refused(33, 4, call, [(2, 1), (2, 2)])
+        # One card with two shapes is no repeat.
+        self.assertRaises(prep.NotMet, script.smallest, [(0, 0), (0, 1)])
+
+    def test_tidying_is_refused(self):
+        script = prep.Script(prep.Template(TEMPLATE), SCRIPT)
+        self.refused(31, 0, script.tidy_bookings, [(0, 0)] * 1025)
+        self.refused(31, 0, script.tidy_bookings, [(0, 0)] * 70000)
+        self.refused(32, 5, script.tidy_bookings, [(2, 1), (2, 1), (3, 9)])
+        self.refused(33, 2, script.tidy_bookings, [(2, 2)])
+        self.assertRaises(ValueError, script.tidy_bookings, [(2, 65536)])
+
     def test_grids_are_refused(self):
         script = prep.Script(prep.Template(TEMPLATE), SCRIPT)
         self.refused(31, 0, script.judge, [(0, 0)] * 1025, [])
         self.refused(32, 1, script.judge, [(3, 0)], [])
         self.refused(33, 4, script.judge, [(0, 0), (0, 2)], [])
         told = self.refused(40, 0, script.judge, [(2, 1)], [2, 1, 1, 0, 0])
-        self.assertEqual(str(told), "a grid has not a byte for each card and shape (refusal 40, byte 0)")
+        words = "a grid has not a byte for each card and shape, or a buffer not the list's length"
+        self.assertEqual(str(told), f"{words} (refusal 40, byte 0)")
         told = self.refused(61, 5, script.judge, [(1, 0)], [0, 1, 0, 0, 0, 2])
         self.assertEqual(str(told), "a byte of the grid is over 1 (refusal 61, byte 5)")
         told = self.refused(63, 3, script.judge, [(2, 1), (0, 0)], [0, 0, 0, 0, 0, 1])
@@ -202,6 +223,24 @@ class Answers(unittest.TestCase):
         for grid in (bytes(2), bytes([0, 1]), bytearray([1, 1])):
             script.judge([], grid)
         self.assertRaises(prep.GridNotMet, script.judge, [], bytes([1, 0]))
+
+    def test_tidy_bookings(self):
+        tidy = self.script.tidy_bookings
+        self.assertEqual(tidy([]), [])
+        self.assertEqual(tidy([(2, 1), (0, 0), (2, 1)]), [(2, 1), (0, 0)])
+        self.assertEqual(tidy([(0, 0), (0, 1), (0, 0), (0, 1), (1, 0)]), [(0, 0), (0, 1), (1, 0)])
+        self.assertEqual(tidy([(2, 1)] * 1024), [(2, 1)])
+        tidied = tidy(pair for pair in [(2, 1), (2, 1)])
+        self.assertEqual(self.script.smallest(tidied).pairs, 1)
+        self.assertEqual(tidy(tidied), tidied)
+
+    def test_tidied_words(self):
+        lent = prep._lend(self.template._words, self.script._words, prep._words([3, 2, 1, 0, 0, 2, 1]))
+        for number, words, left in ((0, 5, [2, 2, 1, 0, 0, 7, 7]), (40, 0, [7] * 6), (40, 0, [7] * 8)):
+            tidied = prep._words([7] * len(left))
+            answer = prep._library.prep_tidy_bookings(*lent, *prep._lend(tidied))
+            self.assertEqual((answer.number, answer.place, answer.words), (number, 0, words))
+            self.assertEqual(list(tidied), left)
 
     def test_no_cards(self):
         script = prep.Script(self.template, [0, 0])

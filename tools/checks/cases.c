@@ -2,12 +2,11 @@
  * A sheet printer over the library's C functions. Standard input holds printer inputs, each after its length in four
  * bytes, low first; the text of each goes to standard output. On the way it checks that the calls agree with each
  * other: both typings with each typing alone, with how they are judged and with the counts that fit, the links of the
- * cards with the script, and that a refusal leaves the grids alone.
+ * cards with the script, the bookings with how they are tidied, and that a refusal leaves the grids alone.
  */
 #include "prep.h"
+#include "require.h"
 
-#include <stdio.h>
-#include <stdlib.h>
 #include <string.h>
 
 enum { MOST_BYTES = 65536, UNTOUCHED = 0xa5 };
@@ -20,22 +19,12 @@ struct words {
 
 static struct words sheet_template, script, bookings;
 static uint8_t smallest[PREP_MAX_GRID_BYTES], largest[PREP_MAX_GRID_BYTES], alone[PREP_MAX_GRID_BYTES];
-static uint16_t links[PREP_MAX_SCRIPT_WORDS], counts[PREP_MAX_COUNTS];
+static uint16_t links[PREP_MAX_SCRIPT_WORDS], counts[PREP_MAX_COUNTS], tidied[MOST_BYTES / 2];
 
 /* What every call is lent. */
 #define TEMPLATE sheet_template.word, sheet_template.length
 #define SCRIPT script.word, script.length
 #define BOOKINGS bookings.word, bookings.length
-
-static void require(int holds, const char *what)
-{
-    if (!holds) {
-        fprintf(stderr, "cases: does not hold: %s\n", what);
-        exit(1);
-    }
-}
-
-#define REQUIRE(holds) require((holds) != 0, #holds)
 
 /* Reads one section after its count; the place after it, or 0 if the input ends early. */
 static size_t read_section(const uint8_t *bytes, size_t length, size_t at, struct words *section)
@@ -156,12 +145,37 @@ static void check_counts(size_t cards, size_t kinds, size_t shapes)
     }
 }
 
-/* A refusal of both typings leaves the grids alone, and a grid is refused for the same fault. */
+/*
+ * Bookings are tidied to themselves if nothing is wrong with them, and refused for the same fault unless that is a
+ * repeat. Without its repeats a list can be met or not, and a fault behind the first repeat is told.
+ */
+static void check_tidied(const struct prep_both_answer *both, size_t size)
+{
+    struct prep_tidy_answer t = prep_tidy_bookings(TEMPLATE, SCRIPT, BOOKINGS, tidied, bookings.length);
+    struct prep_smallest_answer s;
+    if (both->number == 0 || both->number == PREP_NOT_MET) {
+        REQUIRE(t.number == 0 && t.place == 0 && t.words == bookings.length);
+        REQUIRE(memcmp(tidied, bookings.word, bookings.length * sizeof tidied[0]) == 0);
+    } else if (both->number != PREP_BOOKINGS_TWICE) {
+        REQUIRE(t.number == both->number && t.place == both->place && t.words == 0);
+    } else if (t.number == 0) {
+        REQUIRE(t.place == 0 && t.words < bookings.length && t.words == 1 + 2 * (size_t)tidied[0]);
+        s = prep_smallest(TEMPLATE, SCRIPT, tidied, t.words, alone, size);
+        REQUIRE(s.number == 0 || s.number == PREP_NOT_MET);
+    } else {
+        REQUIRE(t.number == PREP_BOOKINGS_NO_CARD || t.number == PREP_BOOKINGS_NO_SHAPE);
+        REQUIRE(t.place > both->place && t.words == 0);
+    }
+}
+
+/* A refusal of both typings leaves the grids alone, and the smallest and a grid are refused for the same fault. */
 static void check_refused(const struct prep_both_answer *both, size_t size)
 {
     struct prep_judge_answer judged = judge(largest, size);
+    struct prep_smallest_answer small = prep_smallest(TEMPLATE, SCRIPT, BOOKINGS, smallest, size);
     size_t i;
     REQUIRE(judged.number == both->number && judged.place == both->place);
+    REQUIRE(small.number == both->number && small.place == both->place);
     for (i = 0; i < PREP_MAX_GRID_BYTES; i++) {
         require(smallest[i] == UNTOUCHED && largest[i] == UNTOUCHED, "a refusal leaves the grids alone");
     }
@@ -176,6 +190,7 @@ static void print_sheet(void)
     memset(smallest, UNTOUCHED, sizeof smallest);
     memset(largest, UNTOUCHED, sizeof largest);
     both = prep_both_typings(TEMPLATE, SCRIPT, BOOKINGS, smallest, size, largest, size);
+    check_tidied(&both, size);
     if (both.number != 0 && both.number != PREP_NOT_MET) {
         check_refused(&both, size);
         printf("refused %u %zu\n", (unsigned)both.number, both.place);

@@ -5,66 +5,14 @@
  * way it checks that the grid stays as it was, and that numbers which say nothing are 0.
  */
 #include "prep.h"
+#include "sections.h"
 
-#include <stdio.h>
-#include <stdlib.h>
 #include <string.h>
-
-/* Each array is memory of exactly its size, so that a checker of memory sees a read past its end. */
-struct words {
-    uint16_t *word;
-    size_t length;
-};
 
 struct bytes {
     uint8_t *byte;
     size_t length;
 };
-
-static void require(int holds, const char *what)
-{
-    if (!holds) {
-        fprintf(stderr, "judge: does not hold: %s\n", what);
-        exit(1);
-    }
-}
-
-#define REQUIRE(holds) require((holds) != 0, #holds)
-
-/* The next two bytes of the stream as a number. */
-static size_t read_number(void)
-{
-    int low = getchar();
-    int high = getchar();
-    REQUIRE(low != EOF && high != EOF);
-    return (size_t)low + 256 * (size_t)high;
-}
-
-/* Whether another case begins. */
-static int goes_on(void)
-{
-    int next = getchar();
-    return next != EOF && ungetc(next, stdin) != EOF;
-}
-
-static void *memory(size_t size)
-{
-    void *found = malloc(size);
-    REQUIRE(found != NULL || size == 0);
-    return found;
-}
-
-static struct words read_words(void)
-{
-    struct words file;
-    size_t i;
-    file.length = read_number();
-    file.word = (uint16_t *)memory(file.length * sizeof file.word[0]);
-    for (i = 0; i < file.length; i++) {
-        file.word[i] = (uint16_t)read_number();
-    }
-    return file;
-}
 
 static struct bytes read_bytes(void)
 {
@@ -92,27 +40,16 @@ static void print_answer(struct prep_judge_answer j)
 static void judge_next(void)
 {
     static uint8_t before[UINT16_MAX];
-    struct words sheet_template = read_words();
-    struct words script = read_words();
-    struct words bookings = read_words();
+    struct files files = read_files();
     struct bytes grid = read_bytes();
     memcpy(before, grid.byte, grid.length);
-    print_answer(prep_judge(sheet_template.word, sheet_template.length, script.word, script.length, bookings.word,
-                            bookings.length, grid.byte, grid.length));
+    print_answer(prep_judge(LENT_FILES(files), grid.byte, grid.length));
     require(memcmp(before, grid.byte, grid.length) == 0, "the grid stays as it was");
-    free(sheet_template.word);
-    free(script.word);
-    free(bookings.word);
+    free_files(&files);
     free(grid.byte);
 }
 
 int main(void)
 {
-    size_t count = 0;
-    while (goes_on()) {
-        judge_next();
-        count++;
-    }
-    fprintf(stderr, "%zu\n", count);
-    return count == 0 || fflush(stdout) != 0;
+    return run_cases(judge_next);
 }

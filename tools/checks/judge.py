@@ -2,36 +2,17 @@
 and grid, each after its length in two bytes, low first, that counts words for the files and bytes for the grid. A line
 for each case goes to standard output, and how many there were to standard error."""
 
-import struct
-import sys
-from typing import Iterator, List
-
 import prep
 from cases import bookings_of
+from sections import Stream, run
 
 
-def cases(stream: bytes) -> Iterator[List[bytes]]:
-    """The cases of a stream: the bytes of template, script, bookings and grid."""
-    at = 0
-    while at < len(stream):
-        case = []
-        for size in (2, 2, 2, 1):
-            (length,) = struct.unpack_from("<H", stream, at)
-            case.append(stream[at + 2 : at + 2 + size * length])
-            at += 2 + size * length
-        yield case
-
-
-def words(data: bytes) -> List[int]:
-    """The words of a file."""
-    return [word for (word,) in struct.iter_unpack("<H", data)]
-
-
-def line(case: List[bytes]) -> str:
-    """`accepted`, or what is refused."""
-    template, script, bookings = map(words, case[:3])
+def line(stream: Stream) -> str:
+    """`accepted`, or what is refused, for the next case."""
+    template, script, bookings = (stream.words() for _ in range(3))
+    grid = stream.section(1)
     try:
-        prep.Script(prep.Template(template), script).judge(bookings_of(bookings), case[3])
+        prep.Script(prep.Template(template), script).judge(bookings_of(bookings), grid)
     except prep.PairRefused as refused:
         return f"refused {refused.number} {refused.card} {refused.shape}"
     except prep.Refused as refused:
@@ -40,8 +21,4 @@ def line(case: List[bytes]) -> str:
 
 
 if __name__ == "__main__":
-    count = 0
-    for one in cases(sys.stdin.buffer.read()):
-        print(line(one))
-        count += 1
-    print(count, file=sys.stderr)
+    run(line)

@@ -1,4 +1,5 @@
-//! Prep sheet shapes: templates, scripts, their two typings and grids to judge, by the proved library.
+//! Prep sheet shapes: templates, scripts, their two typings, grids to judge and bookings to tidy, by the proved
+//! library.
 //!
 //! ```
 //! use prep::{Part, Script, ScriptBuilder, TemplateBuilder};
@@ -28,6 +29,11 @@
 //!
 //! // A grid of another program: the opener an item, the host a person, and nothing else.
 //! rundown.script.judge(&[(rundown.host, person)], &[1, 0, 0, 1])?;
+//!
+//! // A pair that is booked twice is refused; a stored list is tidied once.
+//! let stored = [(rundown.host, person), (rundown.host, person)];
+//! assert_eq!(rundown.script.smallest(&stored).unwrap_err().number, prep::refusals::BOOKINGS_TWICE);
+//! assert_eq!(rundown.script.tidy(&stored)?, [(rundown.host, person)]);
 //! # Ok::<(), prep::Refusal>(())
 //! ```
 #![warn(missing_docs)]

@@ -89,6 +89,16 @@ pub struct JudgeAnswer {
     pub place: usize,
 }
 
+/// How many words a tidied booking list has, or a refusal.
+#[repr(C)]
+#[derive(Clone, Copy, Debug, PartialEq, Eq)]
+#[allow(missing_docs)]
+pub struct TidyAnswer {
+    pub number: u16,
+    pub place: usize,
+    pub words: usize,
+}
+
 extern "C" {
     fn prep_read_template(template_words: *const u16, template_length: usize) -> TemplateAnswer;
     fn prep_fit_counts(
@@ -153,6 +163,16 @@ extern "C" {
         judged_grid: *const u8,
         judged_length: usize,
     ) -> JudgeAnswer;
+    fn prep_tidy_bookings(
+        template_words: *const u16,
+        template_length: usize,
+        script_words: *const u16,
+        script_length: usize,
+        booking_words: *const u16,
+        bookings_length: usize,
+        tidied_words: *mut u16,
+        tidied_length: usize,
+    ) -> TidyAnswer;
     fn prep_version() -> u32;
     fn prep_reason(refusal_number: u16) -> *const c_char;
     fn prep_file_of(refusal_number: u16) -> u32;
@@ -262,6 +282,23 @@ pub fn judge(template: &[u16], script: &[u16], bookings: &[u16], grid: &[u8]) ->
             bookings.len(),
             grid.as_ptr(),
             grid.len(),
+        )
+    }
+}
+
+/// Tidy bookings: how many words are written to `tidied`, which is as long as `bookings`; the rest stays as it was.
+pub fn tidy_bookings(template: &[u16], script: &[u16], bookings: &[u16], tidied: &mut [u16]) -> TidyAnswer {
+    // SAFETY: see the module.
+    unsafe {
+        prep_tidy_bookings(
+            template.as_ptr(),
+            template.len(),
+            script.as_ptr(),
+            script.len(),
+            bookings.as_ptr(),
+            bookings.len(),
+            tidied.as_mut_ptr(),
+            tidied.len(),
         )
     }
 }

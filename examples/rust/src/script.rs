@@ -71,8 +71,8 @@ impl Script {
         Largest { typing: self.typing(grid), rounds: answer.rounds, struck: answer.struck, bare: answer.bare }
     }
 
-    /// The smallest sound typing that has the booked pairs of card and shape. Refusals: 31 to 33, and 50 where there
-    /// is no such typing.
+    /// The smallest sound typing that has the booked pairs of card and shape. Refusals: 31 to 33, 65 where a pair is
+    /// booked a second time, and 50 where there is no such typing.
     pub fn smallest(&self, bookings: &[(u16, u16)]) -> Result<Smallest, Refusal> {
         let mut grid = self.grid();
         let answer = raw::smallest(self.template.words(), &self.words, &booking_words(bookings), &mut grid);
@@ -81,7 +81,7 @@ impl Script {
     }
 
     /// Both typings in one call. Where only the bookings are not met, the largest is there and the smallest is
-    /// refusal 50.
+    /// refusal 50. Refusals: 31 to 33, 65.
     pub fn both(&self, bookings: &[(u16, u16)]) -> Result<Both, Refusal> {
         let (mut small, mut large) = (self.grid(), self.grid());
         let list = booking_words(bookings);
@@ -97,8 +97,8 @@ impl Script {
     }
 
     /// Whether a grid, perhaps of another program, is a sound typing that has the booked pairs of card and shape: a
-    /// byte for each pair, 1 where card n has shape t, at place n × shapes + t, else 0. Refusals: 31 to 33, 40, 61 to
-    /// 63; 62 names the pair that is not met.
+    /// byte for each pair, 1 where card n has shape t, at place n × shapes + t, else 0. Refusals: 31 to 33, 65, 40,
+    /// 61 to 63; 62 names the pair that is not met.
     pub fn judge(&self, bookings: &[(u16, u16)], grid: &[u8]) -> Result<(), Refusal> {
         let answer = raw::judge(self.template.words(), &self.words, &booking_words(bookings), grid);
         refused_pair(answer.number, answer.place, answer.card, answer.shape)
@@ -107,6 +107,16 @@ impl Script {
     /// Judges a typing by the bytes of its grid. One of another script is judged as if it were this script's.
     pub fn judge_typing(&self, bookings: &[(u16, u16)], typing: &Typing) -> Result<(), Refusal> {
         self.judge(bookings, typing.grid())
+    }
+
+    /// The first booking of each pair, in the list's order, for stored lists in which a pair may stand several times.
+    /// What the list books stays the same, and it is no longer refused with 65. Refusals: 31 to 33.
+    pub fn tidy(&self, bookings: &[(u16, u16)]) -> Result<Vec<(u16, u16)>, Refusal> {
+        let list = booking_words(bookings);
+        let mut tidied = vec![0; list.len()];
+        let answer = raw::tidy_bookings(self.template.words(), &self.words, &list, &mut tidied);
+        refused(answer.number, answer.place)?;
+        Ok(tidied[1..answer.words].chunks_exact(2).map(|pair| (pair[0], pair[1])).collect())
     }
 
     /// A grid of the script's size.

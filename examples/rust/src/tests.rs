@@ -181,10 +181,65 @@ fn bookings_that_are_refused() {
 }
 
 #[test]
+fn a_pair_is_booked_once() {
+    let script = Script::read(&template(), SCRIPT.to_vec()).unwrap();
+    let refused = |bookings: &[(u16, u16)], refusal| {
+        assert_eq!(script.smallest(bookings), Err(refusal));
+        assert_eq!(script.both(bookings), Err(refusal));
+        assert_eq!(script.judge(bookings, &[0, 0, 0, 0, 0, 1]), Err(refusal));
+        assert_eq!(script.judge(bookings, &[]), Err(refusal));
+    };
+    refused(&[(2, 1), (2, 1)], word(refusals::BOOKINGS_TWICE, 3));
+    refused(&[(2, 1), (0, 0), (2, 1)], word(65, 5));
+    refused(&[(2, 1), (2, 1), (9, 9)], word(65, 3));
+    refused(&[(2, 1), (2, 2)], word(33, 4));
+    // One card with two shapes is no repeat.
+    let unmet = Refusal { number: 50, place: Place::Pair { card: 0, shape: 1 } };
+    assert_eq!(script.smallest(&[(0, 0), (0, 1)]), Err(unmet));
+}
+
+#[test]
+fn bookings_are_tidied() {
+    let script = Script::read(&template(), SCRIPT.to_vec()).unwrap();
+    let tidy = |bookings: &[(u16, u16)]| script.tidy(bookings);
+    assert_eq!(tidy(&[]), Ok(vec![]));
+    assert_eq!(tidy(&[(2, 1), (0, 0), (2, 1)]), Ok(vec![(2, 1), (0, 0)]));
+    assert_eq!(tidy(&[(0, 0), (0, 1), (0, 0), (0, 1), (1, 0)]), Ok(vec![(0, 0), (0, 1), (1, 0)]));
+    assert_eq!(tidy(&[(2, 1); 1024]), Ok(vec![(2, 1)]));
+    let tidied = tidy(&[(2, 1), (2, 1)]).unwrap();
+    assert_eq!(script.smallest(&tidied).unwrap().pairs, 1);
+    assert_eq!(tidy(&tidied), Ok(tidied));
+    assert_eq!(tidy(&[(2, 1); 1025]), Err(word(31, 0)));
+    assert_eq!(tidy(&[(2, 1); 70_000]), Err(word(31, 0)));
+    assert_eq!(tidy(&[(2, 1), (2, 1), (3, 9)]), Err(word(32, 5)));
+    assert_eq!(tidy(&[(2, 2)]), Err(word(33, 2)));
+}
+
+#[test]
+fn words_are_tidied_into_as_many() {
+    let told = |number, place, words| raw::TidyAnswer { number, place, words };
+    let tidy = |template: &[u16], script: &[u16], bookings: &[u16], length| {
+        let mut tidied = vec![7; length];
+        let answer = raw::tidy_bookings(template, script, bookings, &mut tidied);
+        assert!(answer.number == 0 || tidied.iter().all(|&word| word == 7));
+        (answer, tidied)
+    };
+    let sheet = |bookings: &[u16], length| tidy(template().words(), &SCRIPT, bookings, length);
+    assert_eq!(sheet(&[3, 2, 1, 0, 0, 2, 1], 7), (told(0, 0, 5), vec![2, 2, 1, 0, 0, 7, 7]));
+    assert_eq!(sheet(&[0], 1), (told(0, 0, 1), vec![0]));
+    for length in [0, 6, 8] {
+        assert_eq!(sheet(&[3, 2, 1, 0, 0, 2, 1], length).0, told(refusals::GRID_SIZE, 0, 0));
+    }
+    assert_eq!(sheet(&[1, 2, 2], 9).0, told(33, 2, 0));
+    assert_eq!(sheet(&[], 9).0, told(30, 0, 0));
+    assert_eq!(tidy(&[1, 1, 1, 4], &[1025, 0], &[], 9).0, told(5, 3, 0));
+    assert_eq!(tidy(template().words(), &[2, 1, 0, 0, 2], &[], 9).0, told(23, 4, 0));
+}
+
+#[test]
 fn a_grid_is_accepted() {
     let script = Script::read(&template(), SCRIPT.to_vec()).unwrap();
     assert_eq!(script.judge(&[(2, 1)], &[0, 0, 0, 0, 0, 1]), Ok(()));
-    assert_eq!(script.judge(&[(2, 1), (2, 1)], &[0, 0, 0, 0, 0, 1]), Ok(()));
     assert_eq!(script.judge(&[], &[0; 6]), Ok(()));
     assert_eq!(Script::read(&template(), vec![0, 0]).unwrap().judge(&[], &[]), Ok(()));
 }
@@ -254,6 +309,9 @@ fn a_refusal_says_what_and_where() {
     let message = "the code of an open shape is not the first word of a shape (refusal 64, word 4)";
     assert_eq!(word(refusals::TEMPLATE_OPEN, 4).to_string(), message);
     assert_eq!(word(refusals::TEMPLATE_OPEN, 4).file(), File::Template);
+    let message = "a pair is booked a second time (refusal 65, word 3)";
+    assert_eq!(word(refusals::BOOKINGS_TWICE, 3).to_string(), message);
+    assert_eq!(word(refusals::BOOKINGS_TWICE, 3).file(), File::Bookings);
     let message = "a byte of the grid is over 1 (refusal 61, byte 5)";
     assert_eq!(word(refusals::GRID_BYTE, 5).to_string(), message);
     let message = "a booked pair is not in the grid (refusal 63, word 3)";

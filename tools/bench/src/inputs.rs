@@ -1,8 +1,11 @@
 //! The sheets that are timed.
 
+use crate::tidying::Listed;
 use prep_tools::generate::{heavy, special};
 use prep_tools::script::{MOST_CARDS, MOST_LINKS};
 use prep_tools::sheet::{self, Files};
+use prep_tools::template::MOST_SHAPES;
+use prep_tools::typing::bookings::MOST_BOOKINGS;
 
 /// The worked example, as words.
 const PROGRAMME: &[u8] = include_bytes!("../../../examples/prep/programme.bin");
@@ -91,4 +94,37 @@ pub fn further() -> [Input; 4] {
             NO_MORE,
         ),
     ]
+}
+
+/// As many bookings as can be, all different and all alike, on the densest sheet and on one that is read at once: all
+/// cards without links, under shapes that are nothing.
+pub fn listed() -> [Listed; 4] {
+    let shapes = (0..MOST_SHAPES).flat_map(|_| [1, 0]);
+    let bare = || Files {
+        template: [1, MOST_SHAPES].into_iter().chain(shapes.clone()).collect(),
+        script: vec![MOST_CARDS, 0],
+        bookings: Vec::new(),
+    };
+    [
+        different("(b) densest sheet, all different", heavy::densest()),
+        alike("(b) densest sheet, all alike", heavy::densest()),
+        different("1,024 cards without links, all different", bare()),
+        alike("1,024 cards without links, all alike", bare()),
+    ]
+}
+
+/// The sheet with as many bookings as can be, one for each card.
+fn different(name: &'static str, mut files: Files) -> Listed {
+    let pairs = (0..MOST_BOOKINGS).flat_map(|card| [card, card % MOST_SHAPES]);
+    files.bookings = [MOST_BOOKINGS].into_iter().chain(pairs).collect();
+    let tidied = files.bookings.clone();
+    Listed { name, files, tidied }
+}
+
+/// The sheet with the same booking as often as can be.
+fn alike(name: &'static str, mut files: Files) -> Listed {
+    let pairs = (0..MOST_BOOKINGS).flat_map(|_| [MOST_CARDS - 1, 0]);
+    files.bookings = [MOST_BOOKINGS].into_iter().chain(pairs).collect();
+    let tidied = vec![1, MOST_CARDS - 1, 0];
+    Listed { name, files, tidied }
 }

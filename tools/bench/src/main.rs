@@ -2,19 +2,21 @@
 //! each pair once for both typings, and against its naive rounds, in one process, on the same inputs. Each does both
 //! typings, from words to grids, refusals tested. Most sheets have an aim, at most how many times the linear
 //! algorithm's time the library should take; whether it is reached is told, and doesn't matter to the exit code. Then
-//! the library's judge is timed against its largest typing.
+//! the library's judge is timed against its largest typing, and its tidying of bookings against its reading.
 //!
 //! | module    | what                                              |
 //! |-----------|---------------------------------------------------|
 //! | `inputs`  | the sheets that are timed                         |
 //! | `library` | the library's call, through the Rust wrapper      |
 //! | `judging` | the library's judge against its largest typing    |
+//! | `tidying` | the library's tidying of bookings                 |
 //! | `runs`    | warm-up, many runs by turns, the medians          |
 
 mod inputs;
 mod judging;
 mod library;
 mod runs;
+mod tidying;
 
 use inputs::Input;
 use library::Buffers;
@@ -44,23 +46,41 @@ fn main() -> ExitCode {
     let kept = inputs::kept();
     let refused = time_judging(inputs.iter().chain(&kept).chain(&further));
     println!();
-    if refused > 0 {
-        println!("A largest typing is not accepted.");
+    let untidy = time_tidying();
+    println!();
+    conclude(&[
+        (refused, "A largest typing is not accepted."),
+        (untidy, "A tidied list differs."),
+        (differ, "Answers or grids differ."),
+    ])
+}
+
+/// Tells what went wrong; each fault comes with how often it happened.
+fn conclude(faults: &[(usize, &str)]) -> ExitCode {
+    let happened: Vec<&str> = faults
+        .iter()
+        .filter(|fault| fault.0 > 0)
+        .map(|fault| fault.1)
+        .collect();
+    if happened.is_empty() {
+        println!("All answers, grids and lists agree.");
+        return ExitCode::SUCCESS;
     }
-    if differ > 0 {
-        println!("Answers or grids differ.");
-    }
-    if refused + differ > 0 {
-        return ExitCode::FAILURE;
-    }
-    println!("All answers and grids agree.");
-    ExitCode::SUCCESS
+    println!("{}", happened.join("\n"));
+    ExitCode::FAILURE
 }
 
 /// Times the judge on these sheets; how many of their largest typings it did not accept.
 fn time_judging<'a>(inputs: impl Iterator<Item = &'a Input>) -> usize {
     judging::print_head();
     inputs.filter(|input| !judging::time(input)).count()
+}
+
+/// Times the tidying pass; how many lists it did not tidy as owed.
+fn time_tidying() -> usize {
+    tidying::print_head();
+    let lists = inputs::listed();
+    lists.iter().filter(|listed| !tidying::time(listed)).count()
 }
 
 /// What the columns are.
