@@ -97,25 +97,27 @@ pub fn further() -> [Input; 4] {
 }
 
 /// As many bookings as can be, all different and all alike, on the densest sheet and on one that is read at once: all
-/// cards without links, under shapes that are nothing.
-pub fn listed() -> [Listed; 4] {
-    let shapes = (0..MOST_SHAPES).flat_map(|_| [1, 0]);
+/// cards without links, under shapes that are nothing. A pair is looked for longest where few cards have every shape.
+pub fn listed() -> [Listed; 5] {
     let bare = || Files {
-        template: [1, MOST_SHAPES].into_iter().chain(shapes.clone()).collect(),
+        template: special::nothings(MOST_SHAPES),
         script: vec![MOST_CARDS, 0],
         bookings: Vec::new(),
     };
+    let each_card = |number| [number, number % MOST_SHAPES];
+    let few_cards = |number| [number / MOST_SHAPES, number % MOST_SHAPES];
     [
-        different("(b) densest sheet, all different", heavy::densest()),
+        different("(b) densest sheet, each card once", heavy::densest(), each_card),
         alike("(b) densest sheet, all alike", heavy::densest()),
-        different("1,024 cards without links, all different", bare()),
-        alike("1,024 cards without links, all alike", bare()),
+        different("1,024 cards without links, each once", bare(), each_card),
+        different("the same, 32 cards for 32 shapes", bare(), few_cards),
+        alike("the same, all alike", bare()),
     ]
 }
 
-/// The sheet with as many bookings as can be, one for each card.
-fn different(name: &'static str, mut files: Files) -> Listed {
-    let pairs = (0..MOST_BOOKINGS).flat_map(|card| [card, card % MOST_SHAPES]);
+/// The sheet with as many bookings as can be, of these pairs, which are all different.
+fn different(name: &'static str, mut files: Files, pair: fn(u16) -> [u16; 2]) -> Listed {
+    let pairs = (0..MOST_BOOKINGS).flat_map(pair);
     files.bookings = [MOST_BOOKINGS].into_iter().chain(pairs).collect();
     let tidied = files.bookings.clone();
     Listed { name, files, tidied }
