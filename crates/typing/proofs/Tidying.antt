@@ -1,6 +1,7 @@
 -- Tidying a list of bookings, over what its contract allows and for all inputs.
---   tidy-values    a number of words is said of a list that is accepted as it was stored; these words are the tidied
---                  list, and every call takes it
+--   Tidies, tidy-values   a number of words is said of a list that is accepted as it was stored; these words are the
+--                  tidied list
+--   tidied-taken   every call takes what is written
 --   tidied-alike   the smallest typing or its 50, by the rule that takes repeats on the list and by the strict one on
 --                  what was written, is the same
 --   tidied-unchanged   a list that every call takes is written unchanged
