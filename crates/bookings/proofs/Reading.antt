@@ -1,15 +1,17 @@
--- What reading a booking list finds: a law for each answer, and the numbers of its refusals.
---   bookings-empty, bookings-many, bookings-other   the list's own refusals, 30, 31 and 30
---   bookings-listed                                 the bookings one by one
---   pairs-card, pairs-shape, pairs-repeat           one booking: 32, 33, 65
---   pairs-next, pairs-end                           the next one, and none left
---   StoredNumber, stored-numbers                    a list stored before is refused with 30 to 33
---   BookingNumber, bookings-numbers                 by the strict rule also with 65
+-- What reading a list of bookings finds: a law for each answer, and the numbers of its refusals.
+--   list-empty, list-many, list-other   the refusals of any list, 30, 31 and 30
+--   list-listed                         its bookings one by one
+--   counted-refused, counted-sized, counted-listed   these, by what looking at its count and its length found
+--   each-next, each-end                 the next booking, and none left
+--   rule-desk, rule-card, rule-shape, rule-repeat, rule-passed   one booking: 66, 32, 33, 65, or none of these
+--   stored-card, stored-shape, stored-passed   one of a stored list: 32, 33, or none of these
+--   StoredNumber, stored-numbers        a stored list is refused with 30 to 33
+--   BookingNumber, bookings-numbers     a list of both desks also with 65 and 66
 -- Assumes nothing.
 use Prim.Native.Nat.{ℕ, zero, suc, _+_, _-_, _*_, _≤_, _<_}
-use mathlib.Core.Path.{_≡_, refl}
+use mathlib.Core.Path.{_≡_, refl, sym, ap, subst, _∙_}
 use mathlib.Core.Logic.{_⊎_, inl, inr}
-use mathlib.Core.Bool.{Bool, true, false, not, _&&_}
+use mathlib.Core.Bool.{true, false, not}
 use mathlib.Core.List.{List}
 use native.Mathlib.Omega.{arith}
 use native.Mathlib.Numerals.{add-one}
@@ -18,118 +20,163 @@ use lib.Dec.{ltb, leb, eqb}
 use borrow.Author.Tests.{le-leb, lt-leb, lt-ltb, le-ltb, eq-eqb, ne-eqb}
 use Rattle.words.specs.Limits.{maxBookings}
 use Rattle.words.specs.Reading.{Reading, accepted, turnedDown}
-use Rattle.words.proofs.Readings.{Numbered, refuse-case, refuse-numbered}
-use Rattle.words.proofs.Bools.{and-first, false-true}
-use Rattle.bookings.specs.Bookings.{cardIndex, shapeIndex, cardAt, shapeAt, repeated, readPairs, readList}
-use Rattle.bookings.specs.Bookings.{readBookings, readStored}
-use Rattle.bookings.specs.Steps.{Sized}
+use Rattle.words.proofs.Readings.{Numbered, refuse-numbered}
+use Rattle.bookings.specs.Bookings.{readEach, readList, deskIndex, cardIndex, shapeIndex, deskAt, cardAt, shapeAt}
+use Rattle.bookings.specs.Bookings.{bookingAt, repeated, bookingRule, readBookings}
+use Rattle.bookings.specs.Stored.{storedCardIndex, storedShapeIndex, storedCardAt, storedShapeAt, storedRule}
+use Rattle.bookings.specs.Stored.{readStored}
+use Rattle.bookings.specs.Steps.{Sized, Counted}
+use Rattle.bookings.specs.declared.BookingRead.{BookingRead}
+use Rattle.bookings.specs.declared.BookingRead.the-variants as list
 
--- The numbers that a list stored before is refused with, and those that a booking list is.
+-- ---- any list
+module _ (width : ℕ) (rule : ℕ → Reading ℕ → Reading ℕ) (bookings : List ℕ) where
+  pub list-empty : length bookings ≡ 0 → readList width rule bookings ≡ turnedDown 30 0
+  unfolding readList
+  list-empty e = rw (eq-eqb (length bookings) 0 e) refl
+
+  pub list-many : (length bookings ≡ 0 → ⊥) → maxBookings < getD bookings 0 0
+      → readList width rule bookings ≡ turnedDown 31 0
+  unfolding readList
+  list-many some many = rw (ne-eqb (length bookings) 0 some, lt-ltb maxBookings (getD bookings 0 0) many) refl
+
+  pub list-other : (length bookings ≡ 0 → ⊥) → getD bookings 0 0 ≤ maxBookings
+      → (length bookings ≡ 1 + width * getD bookings 0 0 → ⊥) → readList width rule bookings ≡ turnedDown 30 0
+  unfolding readList
+  list-other some few other = rw (
+    ne-eqb (length bookings) 0 some,
+    le-ltb maxBookings (getD bookings 0 0) few,
+    ne-eqb (length bookings) (1 + width * getD bookings 0 0) other,
+  ) refl
+
+  pub list-listed : Sized width bookings (getD bookings 0 0)
+      → readEach rule (getD bookings 0 0) 0 (accepted (getD bookings 0 0)) ≡ readList width rule bookings
+  unfolding readList
+  list-listed sized = rw (
+    ne-eqb (length bookings) 0 (λ e. absurd (omega (arith, sized .size))),
+    le-ltb maxBookings (getD bookings 0 0) (sized .few),
+    eq-eqb (length bookings) (1 + width * getD bookings 0 0) (sized .size),
+  ) refl
+
+-- By what looking at its count and its length found: it is refused, whatever the rule, or its bookings are read.
+module _ (width : ℕ) (bookings : List ℕ) {r : BookingRead} (h : Counted width bookings r) where
+  pub counted-refused : (rule : ℕ → Reading ℕ → Reading ℕ) {number place : ℕ} → r ≡ list.Refused number place
+      → turnedDown number place ≡ readList width rule bookings
+  counted-refused rule q = sym (subst (Counted width bookings) q h rule)
+
+  pub counted-sized : {count : ℕ} → r ≡ list.Listed count → Sized width bookings count
+  counted-sized q = subst (Counted width bookings) q h .0
+
+  pub counted-listed : (rule : ℕ → Reading ℕ → Reading ℕ) {count : ℕ} → r ≡ list.Listed count
+      → readEach rule count 0 (accepted count) ≡ readList width rule bookings
+  counted-listed rule {count} q =
+      let (sized, first) = subst (Counted width bookings) q h in
+      ap (λ (n : ℕ). readEach rule n 0 (accepted n)) first
+      ∙ list-listed width rule bookings (subst (Sized width bookings) first sized)
+
+-- The bookings from booking i on.
+module _ (rule : ℕ → Reading ℕ → Reading ℕ) (count i : ℕ) (done : Reading ℕ) where
+  pub each-next : i < count → readEach rule (count - i) i done
+      ≡ rule i (readEach rule (count - (i + 1)) (i + 1) done)
+  unfolding readEach
+  each-next l =
+      let e : count - i ≡ suc (count - (i + 1)) = omega arith in
+      rw (e, add-one i) refl
+
+  pub each-end : count ≤ i → readEach rule (count - i) i done ≡ done
+  unfolding readEach
+  each-end l = let e : count - i ≡ 0 = omega arith in rw e refl
+
+-- ---- one booking
+module _ (cards shapes : ℕ) (bookings : List ℕ) (i : ℕ) (rest : Reading ℕ) where
+  pub rule-desk : 1 < deskAt bookings i → bookingRule cards shapes bookings i rest ≡ turnedDown 66 (deskIndex i)
+  rule-desk h = rw (lt-ltb 1 (deskAt bookings i) h) refl
+
+  module _ (ours : deskAt bookings i ≤ 1) where
+    pub rule-card : cards ≤ cardAt bookings i → bookingRule cards shapes bookings i rest ≡ turnedDown 32 (cardIndex i)
+    rule-card h = rw (le-ltb 1 (deskAt bookings i) ours, le-leb cards (cardAt bookings i) h) refl
+
+    pub rule-shape : cardAt bookings i < cards → shapes ≤ shapeAt bookings i
+        → bookingRule cards shapes bookings i rest ≡ turnedDown 33 (shapeIndex i)
+    rule-shape c h = rw (
+      le-ltb 1 (deskAt bookings i) ours,
+      lt-leb cards (cardAt bookings i) c,
+      le-leb shapes (shapeAt bookings i) h,
+    ) refl
+
+    module _ (c : cardAt bookings i < cards) (t : shapeAt bookings i < shapes) where
+      pub rule-repeat : repeated (bookingAt bookings) i ≡ true
+          → bookingRule cards shapes bookings i rest ≡ turnedDown 65 (cardIndex i)
+      rule-repeat again = rw (
+        le-ltb 1 (deskAt bookings i) ours,
+        lt-leb cards (cardAt bookings i) c,
+        lt-leb shapes (shapeAt bookings i) t,
+        again,
+      ) refl
+
+      pub rule-passed : repeated (bookingAt bookings) i ≡ false → bookingRule cards shapes bookings i rest ≡ rest
+      rule-passed new = rw (
+        le-ltb 1 (deskAt bookings i) ours,
+        lt-leb cards (cardAt bookings i) c,
+        lt-leb shapes (shapeAt bookings i) t,
+        new,
+      ) refl
+
+  -- of a stored list
+  pub stored-card : cards ≤ storedCardAt bookings i
+      → storedRule cards shapes bookings i rest ≡ turnedDown 32 (storedCardIndex i)
+  stored-card h = rw (le-leb cards (storedCardAt bookings i) h) refl
+
+  module _ (c : storedCardAt bookings i < cards) where
+    pub stored-shape : shapes ≤ storedShapeAt bookings i
+        → storedRule cards shapes bookings i rest ≡ turnedDown 33 (storedShapeIndex i)
+    stored-shape h = rw (lt-leb cards (storedCardAt bookings i) c, le-leb shapes (storedShapeAt bookings i) h) refl
+
+    pub stored-passed : storedShapeAt bookings i < shapes → storedRule cards shapes bookings i rest ≡ rest
+    stored-passed t = rw (lt-leb cards (storedCardAt bookings i) c, lt-leb shapes (storedShapeAt bookings i) t) refl
+
+-- ---- the numbers
+-- The numbers that a stored list is refused with, and those that a list of both desks is.
 abbrev pub StoredNumber : ℕ → Type 0
 StoredNumber number = (30 ≤ number) × (number ≤ 33)
 
 abbrev pub BookingNumber : ℕ → Type 0
-BookingNumber number = StoredNumber number ⊎ (number ≡ 65)
+BookingNumber number = StoredNumber number ⊎ ((65 ≤ number) × (number ≤ 66))
 
-module _ (strict : Bool) (cards shapes : ℕ) (bookings : List ℕ) where
-  pub bookings-empty : length bookings ≡ 0 → readList strict cards shapes bookings ≡ turnedDown 30 0
+module _ (Number : ℕ → Type 0) (low : (n : ℕ) → StoredNumber n → Number n) (rule : ℕ → Reading ℕ → Reading ℕ)
+    (each : (i : ℕ) (rest : Reading ℕ) → Numbered Number rest → Numbered Number (rule i rest)) where
+  each-numbers : (n i : ℕ) (done : Reading ℕ) → Numbered Number done → Numbered Number (readEach rule n i done)
+  unfolding readEach
+  each-numbers zero i done h = h
+  each-numbers (suc n) i done h = each i _ (each-numbers n (suc i) done h)
+
+  list-numbers : (width : ℕ) (bookings : List ℕ) → Numbered Number (readList width rule bookings)
   unfolding readList
-  bookings-empty e = rw (eq-eqb (length bookings) 0 e) refl
-
-  pub bookings-many : (length bookings ≡ 0 → ⊥) → maxBookings < getD bookings 0 0
-      → readList strict cards shapes bookings ≡ turnedDown 31 0
-  unfolding readList
-  bookings-many some many = rw (ne-eqb (length bookings) 0 some, lt-ltb maxBookings (getD bookings 0 0) many) refl
-
-  pub bookings-other : (length bookings ≡ 0 → ⊥) → getD bookings 0 0 ≤ maxBookings
-      → (length bookings ≡ 1 + 2 * getD bookings 0 0 → ⊥) → readList strict cards shapes bookings ≡ turnedDown 30 0
-  unfolding readList
-  bookings-other some few other = rw (
-    ne-eqb (length bookings) 0 some,
-    le-ltb maxBookings (getD bookings 0 0) few,
-    ne-eqb (length bookings) (1 + 2 * getD bookings 0 0) other,
-  ) refl
-
-  pub bookings-listed : Sized bookings (getD bookings 0 0)
-      → readPairs strict cards shapes bookings (getD bookings 0 0) 0 (accepted (getD bookings 0 0))
-      ≡ readList strict cards shapes bookings
-  unfolding readList
-  bookings-listed sized = rw (
-    ne-eqb (length bookings) 0 (λ e. absurd (omega (arith, sized .size))),
-    le-ltb maxBookings (getD bookings 0 0) (sized .few),
-    eq-eqb (length bookings) (1 + 2 * getD bookings 0 0) (sized .size),
-  ) refl
-
-  -- the bookings from booking i on
-  module _ (count i : ℕ) (done : Reading ℕ) where
-    abbrev rest : Reading ℕ
-    rest = readPairs strict cards shapes bookings (count - i) i done
-
-    pub pairs-card : i < count → cards ≤ cardAt bookings i → rest ≡ turnedDown 32 (cardIndex i)
-    unfolding readPairs
-    pairs-card l h =
-        let e : count - i ≡ suc (count - (i + 1)) = omega arith in
-        rw (e, le-leb cards (cardAt bookings i) h) refl
-
-    pub pairs-shape : i < count → cardAt bookings i < cards → shapes ≤ shapeAt bookings i
-        → rest ≡ turnedDown 33 (shapeIndex i)
-    unfolding readPairs
-    pairs-shape l c h =
-        let e : count - i ≡ suc (count - (i + 1)) = omega arith in
-        rw (e, lt-leb cards (cardAt bookings i) c, le-leb shapes (shapeAt bookings i) h) refl
-
-    pub pairs-repeat : i < count → cardAt bookings i < cards → shapeAt bookings i < shapes
-        → (strict && repeated bookings i) ≡ true → rest ≡ turnedDown 65 (cardIndex i)
-    unfolding readPairs
-    pairs-repeat l c t again =
-        let e : count - i ≡ suc (count - (i + 1)) = omega arith in
-        rw (e, lt-leb cards (cardAt bookings i) c, lt-leb shapes (shapeAt bookings i) t, again) refl
-
-    pub pairs-next : i < count → cardAt bookings i < cards → shapeAt bookings i < shapes
-        → (strict && repeated bookings i) ≡ false
-        → rest ≡ readPairs strict cards shapes bookings (count - (i + 1)) (i + 1) done
-    unfolding readPairs
-    pairs-next l c t new =
-        let e : count - i ≡ suc (count - (i + 1)) = omega arith in
-        rw (e, add-one i, lt-leb cards (cardAt bookings i) c, lt-leb shapes (shapeAt bookings i) t, new) refl
-
-    pub pairs-end : count ≤ i → rest ≡ done
-    unfolding readPairs
-    pairs-end l = let e : count - i ≡ 0 = omega arith in rw e refl
-
--- ---- the numbers
--- A list is refused with 30 to 33, and by the strict rule with 65.
-module _ (Number : ℕ → Type 0) (list : (n : ℕ) → StoredNumber n → Number n) (cards shapes : ℕ) (bookings : List ℕ)
-  where
-    pairs-numbers : (strict : Bool) → (strict ≡ true → Number 65) → (n i : ℕ) (done : Reading ℕ) → Numbered Number done
-        → Numbered Number (readPairs strict cards shapes bookings n i done)
-    unfolding readPairs
-    pairs-numbers strict again zero i done h = h
-    pairs-numbers strict again (suc n) i done h =
-        refuse-numbered Number 32 (cardIndex i) (leb cards (cardAt bookings i)) _ (list 32 (omega arith, omega arith))
-        (refuse-numbered Number 33 (shapeIndex i) (leb shapes (shapeAt bookings i)) _
-        (list 33 (omega arith, omega arith))
-        (refuse-case 65 (cardIndex i) (Numbered Number) (strict && repeated bookings i) _
-        (λ e. again (and-first strict (repeated bookings i) e))
-        (λ _. pairs-numbers strict again n (suc i) done h)))
-
-    list-numbers : (strict : Bool) → (strict ≡ true → Number 65)
-        → Numbered Number (readList strict cards shapes bookings)
-    unfolding readList
-    list-numbers strict again =
-        let size = eqb (length bookings) (1 + 2 * getD bookings 0 0) in
-        let empty : Number 30 = list 30 (omega arith, omega arith) in
-        refuse-numbered Number 30 0 (eqb (length bookings) 0) _ empty
-        (refuse-numbered Number 31 0 (ltb maxBookings (getD bookings 0 0)) _ (list 31 (omega arith, omega arith))
-        (refuse-numbered Number 30 0 (not size) _ empty
-        (pairs-numbers strict again (getD bookings 0 0) 0 (accepted (getD bookings 0 0)) tt)))
+  list-numbers width bookings =
+      let size = eqb (length bookings) (1 + width * getD bookings 0 0) in
+      let empty : Number 30 = low 30 (omega arith, omega arith) in
+      refuse-numbered Number 30 0 (eqb (length bookings) 0) _ empty
+      (refuse-numbered Number 31 0 (ltb maxBookings (getD bookings 0 0)) _ (low 31 (omega arith, omega arith))
+      (refuse-numbered Number 30 0 (not size) _ empty
+      (each-numbers (getD bookings 0 0) 0 (accepted (getD bookings 0 0)) tt)))
 
 pub stored-numbers : (cards shapes : ℕ) (bookings : List ℕ)
     → Numbered StoredNumber (readStored cards shapes bookings)
 stored-numbers cards shapes bookings =
-    list-numbers StoredNumber (λ n h. h) cards shapes bookings false (λ e. false-true e)
+    list-numbers StoredNumber (λ n h. h) (storedRule cards shapes bookings) (λ i rest h.
+    refuse-numbered StoredNumber 32 (storedCardIndex i) (leb cards (storedCardAt bookings i)) _
+    (omega arith, omega arith)
+    (refuse-numbered StoredNumber 33 (storedShapeIndex i) (leb shapes (storedShapeAt bookings i)) _
+    (omega arith, omega arith) h)) 2 bookings
 
 pub bookings-numbers : (cards shapes : ℕ) (bookings : List ℕ)
     → Numbered BookingNumber (readBookings cards shapes bookings)
 bookings-numbers cards shapes bookings =
-    list-numbers BookingNumber (λ n h. inl h) cards shapes bookings true (λ _. inr refl)
+    list-numbers BookingNumber (λ n h. inl h) (bookingRule cards shapes bookings) (λ i rest h.
+    refuse-numbered BookingNumber 66 (deskIndex i) (ltb 1 (deskAt bookings i)) _ (inr (omega arith, omega arith))
+    (refuse-numbered BookingNumber 32 (cardIndex i) (leb cards (cardAt bookings i)) _
+    (inl (omega arith, omega arith))
+    (refuse-numbered BookingNumber 33 (shapeIndex i) (leb shapes (shapeAt bookings i)) _
+    (inl (omega arith, omega arith))
+    (refuse-numbered BookingNumber 65 (cardIndex i) (repeated (bookingAt bookings) i) _
+    (inr (omega arith, omega arith)) h)))) 3 bookings

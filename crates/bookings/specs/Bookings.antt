@@ -1,74 +1,111 @@
--- A list of bookings (docs/FORMAT.md, "Bookings"; a pre-typing): a count, then a card and a shape for each booking.
--- cardIndex, shapeIndex     where the words of booking i stand
--- cardAt, shapeAt           its words
--- bookedBefore, repeated    some of the first bookings is of a card and a shape; one is of those that booking i is of
--- readPairs, readList       the count, or the first refusal, by a rule that refuses repeats or one that does not
--- readBookings, readStored  by the rule that does; of a list stored before, by the one that does not
--- Booked                    some booking is of the card and the shape
+-- A list of bookings (docs/FORMAT.md, "Bookings"; a pre-typing of each desk): a count, then a desk, a card and a shape
+-- for each booking.
+-- Booking                   whose a booking is, its card and its shape; same: two are
+-- readEach, readList        the count of any list of bookings, or its first refusal, by a rule for each booking
+-- deskIndex, cardIndex, shapeIndex   where the words of booking i stand
+-- deskAt, cardAt, shapeAt, bookingAt   its words
+-- bookedBefore, repeated    a booking is one of the first; booking i is one of those before it
+-- readBookings              what reading a list finds
+-- Booked                    some booking of the desk is of the card and the shape
+-- deskWords                 the cards and shapes of a desk's bookings, in their order
 -- Assumes nothing.
 use Prim.Native.Nat.{ℕ, zero, suc, _+_, _*_, _<_}
 use mathlib.Core.Path.{_≡_}
-use mathlib.Core.Bool.{Bool, true, false, not, _&&_, _||_}
-use mathlib.Core.List.{List}
+use mathlib.Core.Bool.{Bool, false, not, _&&_, _||_, cond}
+use mathlib.Core.List.{List, [], _∷_}
 use lib.ListN.{length, getD}
 use lib.Dec.{ltb, leb, eqb}
 use Rattle.words.specs.Limits.{maxBookings}
 use Rattle.words.specs.Reading.{Reading, accepted, refuse}
 
--- Where the card and the shape of booking i stand.
+-- Whose a booking is, 0 for radio and 1 for television, its card and its shape.
+pub record Booking : Type 0 where
+  pub desk : ℕ
+  pub card : ℕ
+  pub shape : ℕ
+
+-- Two bookings are the same.
+abbrev pub same : Booking → Booking → Bool
+same a b = eqb (a .desk) (b .desk) && (eqb (a .card) (b .card) && eqb (a .shape) (b .shape))
+
+-- ---- any list of bookings
+-- The n bookings from booking i on, each by a rule, and then what follows where none is at fault.
+unfoldable pub readEach : (ℕ → Reading ℕ → Reading ℕ) → ℕ → ℕ → Reading ℕ → Reading ℕ
+readEach rule zero i done = done
+readEach rule (suc n) i done = rule i (readEach rule n (suc i) done)
+
+-- 30: the list is empty. 31: its count is over 1,024. 30: it has other words than the count asks for, so many for each
+-- booking. Then its bookings.
+unfoldable pub readList : ℕ → (ℕ → Reading ℕ → Reading ℕ) → List ℕ → Reading ℕ
+readList width rule bookings =
+    refuse 30 0 (eqb (length bookings) 0)
+    (refuse 31 0 (ltb maxBookings (getD bookings 0 0))
+    (refuse 30 0 (not (eqb (length bookings) (1 + width * getD bookings 0 0)))
+    (readEach rule (getD bookings 0 0) 0 (accepted (getD bookings 0 0)))))
+
+-- Of the first k bookings, whether one is this.
+unfoldable pub bookedBefore : (ℕ → Booking) → Booking → ℕ → Bool
+bookedBefore nth b zero = false
+bookedBefore nth b (suc k) = bookedBefore nth b k || same (nth k) b
+
+-- Booking i is a repeat: an earlier one is the same.
+unfoldable pub repeated : (ℕ → Booking) → ℕ → Bool
+repeated nth i = bookedBefore nth (nth i) i
+
+-- ---- a list of both desks
+-- Where the desk, the card and the shape of booking i stand.
+abbrev pub deskIndex : ℕ → ℕ
+deskIndex i = 1 + 3 * i
+
 abbrev pub cardIndex : ℕ → ℕ
-cardIndex i = 1 + 2 * i
+cardIndex i = 2 + 3 * i
 
 abbrev pub shapeIndex : ℕ → ℕ
-shapeIndex i = 2 + 2 * i
+shapeIndex i = 3 + 3 * i
 
--- The card and the shape of booking i.
+-- Its words.
+unfoldable pub deskAt : List ℕ → ℕ → ℕ
+deskAt bookings i = getD bookings (deskIndex i) 0
+
 unfoldable pub cardAt : List ℕ → ℕ → ℕ
 cardAt bookings i = getD bookings (cardIndex i) 0
 
 unfoldable pub shapeAt : List ℕ → ℕ → ℕ
 shapeAt bookings i = getD bookings (shapeIndex i) 0
 
--- Of the first k bookings, whether one is of the card and the shape.
-unfoldable pub bookedBefore : List ℕ → ℕ → ℕ → ℕ → Bool
-bookedBefore bookings n t zero = false
-bookedBefore bookings n t (suc k) =
-    bookedBefore bookings n t k || (eqb (cardAt bookings k) n && eqb (shapeAt bookings k) t)
+abbrev pub bookingAt : List ℕ → ℕ → Booking
+bookingAt bookings i =
+    record { desk = deskAt bookings i; card = cardAt bookings i; shape = shapeAt bookings i }
 
--- Booking i is a repeat: an earlier one is of the same card and shape.
-unfoldable pub repeated : List ℕ → ℕ → Bool
-repeated bookings i = bookedBefore bookings (cardAt bookings i) (shapeAt bookings i) i
-
--- The n bookings from booking i on, and then what follows where none is at fault. 32: the card is not below the count
--- of cards. 33: the shape is not below the count of shapes. 65: by the strict rule, it is a repeat.
-unfoldable pub readPairs : Bool → ℕ → ℕ → List ℕ → ℕ → ℕ → Reading ℕ → Reading ℕ
-readPairs strict cards shapes bookings zero i done = done
-readPairs strict cards shapes bookings (suc n) i done =
-    refuse 32 (cardIndex i) (leb cards (cardAt bookings i))
+-- 66: the desk of booking i is over 1. 32: its card is not below the count of cards. 33: its shape is not below the
+-- count of shapes. 65: it is a repeat.
+abbrev pub bookingRule : ℕ → ℕ → List ℕ → ℕ → Reading ℕ → Reading ℕ
+bookingRule cards shapes bookings i rest =
+    refuse 66 (deskIndex i) (ltb 1 (deskAt bookings i))
+    (refuse 32 (cardIndex i) (leb cards (cardAt bookings i))
     (refuse 33 (shapeIndex i) (leb shapes (shapeAt bookings i))
-    (refuse 65 (cardIndex i) (strict && repeated bookings i)
-    (readPairs strict cards shapes bookings n (suc i) done)))
+    (refuse 65 (cardIndex i) (repeated (bookingAt bookings) i) rest)))
 
--- 30: the list is empty. 31: its count is over 1,024. 30: it has other words than the count asks for. Then its
--- bookings.
-unfoldable pub readList : Bool → ℕ → ℕ → List ℕ → Reading ℕ
-readList strict cards shapes bookings =
-    refuse 30 0 (eqb (length bookings) 0)
-    (refuse 31 0 (ltb maxBookings (getD bookings 0 0))
-    (refuse 30 0 (not (eqb (length bookings) (1 + 2 * getD bookings 0 0)))
-    (readPairs strict cards shapes bookings (getD bookings 0 0) 0 (accepted (getD bookings 0 0)))))
-
--- A list as every call takes it: a repeat is refused.
+-- What reading a list for so many cards and shapes finds.
 abbrev pub readBookings : ℕ → ℕ → List ℕ → Reading ℕ
-readBookings = readList true
+readBookings cards shapes bookings = readList 3 (bookingRule cards shapes bookings) bookings
 
--- A list stored before, as the tidying pass takes it: a repeat is not.
-abbrev pub readStored : ℕ → ℕ → List ℕ → Reading ℕ
-readStored = readList false
-
--- Some booking of the list is of the card and the shape.
-pub record Booked (bookings : List ℕ) (n t : ℕ) : Type 0 where
+-- Some booking of the desk is of the card and the shape.
+pub record Booked (bookings : List ℕ) (desk n t : ℕ) : Type 0 where
   pub booking : ℕ
   pub listed : booking < getD bookings 0 0
+  pub ours : deskAt bookings booking ≡ desk
   pub card : cardAt bookings booking ≡ n
   pub shape : shapeAt bookings booking ≡ t
+
+-- Of the n bookings from booking i on, the card and the shape of each that is the desk's.
+unfoldable pub deskWordsFrom : List ℕ → ℕ → ℕ → ℕ → List ℕ
+deskWordsFrom bookings desk zero i = []
+deskWordsFrom bookings desk (suc n) i =
+    cond (eqb (deskAt bookings i) desk)
+    (cardAt bookings i ∷ shapeAt bookings i ∷ deskWordsFrom bookings desk n (suc i))
+    (deskWordsFrom bookings desk n (suc i))
+
+-- Of all bookings.
+abbrev pub deskWords : List ℕ → ℕ → List ℕ
+deskWords bookings desk = deskWordsFrom bookings desk (getD bookings 0 0) 0

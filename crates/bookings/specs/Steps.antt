@@ -1,13 +1,14 @@
 -- What the code's answer says of the reading of a booking list, and what its parts ask and leave; no part of a promise.
 -- bookingReading   the reading that an answer stands for
--- BookingIn        the words of booking i stand in a list
--- Sized            a list that has the words of so many bookings
--- PairsAsked       what reading its bookings asks
+-- Sized            a list that has the words of so many bookings, each of so many words
+-- WordsIn          the words of booking i stand in a list
+-- Counted          what looking at a list's count and length finds
+-- PairsAsked       what reading the bookings of a list asks
 -- EnterAsked       the first bookings of a list are chained by their cards, and there is room for one more
--- Entered          what looking a pair up among them tells and leaves: it is booked there, or is chained too
--- TidyAsked        what tidying a list asks
+-- Entered          what looking a booking up among them tells and leaves: it is there, or is chained too
+-- TidyAsked        what tidying a stored list asks
 -- Assumes nothing.
-use Prim.Native.Nat.{ℕ, _+_, _*_, _≤_, _<_}
+use Prim.Native.Nat.{ℕ, suc, _+_, _*_, _≤_, _<_}
 use mathlib.Core.Path.{_≡_}
 use mathlib.Core.Bool.{Bool, true, false}
 use mathlib.Core.List.{List}
@@ -15,7 +16,8 @@ use lib.ListN.{length, getD}
 use Rattle.words.specs.Limits.{maxBookings, maxCards}
 use Rattle.words.specs.Reading.{Reading, accepted, turnedDown}
 use Rattle.words.specs.Chain.{Chained}
-use Rattle.bookings.specs.Bookings.{shapeIndex, cardAt, bookedBefore}
+use Rattle.bookings.specs.Bookings.{Booking, readList, bookingAt, cardAt, bookedBefore}
+use Rattle.bookings.specs.Stored.{storedCardAt}
 use Rattle.bookings.specs.declared.BookingRead.{BookingRead}
 use Rattle.bookings.specs.declared.BookingRead.the-variants as list
 
@@ -24,43 +26,50 @@ abbrev pub bookingReading : BookingRead → Reading ℕ
 bookingReading (list.Listed count) = accepted count
 bookingReading (list.Refused number place) = turnedDown number place
 
--- The words of booking i are in the list.
-pub record BookingIn (bookings : List ℕ) (i : ℕ) : Type 0 where
-  pub few : i < maxBookings
-  pub inside : shapeIndex i < length bookings
-
 -- The list has the words of so many bookings, and these are not too many.
-pub record Sized (bookings : List ℕ) (count : ℕ) : Type 0 where
+pub record Sized (width : ℕ) (bookings : List ℕ) (count : ℕ) : Type 0 where
   pub few : count ≤ maxBookings
-  pub size : length bookings ≡ 1 + 2 * count
+  pub size : length bookings ≡ 1 + width * count
 
--- Such a list; where repeats are looked for, the cards are those of a script.
-pub record PairsAsked (strict : Bool) (cards : ℕ) (bookings : List ℕ) (count : ℕ) : Type 0 where
-  pub sized : Sized bookings count
-  pub few-cards : strict ≡ true → cards ≤ maxCards
+-- The words of booking i are in the list.
+pub record WordsIn (width : ℕ) (bookings : List ℕ) (i : ℕ) : Type 0 where
+  pub few : i < maxBookings
+  pub inside : width * suc i < length bookings
+
+-- A list with the words that its count asks for, which is then read one by one; or one that is refused, whatever the
+-- rule for each booking.
+abbrev pub Counted : ℕ → List ℕ → BookingRead → Type 0
+Counted width bookings (list.Listed count) = Sized width bookings count × (count ≡ getD bookings 0 0)
+Counted width bookings (list.Refused number place) =
+    (rule : ℕ → Reading ℕ → Reading ℕ) → readList width rule bookings ≡ turnedDown number place
+
+-- A list of so many bookings; the cards are those of a script.
+pub record PairsAsked (cards : ℕ) (bookings : List ℕ) (count : ℕ) : Type 0 where
+  pub sized : Sized 3 bookings count
+  pub few-cards : cards ≤ maxCards
 
 -- The first k bookings of a list are chained by their cards, and there is room for a further one of a card.
 pub record EnterAsked (bookings : List ℕ) (k card : ℕ) (first next : List ℕ) : Type 0 where
   pub chained : Chained (cardAt bookings) first next k
-  pub words : 1 + 2 * k ≤ length bookings
+  pub words : 1 + 3 * k ≤ length bookings
   pub few : k < maxBookings
   pub room : k < length next
   pub card-in : card < length first
 
--- A pair is looked up among the first k bookings. Where one is of it the chains stay; where none is, they have a
--- booking more, of the pair's card.
-pub record Entered (bookings : List ℕ) (k card shape : ℕ) (first next after-first after-next : List ℕ) (again : Bool)
-    : Type 0 where
-  pub told : again ≡ bookedBefore bookings card shape k
+-- A booking is looked up among the first k of a list. Where it is there the chains stay; where it is not, they have a
+-- booking more, of its card.
+pub record Entered (bookings : List ℕ) (k : ℕ) (b : Booking) (first next after-first after-next : List ℕ)
+    (again : Bool) : Type 0 where
+  pub told : again ≡ bookedBefore (bookingAt bookings) b k
   pub heads : length after-first ≡ length first
   pub links : length after-next ≡ length next
   pub stays : again ≡ true → Chained (cardAt bookings) after-first after-next k
-  pub more : again ≡ false → (key : ℕ → ℕ) → ((j : ℕ) → j < k → key j ≡ cardAt bookings j) → key k ≡ card
+  pub more : again ≡ false → (key : ℕ → ℕ) → ((j : ℕ) → j < k → key j ≡ cardAt bookings j) → key k ≡ b .card
       → Chained key after-first after-next (k + 1)
 
--- A list of so many bookings of a script's cards, and a buffer of its length.
+-- A stored list of so many bookings of a script's cards, and a buffer with a word more for each.
 pub record TidyAsked (bookings : List ℕ) (count : ℕ) (out : List ℕ) : Type 0 where
-  pub sized : Sized bookings count
+  pub sized : Sized 2 bookings count
   pub counted : count ≡ getD bookings 0 0
-  pub cards : (i : ℕ) → i < count → cardAt bookings i < maxCards
-  pub room : length out ≡ length bookings
+  pub cards : (i : ℕ) → i < count → storedCardAt bookings i < maxCards
+  pub room : length out ≡ 1 + 3 * count

@@ -1,17 +1,19 @@
-// Writing a list of bookings without its repeats.
+// Writing a stored list of bookings without its repeats.
 ghost use Rattle.words.specs.Wrote.{Wrote};
 ghost use Rattle.bookings.specs.Tidied.{tidied};
 ghost use Rattle.bookings.specs.Steps.{TidyAsked};
-use crate::card_at;
 use crate::card_index;
+use crate::desk_index;
 use crate::lookup::enter_booking;
-use crate::shape_at;
 use crate::shape_index;
+use crate::stored::stored_card_at;
+use crate::stored::stored_shape_at;
 use words::MAX_BOOKINGS;
 use words::MAX_CARDS;
 use words::wide;
 
-// Writes the first booking of each pair, in their order, and their count in front; answers how many words these are.
+// Writes the first booking of each pair, in their order, each with desk 0 in front, and their count before all; answers
+// how many words these are.
 pub fn tidy(bookings: &[u16], count: u16, out: &mut [u16]) -> usize
     requires { ⌜ TidyAsked (now bookings) count (now out) ⌝ }
     ensures { λ r. ⌜ Wrote (now (out .entry)) 0 (tidied (now (bookings .entry))) (now (out .exit)) r ⌝ }
@@ -22,9 +24,10 @@ pub fn tidy(bookings: &[u16], count: u16, out: &mut [u16]) -> usize
     let mut kept = 0;
     let mut i = 0;
     while i < pairs {
-        let card = card_at(bookings, i);
-        let shape = shape_at(bookings, i);
-        if !enter_booking(out, kept, card, shape, &mut first, &mut next) {
+        let card = stored_card_at(bookings, i);
+        let shape = stored_shape_at(bookings, i);
+        if !enter_booking(out, kept, 0, card, shape, &mut first, &mut next) {
+            out[desk_index(kept)] = 0;
             out[card_index(kept)] = card;
             out[shape_index(kept)] = shape;
             kept += 1;
@@ -32,5 +35,5 @@ pub fn tidy(bookings: &[u16], count: u16, out: &mut [u16]) -> usize
         i += 1;
     }
     out[0] = kept as u16;
-    card_index(kept)
+    desk_index(kept)
 }

@@ -35,8 +35,8 @@ zero-or-one (suc zero) low = inr refl
 zero-or-one (suc (suc x)) low = absurd (low (omega arith))
 
 module _ (grid : List ℕ) {p : ℕ} (found : First (λ q. 1 < getD grid q 0) (length grid) p) where
-  pub over-found : {s : Sheet} {bookings : List ℕ} → length grid ≡ size s → p < length grid
-      → JudgeFound s bookings grid (refusal 61 (p ∷ []))
+  pub over-found : {s : Sheet} {bookings : List ℕ} {desk : ℕ} → length grid ≡ size s → p < length grid
+      → JudgeFound s bookings desk grid (refusal 61 (p ∷ []))
   over-found full l = record {
     verdict = over p;
     says = refl;
@@ -62,8 +62,8 @@ module _ {s : Sheet} {script names : List ℕ} (fitting : List ℕ) {grid : List
   met-before n t ln lt l has =
       rep .met-exact (on grid) n t ln lt .0 (is-true (λ f. found .before (place s n t) l (has, f)))
 
-  unmet-found : {bookings : List ℕ} → p < length grid
-      → JudgeFound s bookings grid (refusal 62 (p / s .shapes ∷ p % s .shapes ∷ []))
+  unmet-found : {bookings : List ℕ} {desk : ℕ} → p < length grid
+      → JudgeFound s bookings desk grid (refusal 62 (p / s .shapes ∷ p % s .shapes ∷ []))
   unmet-found l = record {
     verdict = unmet (p / s .shapes) (p % s .shapes);
     says = refl;
@@ -93,21 +93,22 @@ module _ {s : Sheet} {script names : List ℕ} (fitting : List ℕ) {grid : List
     sound = λ n t ln lt. met-before n t ln lt (omega (arith, pair-in rep n t ln lt, typed .full));
   }
 
-module _ {s : Sheet} {bookings grid : List ℕ} (sound : SoundTyping s grid) {count i : ℕ}
-    (counted : count ≡ getD bookings 0 0) (found : First (Missing bookings (s .shapes) grid) count i) where
-  unheld-found : i < count → JudgeFound s bookings grid (refusal 63 (cardIndex i ∷ []))
+module _ {s : Sheet} {bookings : List ℕ} {desk : ℕ} {grid : List ℕ} (sound : SoundTyping s grid) {count i : ℕ}
+    (counted : count ≡ getD bookings 0 0) (found : First (Missing bookings desk (s .shapes) grid) count i) where
+  unheld-found : i < count → JudgeFound s bookings desk grid (refusal 63 (cardIndex i ∷ []))
   unheld-found l = record {
     verdict = unheld i;
     says = refl;
     right = record {
       sound = sound;
       listed = omega (arith, counted);
-      missing = found .here l;
-      first = λ j lj. is-true (found .before j lj);
+      ours = found .here l .0;
+      missing = found .here l .1;
+      first = λ j lj ours. is-true (λ off. found .before j lj (ours, off));
     };
   }
 
-  passes-found : count ≤ i → JudgeFound s bookings grid (values [])
+  passes-found : count ≤ i → JudgeFound s bookings desk grid (values [])
   passes-found all = record {
     verdict = passes;
     says = refl;
@@ -115,13 +116,14 @@ module _ {s : Sheet} {bookings grid : List ℕ} (sound : SoundTyping s grid) {co
       sound = sound;
       holds = λ n t b.
           subst₂ (Has s (on grid)) (b .card) (b .shape)
-          (is-true (found .before (b .booking) (omega (arith, b .listed, counted))));
+          (is-true (λ off. found .before (b .booking) (omega (arith, b .listed, counted)) (b .ours, off)));
     };
   }
 
 -- ---- of a sheet whose pairs are tested
 module _ {s : Sheet} {script names : List ℕ} {e : Extent} {fitting : List ℕ} (t : SheetTested s script names e fitting)
-    (bookings grid : List ℕ) (marks : Marks grid) (full : length grid ≡ e .cards * e .shapes) {p : ℕ}
+    (bookings : List ℕ) (desk : ℕ) (grid : List ℕ) (marks : Marks grid) (full : length grid ≡ e .cards * e .shapes)
+    {p : ℕ}
     (found : First (Failing script names (e .shapes) fitting grid) (length grid) p) where
   board : Represents s (boardOf script names (s .shapes) fitting)
   board = subst (λ (n : ℕ). Represents s (boardOf script names n fitting)) (sym (shapes-same t)) (stands t)
@@ -135,18 +137,18 @@ module _ {s : Sheet} {script names : List ℕ} {e : Extent} {fitting : List ℕ}
   found-here = rw (shapes-same t) found
 
   pub unmet-tested : p < length grid
-      → JudgeFound s bookings grid (refusal 62 (p / e .shapes ∷ p % e .shapes ∷ []))
+      → JudgeFound s bookings desk grid (refusal 62 (p / e .shapes ∷ p % e .shapes ∷ []))
   unmet-tested l =
-      subst (λ (n : ℕ). JudgeFound s bookings grid (refusal 62 (p / n ∷ p % n ∷ []))) (shapes-same t)
+      subst (λ (n : ℕ). JudgeFound s bookings desk grid (refusal 62 (p / n ∷ p % n ∷ []))) (shapes-same t)
       (unmet-found fitting board typed found-here l)
 
   module _ (all : length grid ≤ p) {count i : ℕ} (counted : count ≡ getD bookings 0 0)
-      (missing : First (Missing bookings (e .shapes) grid) count i) where
-    missing-here : First (Missing bookings (s .shapes) grid) count i
+      (missing : First (Missing bookings desk (e .shapes) grid) count i) where
+    missing-here : First (Missing bookings desk (s .shapes) grid) count i
     missing-here = rw (shapes-same t) missing
 
-    pub unheld-tested : i < count → JudgeFound s bookings grid (refusal 63 (cardIndex i ∷ []))
+    pub unheld-tested : i < count → JudgeFound s bookings desk grid (refusal 63 (cardIndex i ∷ []))
     unheld-tested = unheld-found (sound-by fitting board typed found-here all) counted missing-here
 
-    pub passes-tested : count ≤ i → JudgeFound s bookings grid (values [])
+    pub passes-tested : count ≤ i → JudgeFound s bookings desk grid (values [])
     passes-tested = passes-found (sound-by fitting board typed found-here all) counted missing-here

@@ -1,10 +1,9 @@
--- What follows from the bookings is the smallest typing, or 50.
+-- What follows from a desk's bookings is its smallest typing, or 50.
 --   met-found, unmet-found        the answer where each pair that follows fits, and where one does not
 --   both-of-found                 the two answers together are that of the call for both
 -- Assumes nothing.
 use Prim.Native.Nat.{ℕ, _+_, _*_, _<_}
 use mathlib.Core.Path.{_≡_, refl, sym, ap, ap₂, _∙_, subst}
-use mathlib.Core.Bool.{true}
 use mathlib.Core.List.{List, [], _∷_}
 use native.Mathlib.Omega.{arith}
 use lib.ListN.{length, replicate}
@@ -33,32 +32,34 @@ use Rattle.calls.proofs.Known.{read}
 use Rattle.calls.proofs.Tested.{cards-same, shapes-same, stands}
 
 module _ {s : Sheet} {script names : List ℕ} {e : Extent} {grid : List ℕ} (t : SheetTested s script names e grid)
-    (bookings : List ℕ) {count : ℕ}
+    (bookings : List ℕ) (desk : ℕ) {count : ℕ}
     (list : readBookings (e .cards) (e .shapes) bookings ≡ accepted count) where
   listed : readBookings (s .cards) (s .shapes) bookings ≡ accepted count
   listed = rw (cards-same t, shapes-same t) list
 
-  booked-in : BookedIn s (Booked bookings)
-  booked-in n u b = bookings-in true (s .cards) (s .shapes) bookings count listed n u b
+  booked-in : BookedIn s (Booked bookings desk)
+  booked-in n u b = bookings-in (s .cards) (s .shapes) bookings count listed n u b
 
   -- the places of the bookings
-  booked-place : (p : ℕ) → BookedAt bookings (e .shapes) count p → PlaceOf s (Booked bookings) p
+  booked-place : (p : ℕ) → BookedAt bookings desk (e .shapes) count p → PlaceOf s (Booked bookings desk) p
   booked-place p b = record {
     card = cardAt bookings (b .booking);
     shape = shapeAt bookings (b .booking);
     pair = record {
       booking = b .booking;
-      listed = omega (arith, b .listed, bookings-count true (e .cards) (e .shapes) bookings count list);
+      listed = omega (arith, b .listed, bookings-count (e .cards) (e .shapes) bookings count list);
+      ours = b .ours;
       card = refl;
       shape = refl;
     };
     at = rw (shapes-same t) (b .at);
   }
 
-  place-booked : (p : ℕ) → PlaceOf s (Booked bookings) p → BookedAt bookings (e .shapes) count p
+  place-booked : (p : ℕ) → PlaceOf s (Booked bookings desk) p → BookedAt bookings desk (e .shapes) count p
   place-booked p b = record {
     booking = b .pair .booking;
-    listed = omega (arith, b .pair .listed, bookings-count true (e .cards) (e .shapes) bookings count list);
+    listed = omega (arith, b .pair .listed, bookings-count (e .cards) (e .shapes) bookings count list);
+    ours = b .pair .ours;
     at =
         rw (shapes-same t) at (b .at)
         ∙ sym (ap₂ (λ (n u : ℕ). n * e .shapes + u) (b .pair .card) (b .pair .shape));
@@ -66,13 +67,13 @@ module _ {s : Sheet} {script names : List ℕ} {e : Extent} {grid : List ℕ} (t
 
   -- both answers
   pub both-of-found : {small large : List ℕ} {said : BothSaid}
-      → LargestFound s large (said .largest) → SmallestFound s (Booked bookings) small (said .smallest)
-      → BothFound s (Booked bookings) small large said
+      → LargestFound s large (said .largest) → SmallestFound s (Booked bookings desk) small (said .smallest)
+      → BothFound s (Booked bookings desk) small large said
   both-of-found l m = both-found (stands t) booked-in l m
 
   module _ {closure : List ℕ} {found : ℕ}
-      (closes : Closes script names (e .shapes) bookings count closure found) where
-    flooded : Flooded (boardOf script names (e .shapes) grid) (PlaceOf s (Booked bookings)) (on closure) found
+      (closes : Closes script names (e .shapes) bookings desk count closure found) where
+    flooded : Flooded (boardOf script names (e .shapes) grid) (PlaceOf s (Booked bookings desk)) (on closure) found
     flooded = flooded-books booked-place place-booked (closes .closure grid)
 
     pub closure-full : length closure ≡ e .cards * e .shapes
@@ -83,7 +84,7 @@ module _ {s : Sheet} {script names : List ℕ} {e : Extent} {grid : List ℕ} (t
 
     -- every pair of the closure fits: it is the smallest typing
     pairs-by : FirstMissing closure grid (length closure)
-        → SmallestFound s (Booked bookings) closure (values (found ∷ []))
+        → SmallestFound s (Booked bookings desk) closure (values (found ∷ []))
     pairs-by none =
         pairs-found (stands t) booked-in flooded closure
         (record { full = sized; bytes = λ p l. closes .marks p (omega (arith, sized)) })
@@ -92,7 +93,7 @@ module _ {s : Sheet} {script names : List ℕ} {e : Extent} {grid : List ℕ} (t
     -- the lowest that does not fit is 50's
     not-met-by : (n u : ℕ) → u < s .shapes → n * s .shapes + u < length closure
         → FirstMissing closure grid (n * s .shapes + u)
-        → SmallestFound s (Booked bookings) (replicate (length closure) 0) (refusal 50 (n ∷ u ∷ []))
+        → SmallestFound s (Booked bookings desk) (replicate (length closure) 0) (refusal 50 (n ∷ u ∷ []))
     not-met-by n u lu l first =
         let (here, off) = first .missing l in
         rw sized (not-met-found (stands t) booked-in flooded n u lu (omega (arith, sized)) here off
@@ -100,16 +101,17 @@ module _ {s : Sheet} {script names : List ℕ} {e : Extent} {grid : List ℕ} (t
 
     -- the answer by the verdict on the closure's pairs
     module _ {after : List ℕ} {v : Unfit} (judged : UnfitFound closure grid (e .shapes) after v) where
-      pub met-found : v ≡ unfit.Nowhere → SmallestFound s (Booked bookings) after (values (found ∷ []))
+      pub met-found : v ≡ unfit.Nowhere → SmallestFound s (Booked bookings desk) after (values (found ∷ []))
       met-found h =
           let (same, none) = subst (UnfitFound closure grid (e .shapes) after) h judged in
-          subst (λ (g : List ℕ). SmallestFound s (Booked bookings) g (values (found ∷ []))) (sym same) (pairs-by none)
+          subst (λ (g : List ℕ). SmallestFound s (Booked bookings desk) g (values (found ∷ []))) (sym same)
+          (pairs-by none)
 
       pub unmet-found : {card : Card} {shape : Shape} → v ≡ unfit.At card shape
-          → SmallestFound s (Booked bookings) after (refusal 50 (card .0 ∷ shape .0 ∷ []))
+          → SmallestFound s (Booked bookings desk) after (refusal 50 (card .0 ∷ shape .0 ∷ []))
       unmet-found {card} {shape} h =
           let (same, first, inside, small) =
           rw (sym (shapes-same t)) at (subst (UnfitFound closure grid (e .shapes) after) h judged) in
-          subst (λ (g : List ℕ). SmallestFound s (Booked bookings) g (refusal 50 (card .0 ∷ shape .0 ∷ [])))
+          subst (λ (g : List ℕ). SmallestFound s (Booked bookings desk) g (refusal 50 (card .0 ∷ shape .0 ∷ [])))
           (sym same)
           (not-met-by (card .0) (shape .0) small inside first)

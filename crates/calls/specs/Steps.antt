@@ -6,23 +6,24 @@
 -- TestAsked     what testing the pairs asks
 -- PairsTested   each sheet that the readings ask for is tested, and where its links stand is known
 -- Listed        a sheet with its table of names and a booking list, all read; BookedAs: what reading them finds
--- Sized, Lent   what is read, with a grid or two grids of the sheet's size; LentLinked: and the links to each card
+-- ReadFor       these, for a desk and with a grid of the sheet's size; LentAs: what reading them finds
+-- Sized, Lent, LentThree   what is read, with one, two or three grids of the sheet's size; LentLinked: and the links to
+--               each card
 -- StrikesAsked  what striking asks
--- Settling      what settling the bookings asks for
+-- Settling      what settling the bookings asks for; DesksAsked: what settling those of both desks and striking does
 -- Judging       what is read, with a grid that is judged; JudgingLinked: and the links to each card; JudgingTested: its
 --               pairs tested, and one of zeros and ones
 -- CountedAs     a sheet has these words of its script and these counts
 -- Rows          a grid has a row of shapes for each card, and links are among the cards
--- struckSaid, settledSaid, bothOf   what the two searches say, and both
+-- bothOf, desksOf   what the two searches say together, and what they say for both desks
 -- Assumes nothing.
 use Prim.Native.Nat.{ℕ, _*_, _≤_}
 use mathlib.Core.Path.{_≡_}
 use mathlib.Core.Bool.{true}
-use mathlib.Core.List.{List, [], _∷_}
+use mathlib.Core.List.{List}
 use lib.ListN.{length}
-use Rattle.words.specs.Said.{Said, values, refusal}
 use Rattle.words.specs.Limits.{maxCards, maxShapes}
-use Rattle.words.specs.Reading.{accepted, turnedDown, then}
+use Rattle.words.specs.Reading.{accepted, turnedDown}
 use Rattle.board.specs.Machine.{Marks}
 use Rattle.script.specs.Steps.{LinksAmong}
 use Rattle.script.specs.Index.{StartsOf, ArrivalsOf}
@@ -30,12 +31,11 @@ use Rattle.sheet.specs.Sheet.{Sheet, readSheet}
 use Rattle.sheet.specs.Opened.{Known}
 use Rattle.sheet.specs.declared.Extent.{Extent}
 use Rattle.bookings.specs.Bookings.{readBookings}
-use Rattle.typing.specs.Answer.{BothSaid}
-use Rattle.typing.specs.Calls.{withBookings}
+use Rattle.typing.specs.declared.Desks.{Desks}
+use Rattle.typing.specs.declared.DesksAnswer.the-variants as desks
+use Rattle.typing.specs.Answer.{BothSaid, struckSaid, settledSaid, DesksSaid, desksSaid}
+use Rattle.typing.specs.Calls.{listedReading, smallestReading}
 use Rattle.fits.specs.Fitting.{Fitted}
-use Rattle.calls.specs.declared.Struck.{Struck}
-use Rattle.calls.specs.declared.Settled.{Settled}
-use Rattle.calls.specs.declared.Settled.the-variants as settled
 use Rattle.calls.specs.declared.Both.{Both}
 use Rattle.calls.specs.declared.BookedRead.{BookedRead}
 use Rattle.calls.specs.declared.BookedRead.the-variants as read
@@ -76,7 +76,21 @@ pub record Listed (template script names : List ℕ) (e : Extent) (bookings : Li
 abbrev pub BookedAs : List ℕ → List ℕ → List ℕ → List ℕ → BookedRead → Type 0
 BookedAs template script names bookings (read.Sheet e count) = Listed template script names e bookings count
 BookedAs template script names bookings (read.Refused number place) =
-    then (readSheet template script) (withBookings bookings) ≡ turnedDown number place
+    listedReading template script bookings ≡ turnedDown number place
+
+-- These, for a desk and with a grid of the sheet's size.
+pub record ReadFor (template script names : List ℕ) (e : Extent) (bookings : List ℕ) (count desk : ℕ) (grid : List ℕ)
+    : Type 0 where
+  pub listed : Listed template script names e bookings count
+  pub ours : desk ≤ 1
+  pub size : length grid ≡ e .cards * e .shapes
+
+-- What reading template, script and bookings finds, and then the desk and the grid.
+abbrev pub LentAs : List ℕ → List ℕ → List ℕ → List ℕ → ℕ → List ℕ → BookedRead → Type 0
+LentAs template script names bookings desk grid (read.Sheet e count) =
+    ReadFor template script names e bookings count desk grid
+LentAs template script names bookings desk grid (read.Refused number place) =
+    smallestReading template script bookings desk grid ≡ turnedDown number place
 
 -- A sheet with its table of names, and a grid of its size.
 pub record Sized (template script names : List ℕ) (e : Extent) (grid : List ℕ) : Type 0 where
@@ -100,7 +114,15 @@ pub record Lent (template script names : List ℕ) (e : Extent) (bookings : List
   pub size : length one ≡ e .cards * e .shapes
   pub other-size : length other ≡ e .cards * e .shapes
 
--- Such a sheet and grids, and where the links to each card stand.
+-- A sheet with a booking list, and three grids of its size.
+pub record LentThree (template script names : List ℕ) (e : Extent) (bookings : List ℕ) (count : ℕ)
+    (radio television large : List ℕ) : Type 0 where
+  pub listed : Listed template script names e bookings count
+  pub radio-size : length radio ≡ e .cards * e .shapes
+  pub television-size : length television ≡ e .cards * e .shapes
+  pub large-size : length large ≡ e .cards * e .shapes
+
+-- A sheet with a booking list and two grids, and where the links to each card stand.
 pub record LentLinked (template script names : List ℕ) (e : Extent) (first next bookings : List ℕ) (count : ℕ)
     (one other : List ℕ) : Type 0 where
   pub lent : Lent template script names e bookings count one other
@@ -112,6 +134,15 @@ pub record Settling (script names : List ℕ) (e : Extent) (starts first next fi
   pub some : SomeTested script names e starts first next fitting
   pub list : readBookings (e .cards) (e .shapes) bookings ≡ accepted count
   pub size : length grid ≡ e .cards * e .shapes
+
+-- Some sheet is tested, where its links stand, whatever shapes name, and a booking list are known, and two more grids
+-- have the sheet's size.
+pub record DesksAsked (script names : List ℕ) (e : Extent) (starts first next bookings : List ℕ) (count : ℕ)
+    (radio television large : List ℕ) : Type 0 where
+  pub strikes : StrikesAsked script names e starts first next large
+  pub list : readBookings (e .cards) (e .shapes) bookings ≡ accepted count
+  pub radio-size : length radio ≡ e .cards * e .shapes
+  pub television-size : length television ≡ e .cards * e .shapes
 
 -- A sheet with a booking list, and a grid of its size.
 pub record Judging (template script names : List ℕ) (e : Extent) (bookings : List ℕ) (count : ℕ) (grid : List ℕ)
@@ -147,14 +178,9 @@ pub record Rows (script : List ℕ) (e : Extent) (grid : List ℕ) : Type 0 wher
   pub few-cards : e .cards ≤ maxCards
   pub few-shapes : e .shapes ≤ maxShapes
 
--- Rounds, pairs struck, cards with some link and no shape.
-abbrev pub struckSaid : Struck → Said
-struckSaid r = values (r .rounds ∷ r .struck ∷ r .bare ∷ [])
-
--- The closure's number of pairs; or 50, with the card and the shape of its lowest pair that is not met.
-abbrev pub settledSaid : Settled → Said
-settledSaid (settled.Pairs pairs) = values (pairs ∷ [])
-settledSaid (settled.NotMet card shape) = refusal 50 (card .0 ∷ shape .0 ∷ [])
-
+-- What is found of both typings says what the two say; so it is of the typings of both desks.
 abbrev pub bothOf : Both → BothSaid
 bothOf r = record { largest = struckSaid (r .largest); smallest = settledSaid (r .smallest) }
+
+abbrev pub desksOf : Desks → DesksSaid
+desksOf r = desksSaid (desks.Typed r)

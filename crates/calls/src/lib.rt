@@ -1,8 +1,10 @@
 // The calls for the two typings of a script: the largest that it allows, and the smallest that holds the bookings.
 // A call reads what it is lent, and takes a few steps on the sheet that is read: test the pairs, strike rounds, settle
 // the bookings.
+//   desks     the call for the typings of both desks
 //   verdict   the call that judges a grid
 //   tidying   the call that tidies bookings
+mod desks;
 mod tidying;
 mod verdict;
 
@@ -14,16 +16,17 @@ ghost use Rattle.words.specs.Reading.{accepted};
 ghost use Rattle.board.specs.Grid.{on};
 ghost use Rattle.sheet.specs.Sheet.{Sheet, readSheet};
 ghost use Rattle.bookings.specs.Bookings.{Booked};
-ghost use Rattle.typing.specs.Answer.{largestSaid, smallestSaid, bothSaid};
+ghost use Rattle.typing.specs.Answer.{largestSaid, smallestSaid, bothSaid, struckSaid, settledSaid};
 ghost use Rattle.typing.specs.Largest.{bareCards};
 ghost use Rattle.typing.specs.Calls.{LargestFound, LargestSays, SmallestFound, SmallestSays, BothFound, BothSays};
-ghost use Rattle.calls.specs.Steps.{SheetTested, StrikesAsked, TestAsked, PairsTested, BookedAs, Sized, Lent};
-ghost use Rattle.calls.specs.Steps.{LentLinked, Settling, CountedAs, Rows, struckSaid, settledSaid, bothOf};
+ghost use Rattle.calls.specs.Steps.{SheetTested, StrikesAsked, TestAsked, PairsTested, BookedAs, LentAs};
+ghost use Rattle.calls.specs.Steps.{Sized, Lent, LentLinked, Settling, CountedAs, Rows, bothOf};
 use board::all_off;
 use bookings::BookingRead;
 use bookings::read_bookings;
+pub use desks::desk_typings;
+pub use desks::desks_of;
 use fits::fit_grid;
-use script::Card;
 use script::chain;
 use script::link_starts;
 use script::mark_linked;
@@ -34,11 +37,12 @@ use search::strike_all;
 use sheet::Extent;
 use sheet::SheetRead;
 use sheet::read_sheet;
-use template::Shape;
 pub use tidying::tidy_bookings;
 use typing::BothAnswer;
 use typing::LargestAnswer;
+use typing::Settled;
 use typing::SmallestAnswer;
+use typing::Struck;
 pub use verdict::judge;
 pub use verdict::judge_of;
 use words::MAX_CARDS;
@@ -48,19 +52,6 @@ use words::TABLE_SIZE;
 
 // Where the links from each card start, and where those from the last end.
 const STARTS: usize = MAX_CARDS + 1;
-
-// What striking rounds found: rounds, pairs struck, cards with some link and no shape.
-pub struct Struck {
-    pub rounds: usize,
-    pub struck: usize,
-    pub bare: usize,
-}
-
-// How bookings fared: the number of pairs that follow from them, or the lowest of these that is not met.
-pub enum Settled {
-    Pairs(usize),
-    NotMet(Card, Shape),
-}
 
 // What was found of both typings.
 pub struct Both {
@@ -102,6 +93,34 @@ pub fn read_booked(
                 BookingRead::Refused(number, place) => BookedRead::Refused(number, place),
                 BookingRead::Listed(count) => BookedRead::Sheet(e, count),
             }
+        }
+    }
+}
+
+// The same for a desk and a grid: template, script, list, desk and the grid's size are tested in this order.
+fn read_lent(
+    template: &[u16],
+    script: &[u16],
+    bookings: &[u16],
+    desk: u16,
+    grid: &[u8],
+    names: &mut [u8],
+) -> BookedRead
+    requires { ⌜ now names ≡ replicate tableSize 0 ⌝ }
+    ensures { λ r. ⌜ LentAs (now (template .entry)) (now (script .entry)) (now (names .exit))
+        (now (bookings .entry)) desk (now (grid .entry)) r ⌝ }
+{
+    let read = read_booked(template, script, bookings, names);
+    match read {
+        BookedRead::Refused(number, place) => BookedRead::Refused(number, place),
+        BookedRead::Sheet(e, count) => {
+            if 1 < desk {
+                return BookedRead::Refused(66, 0);
+            }
+            if grid.len() != grid_size(e) {
+                return BookedRead::Refused(40, 0);
+            }
+            BookedRead::Sheet(e, count)
         }
     }
 }
@@ -183,8 +202,8 @@ fn strike(
     }
 }
 
-// Writes into the grid what follows from the bookings, whatever it held, and tests whether each pair of it fits: the
-// grid then has the smallest typing, or is all 0.
+// Writes into the grid what follows from a desk's bookings, whatever it held, and tests whether each pair of it fits:
+// the grid then has the smallest typing, or is all 0.
 fn settle(
     script: &[u16],
     starts: &[u16; STARTS],
@@ -192,6 +211,7 @@ fn settle(
     next: &[u16],
     bookings: &[u16],
     count: u16,
+    desk: u16,
     names: &[u8],
     e: Extent,
     fitting: &[u8],
@@ -201,7 +221,7 @@ fn settle(
     requires { ⌜ Settling (now script) (now names) e (now starts) (now first) (now next) (now fitting)
         (now bookings) count (now grid) ⌝ }
     ensures { λ r. ⌜ ((s : Sheet) → SheetTested s (now (script .entry)) (now (names .entry)) e (now (fitting .entry))
-        → SmallestFound s (Booked (now (bookings .entry))) (now (grid .exit)) (settledSaid r)) ⌝ }
+        → SmallestFound s (Booked (now (bookings .entry)) desk) (now (grid .exit)) (settledSaid r)) ⌝ }
 {
     let shapes = e.shapes as usize;
     let found = close(
@@ -211,6 +231,7 @@ fn settle(
         next,
         bookings,
         count,
+        desk,
         names,
         e.cards as usize,
         shapes,
@@ -240,8 +261,8 @@ fn largest_of(template: &[u16], script: &[u16], names: &[u8], e: Extent, grid: &
     strike(script, &starts, &first, &next, names, e, grid, &mut queue)
 }
 
-// The smallest typing of a sheet and bookings that are read, in a grid of its size, by where the links to each card
-// stand. The other grid of its size then has the pairs whose counts fit.
+// The smallest typing of a sheet and a desk's bookings that are read, in a grid of its size, by where the links to each
+// card stand. The other grid of its size then has the pairs whose counts fit.
 fn smallest_by(
     template: &[u16],
     script: &[u16],
@@ -249,6 +270,7 @@ fn smallest_by(
     next: &[u16],
     bookings: &[u16],
     count: u16,
+    desk: u16,
     names: &[u8],
     e: Extent,
     fitting: &mut [u8],
@@ -257,7 +279,7 @@ fn smallest_by(
     requires { ⌜ LentLinked (now template) (now script) (now names) e (now first) (now next) (now bookings) count
         (now grid) (now fitting) ⌝ }
     ensures { λ r. ⌜ ((s : Sheet) → readSheet (now (template .entry)) (now (script .entry)) ≡ accepted s
-        → SmallestFound s (Booked (now (bookings .entry))) (now (grid .exit)) (settledSaid r)) ⌝ }
+        → SmallestFound s (Booked (now (bookings .entry)) desk) (now (grid .exit)) (settledSaid r)) ⌝ }
 {
     let mut starts = [0u16; STARTS];
     test_pairs(
@@ -278,6 +300,7 @@ fn smallest_by(
         next,
         bookings,
         count,
+        desk,
         names,
         e,
         fitting,
@@ -292,6 +315,7 @@ fn smallest_of(
     script: &[u16],
     bookings: &[u16],
     count: u16,
+    desk: u16,
     names: &[u8],
     e: Extent,
     fitting: &mut [u8],
@@ -299,7 +323,7 @@ fn smallest_of(
 ) -> Settled
     requires { ⌜ Lent (now template) (now script) (now names) e (now bookings) count (now grid) (now fitting) ⌝ }
     ensures { λ r. ⌜ ((s : Sheet) → readSheet (now (template .entry)) (now (script .entry)) ≡ accepted s
-        → SmallestFound s (Booked (now (bookings .entry))) (now (grid .exit)) (settledSaid r)) ⌝ }
+        → SmallestFound s (Booked (now (bookings .entry)) desk) (now (grid .exit)) (settledSaid r)) ⌝ }
 {
     if e.incoming {
         let mut first = [0u16; MAX_CARDS];
@@ -312,6 +336,7 @@ fn smallest_of(
             &next,
             bookings,
             count,
+            desk,
             names,
             e,
             fitting,
@@ -326,6 +351,7 @@ fn smallest_of(
         none,
         bookings,
         count,
+        desk,
         names,
         e,
         fitting,
@@ -333,12 +359,13 @@ fn smallest_of(
     )
 }
 
-// Both typings of a sheet and bookings that are read, in grids of its size. Each pair's counts are tested once.
-pub fn both_of(
+// Both typings of a sheet and a desk's bookings that are read, in grids of its size. A pair's counts are tested once.
+fn both_of(
     template: &[u16],
     script: &[u16],
     bookings: &[u16],
     count: u16,
+    desk: u16,
     names: &[u8],
     e: Extent,
     small: &mut [u8],
@@ -346,7 +373,7 @@ pub fn both_of(
 ) -> Both
     requires { ⌜ Lent (now template) (now script) (now names) e (now bookings) count (now small) (now large) ⌝ }
     ensures { λ r. ⌜ ((s : Sheet) → readSheet (now (template .entry)) (now (script .entry)) ≡ accepted s
-        → BothFound s (Booked (now (bookings .entry))) (now (small .exit)) (now (large .exit)) (bothOf r)) ⌝ }
+        → BothFound s (Booked (now (bookings .entry)) desk) (now (small .exit)) (now (large .exit)) (bothOf r)) ⌝ }
 {
     let mut first = [0u16; MAX_CARDS];
     let mut next = [0u16; MAX_LINKS];
@@ -370,6 +397,7 @@ pub fn both_of(
         &next,
         bookings,
         count,
+        desk,
         names,
         e,
         large,
@@ -429,28 +457,37 @@ pub fn largest(template: &[u16], script: &[u16], grid: &mut [u8]) -> LargestAnsw
     }
 }
 
-// Smallest: the number of pairs and the typing in the grid; or 50, the pair that is not met, and the grid all 0.
+// Smallest: the number of pairs and the typing in the grid; or 50, the pair that is not met, and the grid all 0. The
+// bookings are the desk's.
 pub fn smallest(
     template: &[u16],
     script: &[u16],
     bookings: &[u16],
+    desk: u16,
     grid: &mut [u8],
 ) -> SmallestAnswer
-    ensures { λ r. ⌜ SmallestSays (now (template .entry)) (now (script .entry)) (now (bookings .entry))
+    ensures { λ r. ⌜ SmallestSays (now (template .entry)) (now (script .entry)) (now (bookings .entry)) desk
         (now (grid .entry)) (now (grid .exit)) (smallestSaid r) ⌝ }
 {
     let mut names = [0u8; TABLE_SIZE];
-    let read = read_booked(template, script, bookings, &mut names);
+    let read = read_lent(template, script, bookings, desk, grid, &mut names);
     match read {
         BookedRead::Refused(number, place) => SmallestAnswer::Refused(number, place),
         BookedRead::Sheet(e, count) => {
             let size = grid_size(e);
-            if grid.len() != size {
-                return SmallestAnswer::Refused(40, 0);
-            }
             let mut fitting = [0u8; MAX_GRID];
             let pairs = &mut fitting[0..size];
-            settled_answer(smallest_of(template, script, bookings, count, &names, e, pairs, grid))
+            settled_answer(smallest_of(
+                template,
+                script,
+                bookings,
+                count,
+                desk,
+                &names,
+                e,
+                pairs,
+                grid,
+            ))
         }
     }
 }
@@ -460,26 +497,33 @@ pub fn both_typings(
     template: &[u16],
     script: &[u16],
     bookings: &[u16],
+    desk: u16,
     small: &mut [u8],
     large: &mut [u8],
 ) -> BothAnswer
-    ensures { λ r. ⌜ BothSays (now (template .entry)) (now (script .entry)) (now (bookings .entry))
+    ensures { λ r. ⌜ BothSays (now (template .entry)) (now (script .entry)) (now (bookings .entry)) desk
         (record { small = now (small .entry); large = now (large .entry) })
         (record { small = now (small .exit); large = now (large .exit) }) (bothSaid r) ⌝ }
 {
     let mut names = [0u8; TABLE_SIZE];
-    let read = read_booked(template, script, bookings, &mut names);
+    let read = read_lent(template, script, bookings, desk, small, &mut names);
     match read {
         BookedRead::Refused(number, place) => BothAnswer::Refused(number, place),
         BookedRead::Sheet(e, count) => {
-            let size = grid_size(e);
-            if small.len() != size {
+            if large.len() != grid_size(e) {
                 return BothAnswer::Refused(40, 0);
             }
-            if large.len() != size {
-                return BothAnswer::Refused(40, 0);
-            }
-            both_answer(both_of(template, script, bookings, count, &names, e, small, large))
+            both_answer(both_of(
+                template,
+                script,
+                bookings,
+                count,
+                desk,
+                &names,
+                e,
+                small,
+                large,
+            ))
         }
     }
 }

@@ -1,4 +1,4 @@
-// Tidying a list of bookings that was stored before: the first booking of each pair stays.
+// Tidying a stored list of bookings: the first booking of each pair stays, as the radio desk's.
 ghost use Rattle.typing.specs.Answer.{tidySaid};
 ghost use Rattle.typing.specs.Tidy.{TidySays};
 use bookings::BookingRead;
@@ -8,6 +8,7 @@ use sheet::SheetRead;
 use sheet::read_sheet;
 use typing::TidyAnswer;
 use words::TABLE_SIZE;
+use words::wide;
 
 // Tidy: the number of words, and the list without its repeats at the buffer's start; or what is refused.
 pub fn tidy_bookings(
@@ -28,7 +29,7 @@ pub fn tidy_bookings(
             match list {
                 BookingRead::Refused(number, place) => TidyAnswer::Refused(number, place),
                 BookingRead::Listed(count) => {
-                    if out.len() != bookings.len() {
+                    if out.len() != 1 + 3 * wide(count) {
                         return TidyAnswer::Refused(40, 0);
                     }
                     TidyAnswer::Written(tidy(bookings, count, out))

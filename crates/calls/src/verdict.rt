@@ -8,8 +8,7 @@ ghost use Rattle.typing.specs.Judge.{JudgeFound, JudgeSays};
 ghost use Rattle.calls.specs.Steps.{SheetTested, Judging, JudgingLinked, JudgingTested};
 use crate::BookedRead;
 use crate::STARTS;
-use crate::grid_size;
-use crate::read_booked;
+use crate::read_lent;
 use crate::test_pairs;
 use board::first_over;
 use bookings::card_index;
@@ -26,7 +25,7 @@ use words::MAX_LINKS;
 use words::TABLE_SIZE;
 
 // The verdict on a grid of zeros and ones where the sheet's pairs are tested: its lowest pair that is not met under it,
-// then the first booking that it does not hold.
+// then the desk's first booking that it does not hold.
 fn judge_tested(
     script: &[u16],
     starts: &[u16; STARTS],
@@ -34,6 +33,7 @@ fn judge_tested(
     next: &[u16],
     bookings: &[u16],
     count: u16,
+    desk: u16,
     names: &[u8],
     e: Extent,
     fitting: &[u8],
@@ -42,7 +42,7 @@ fn judge_tested(
     requires { ⌜ JudgingTested (now script) (now names) e (now starts) (now first) (now next) (now fitting)
         (now bookings) count (now grid) ⌝ }
     ensures { λ r. ⌜ ((s : Sheet) → SheetTested s (now (script .entry)) (now (names .entry)) e (now (fitting .entry))
-        → JudgeFound s (now (bookings .entry)) (now (grid .entry)) (judgeSaid r)) ⌝ }
+        → JudgeFound s (now (bookings .entry)) desk (now (grid .entry)) (judgeSaid r)) ⌝ }
 {
     let shapes = e.shapes as usize;
     let p = first_unmet(
@@ -59,7 +59,7 @@ fn judge_tested(
     if p < grid.len() {
         return JudgeAnswer::NotMet(Card((p / shapes) as u16), Shape((p % shapes) as u16));
     }
-    let i = first_unheld(bookings, count, shapes, grid);
+    let i = first_unheld(bookings, count, desk, shapes, grid);
     if i < count as usize {
         return JudgeAnswer::Refused(63, card_index(i));
     }
@@ -75,6 +75,7 @@ fn judge_by(
     next: &[u16],
     bookings: &[u16],
     count: u16,
+    desk: u16,
     names: &[u8],
     e: Extent,
     grid: &[u8],
@@ -82,7 +83,7 @@ fn judge_by(
     requires { ⌜ JudgingLinked (now template) (now script) (now names) e (now first) (now next) (now bookings) count
         (now grid) ⌝ }
     ensures { λ r. ⌜ ((s : Sheet) → readSheet (now (template .entry)) (now (script .entry)) ≡ accepted s
-        → JudgeFound s (now (bookings .entry)) (now (grid .entry)) (judgeSaid r)) ⌝ }
+        → JudgeFound s (now (bookings .entry)) desk (now (grid .entry)) (judgeSaid r)) ⌝ }
 {
     let mut starts = [0u16; STARTS];
     let mut fitting = [0u8; MAX_GRID];
@@ -95,6 +96,7 @@ fn judge_by(
         next,
         bookings,
         count,
+        desk,
         names,
         e,
         pairs,
@@ -108,13 +110,14 @@ pub fn judge_of(
     script: &[u16],
     bookings: &[u16],
     count: u16,
+    desk: u16,
     names: &[u8],
     e: Extent,
     grid: &[u8],
 ) -> JudgeAnswer
     requires { ⌜ Judging (now template) (now script) (now names) e (now bookings) count (now grid) ⌝ }
     ensures { λ r. ⌜ ((s : Sheet) → readSheet (now (template .entry)) (now (script .entry)) ≡ accepted s
-        → JudgeFound s (now (bookings .entry)) (now (grid .entry)) (judgeSaid r)) ⌝ }
+        → JudgeFound s (now (bookings .entry)) desk (now (grid .entry)) (judgeSaid r)) ⌝ }
 {
     let over = first_over(grid);
     if over < grid.len() {
@@ -131,6 +134,7 @@ pub fn judge_of(
             &next,
             bookings,
             count,
+            desk,
             names,
             e,
             grid,
@@ -144,27 +148,31 @@ pub fn judge_of(
         none,
         bookings,
         count,
+        desk,
         names,
         e,
         grid,
     )
 }
 
-// Judge: accepted where the grid is a sound typing that holds the bookings; or 62 and the lowest pair of it that is not
-// met; or what else is refused.
-pub fn judge(template: &[u16], script: &[u16], bookings: &[u16], grid: &[u8]) -> JudgeAnswer
-    ensures { λ r. ⌜ JudgeSays (now (template .entry)) (now (script .entry)) (now (bookings .entry))
+// Judge: accepted where the grid is a sound typing that holds the desk's bookings; or 62 and the lowest pair of it that
+// is not met; or what else is refused.
+pub fn judge(
+    template: &[u16],
+    script: &[u16],
+    bookings: &[u16],
+    desk: u16,
+    grid: &[u8],
+) -> JudgeAnswer
+    ensures { λ r. ⌜ JudgeSays (now (template .entry)) (now (script .entry)) (now (bookings .entry)) desk
         (now (grid .entry)) (judgeSaid r) ⌝ }
 {
     let mut names = [0u8; TABLE_SIZE];
-    let read = read_booked(template, script, bookings, &mut names);
+    let read = read_lent(template, script, bookings, desk, grid, &mut names);
     match read {
         BookedRead::Refused(number, place) => JudgeAnswer::Refused(number, place),
         BookedRead::Sheet(e, count) => {
-            if grid.len() != grid_size(e) {
-                return JudgeAnswer::Refused(40, 0);
-            }
-            judge_of(template, script, bookings, count, &names, e, grid)
+            judge_of(template, script, bookings, count, desk, &names, e, grid)
         }
     }
 }

@@ -32,8 +32,13 @@ use Rattle.bookings.proofs.Reading.{StoredNumber, BookingNumber}
 use Rattle.typing.specs.Answer.{BothSaid}
 
 -- ---- the numbers of the readers are plain
+-- from 1 to 49
 low-plain : (n : ℕ) → 1 ≤ n → n < 50 → Plain n
 low-plain n a b = plain-number n (λ e. absurd (omega arith)) (λ e. absurd (omega arith)) (λ e. absurd (omega arith))
+
+-- over 62
+high-plain : (n : ℕ) → 62 < n → Plain n
+high-plain n a = plain-number n (λ e. absurd (omega arith)) (λ e. absurd (omega arith)) (λ e. absurd (omega arith))
 
 template-number : (n : ℕ) → TemplateNumber n → Plain n
 template-number n h =
@@ -51,7 +56,7 @@ stored-number : (n : ℕ) → StoredNumber n → Plain n
 stored-number n h = low-plain n (omega (arith, h .0)) (omega (arith, h .1))
 
 booking-number : (n : ℕ) → BookingNumber n → Plain n
-booking-number n h = ⊎-elim (stored-number n) (λ e. subst Plain (sym e) (refl, refl)) h
+booking-number n h = ⊎-elim (stored-number n) (λ b. high-plain n (omega (arith, b .0))) h
 
 smallest-number : (n : ℕ) → SmallestNumber n → Plain n
 smallest-number n h = ⊎-elim (largest-number n) (booking-number n) h
@@ -127,11 +132,11 @@ module _ (number place : ℕ) where
   smallest-by (turnedDown n p) Wanted before after h e = same-number n p (e .0) (smallest-number n h)
   smallest-by (accepted s) Wanted before after h e = outcome-none (e .outcome) (e .says)
 
-  pub smallest-plain : (template script bookings before after : List ℕ)
-      → SmallestSays template script bookings before after (refusal number (place ∷ [])) → Plain number
-  smallest-plain template script bookings before after e =
-      smallest-by (smallestReading template script bookings before) (Booked bookings) before after
-      (smallest-numbers template script bookings before) e
+  pub smallest-plain : (template script bookings : List ℕ) (desk : ℕ) (before after : List ℕ)
+      → SmallestSays template script bookings desk before after (refusal number (place ∷ [])) → Plain number
+  smallest-plain template script bookings desk before after e =
+      smallest-by (smallestReading template script bookings desk before) (Booked bookings desk) before after
+      (smallest-numbers template script bookings desk before) e
 
   both-by : (r : Reading Sheet) (Wanted : ℕ → ℕ → Type 0) (before after : Grids) → Numbered SmallestNumber r
       → BothAnswered r Wanted before after (twice number place) → Plain number
@@ -139,17 +144,17 @@ module _ (number place : ℕ) where
       same-number n p (ap (λ (x : BothSaid). x .largest) (e .0)) (smallest-number n h)
   both-by (accepted s) Wanted before after h e = outcome-none (e .smallest .outcome) (e .smallest .says)
 
-  pub both-plain : (template script bookings : List ℕ) (before after : Grids)
-      → BothSays template script bookings before after (twice number place) → Plain number
-  both-plain template script bookings before after e =
-      both-by (bothReading template script bookings before) (Booked bookings) before after
-      (both-numbers template script bookings before) e
+  pub both-plain : (template script bookings : List ℕ) (desk : ℕ) (before after : Grids)
+      → BothSays template script bookings desk before after (twice number place) → Plain number
+  both-plain template script bookings desk before after e =
+      both-by (bothReading template script bookings desk before) (Booked bookings desk) before after
+      (both-numbers template script bookings desk before) e
 
-  pub judge-plain : (template script bookings grid : List ℕ)
-      → JudgeSays template script bookings grid (refusal number (place ∷ [])) → Plain number
-  judge-plain template script bookings grid e = ⊎-elim
+  pub judge-plain : (template script bookings : List ℕ) (desk : ℕ) (grid : List ℕ)
+      → JudgeSays template script bookings desk grid (refusal number (place ∷ [])) → Plain number
+  judge-plain template script bookings desk grid e = ⊎-elim
       (judge-number number) (λ two. absurd (omega (arith, two .1)))
-      (judge-numbers template script bookings grid number (place ∷ []) e)
+      (judge-numbers template script bookings desk grid number (place ∷ []) e)
 
   tidy-by : (r : Reading Sheet) (bookings before after : List ℕ) → Numbered TidyNumber r
       → TidyAnswered r bookings before after (refusal number (place ∷ [])) → Plain number

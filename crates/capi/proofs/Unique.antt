@@ -115,28 +115,29 @@ module _ (template script : List ℕ) where
       (said (largestNumbers a)) (said (largestNumbers b)) x y in
       (ap largestOf (numbers-unique (largestNumbers a) (largestNumbers b) refl same p q), grids)
 
-  pub smallest-no-choice : (bookings before g h : List ℕ) (a b : PrepSmallest)
-      → Tells (SmallestSays template script bookings before g) (smallestNumbers a)
-      → Tells (SmallestSays template script bookings before h) (smallestNumbers b) → (a ≡ b) × (g ≡ h)
-  smallest-no-choice bookings before g h a b (x, p) (y, q) =
-      let (same, grids) = smallest-one-answer template script bookings before g h
+  pub smallest-no-choice : (bookings : List ℕ) (desk : ℕ) (before g h : List ℕ) (a b : PrepSmallest)
+      → Tells (SmallestSays template script bookings desk before g) (smallestNumbers a)
+      → Tells (SmallestSays template script bookings desk before h) (smallestNumbers b) → (a ≡ b) × (g ≡ h)
+  smallest-no-choice bookings desk before g h a b (x, p) (y, q) =
+      let (same, grids) = smallest-one-answer template script bookings desk before g h
       (said (smallestNumbers a)) (said (smallestNumbers b)) x y in
       (ap smallestOf (numbers-unique (smallestNumbers a) (smallestNumbers b) refl same p q), grids)
 
-  pub both-no-choice : (bookings : List ℕ) (before g h : Grids) (a b : PrepBoth)
-      → TellsBoth (BothSays template script bookings before g) a
-      → TellsBoth (BothSays template script bookings before h) b → (a ≡ b) × (g ≡ h)
-  both-no-choice bookings before g h a b (x, p, r) (y, q, s) =
-      let (same, grids) = both-one-answer template script bookings before g h _ _ x y in
+  pub both-no-choice : (bookings : List ℕ) (desk : ℕ) (before g h : Grids) (a b : PrepBoth)
+      → TellsBoth (BothSays template script bookings desk before g) a
+      → TellsBoth (BothSays template script bookings desk before h) b → (a ≡ b) × (g ≡ h)
+  both-no-choice bookings desk before g h a b (x, p, r) (y, q, s) =
+      let (same, grids) = both-one-answer template script bookings desk before g h _ _ x y in
       let large = numbers-unique (largePart a) (largePart b) refl (ap (λ (z : BothSaid). z .largest) same) p q in
       let small = numbers-unique (smallPart a) (smallPart b) refl (ap (λ (z : BothSaid). z .smallest) same) r s in
       (ap₂ bothOf large small, grids)
 
-  pub judge-no-choice : (bookings grid : List ℕ) (a b : PrepJudge)
-      → Tells (JudgeSays template script bookings grid) (judgeNumbers a)
-      → Tells (JudgeSays template script bookings grid) (judgeNumbers b) → a ≡ b
-  judge-no-choice bookings grid a b (x, p) (y, q) =
-      let same = judge-one-answer template script bookings grid (said (judgeNumbers a)) (said (judgeNumbers b)) x y in
+  pub judge-no-choice : (bookings : List ℕ) (desk : ℕ) (grid : List ℕ) (a b : PrepJudge)
+      → Tells (JudgeSays template script bookings desk grid) (judgeNumbers a)
+      → Tells (JudgeSays template script bookings desk grid) (judgeNumbers b) → a ≡ b
+  judge-no-choice bookings desk grid a b (x, p) (y, q) =
+      let same = judge-one-answer template script bookings desk grid
+      (said (judgeNumbers a)) (said (judgeNumbers b)) x y in
       ap judgeOf (numbers-unique (judgeNumbers a) (judgeNumbers b) refl same p q)
 
   pub tidy-no-choice : (bookings before g h : List ℕ) (a b : PrepTidy)

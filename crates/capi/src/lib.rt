@@ -232,18 +232,19 @@ pub extern "C" fn prep_largest(template: &[u16], script: &[u16], grid: &mut [u8]
     }
 }
 
-// Smallest.
+// Smallest, of the desk's bookings.
 #[no_mangle]
 pub extern "C" fn prep_smallest(
     template: &[u16],
     script: &[u16],
     bookings: &[u16],
+    desk: u16,
     grid: &mut [u8],
 ) -> PrepSmallest
-    ensures { λ r. ⌜ Tells (SmallestSays (now (template .entry)) (now (script .entry)) (now (bookings .entry))
+    ensures { λ r. ⌜ Tells (SmallestSays (now (template .entry)) (now (script .entry)) (now (bookings .entry)) desk
         (now (grid .entry)) (now (grid .exit))) (smallestNumbers r) ⌝ }
 {
-    let answer = smallest(template, script, bookings, grid);
+    let answer = smallest(template, script, bookings, desk, grid);
     match answer {
         SmallestAnswer::Pairs(pairs) => PrepSmallest {
             number: 0,
@@ -269,20 +270,21 @@ pub extern "C" fn prep_smallest(
     }
 }
 
-// Both typings.
+// Both typings, the smallest of the desk's bookings.
 #[no_mangle]
 pub extern "C" fn prep_both_typings(
     template: &[u16],
     script: &[u16],
     bookings: &[u16],
+    desk: u16,
     small: &mut [u8],
     large: &mut [u8],
 ) -> PrepBoth
-    ensures { λ r. ⌜ TellsBoth (BothSays (now (template .entry)) (now (script .entry)) (now (bookings .entry))
+    ensures { λ r. ⌜ TellsBoth (BothSays (now (template .entry)) (now (script .entry)) (now (bookings .entry)) desk
         (record { small = now (small .entry); large = now (large .entry) })
         (record { small = now (small .exit); large = now (large .exit) })) r ⌝ }
 {
-    let answer = both_typings(template, script, bookings, small, large);
+    let answer = both_typings(template, script, bookings, desk, small, large);
     match answer {
         BothAnswer::Typed(rounds, struck, bare, pairs) => PrepBoth {
             number: 0,
@@ -317,18 +319,19 @@ pub extern "C" fn prep_both_typings(
     }
 }
 
-// Judge a grid.
+// Judge a grid, by the desk's bookings.
 #[no_mangle]
 pub extern "C" fn prep_judge(
     template: &[u16],
     script: &[u16],
     bookings: &[u16],
+    desk: u16,
     grid: &[u8],
 ) -> PrepJudge
-    ensures { λ r. ⌜ Tells (JudgeSays (now (template .entry)) (now (script .entry)) (now (bookings .entry))
+    ensures { λ r. ⌜ Tells (JudgeSays (now (template .entry)) (now (script .entry)) (now (bookings .entry)) desk
         (now (grid .entry))) (judgeNumbers r) ⌝ }
 {
-    let answer = judge(template, script, bookings, grid);
+    let answer = judge(template, script, bookings, desk, grid);
     match answer {
         JudgeAnswer::Accepted => PrepJudge {
             number: 0,

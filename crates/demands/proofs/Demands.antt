@@ -3,8 +3,9 @@
 --   second-demand   counts and sound typings are the paper's
 --   third-demand    the smallest and the largest typing
 --   judge-demand    grids of other makers (of lists that are tidied: Tidying)
+--   apart-demand    what one desk books changes nothing for the other
 -- Assumes nothing.
-use Prim.Native.Nat.{ℕ}
+use Prim.Native.Nat.{ℕ, _≤_}
 use mathlib.Core.Path.{_≡_, refl, sym, ap, _∙_, subst}
 use mathlib.Core.Logic.{_⊎_, inl, inr, ⊎-elim, _↔_}
 use mathlib.Core.List.{List, [], _∷_}
@@ -34,28 +35,30 @@ use Rattle.input.proofs.RoundTrip.{inputs-are}
 use Rattle.typing.specs.Typing.{Pairs, Has, Met, Holds, Typing, SoundTyping}
 use Rattle.typing.specs.Smallest.{IsClosure}
 use Rattle.typing.specs.Demand3.{Outcome, pairs, notMet, Refused, Demand3}
-use Rattle.typing.specs.Answer.{BothSaid}
+use Rattle.typing.specs.Answer.{BothSaid, DesksSaid}
 use Rattle.typing.specs.Calls.{largestReading, smallestReading, bothReading, outcomeSaid, BothAnswered, BothFound}
 use Rattle.typing.specs.Calls.{LargestFound, LargestSays, SmallestFound, SmallestSays}
 use Rattle.typing.specs.Judge.{Verdict, over, unmet, unheld, passes, verdictSaid, Passes, JudgeFound, JudgeSays}
+use Rattle.typing.specs.Desks.{desksReading, DesksFound, DesksAnswered}
 use Rattle.typing.specs.Tidy.{tidyReading, TidyFound}
-use Rattle.typing.proofs.Numbers.{largest-numbers, smallest-numbers, both-numbers, tidy-numbers}
+use Rattle.typing.proofs.Numbers.{largest-numbers, smallest-numbers, both-numbers, desks-numbers, tidy-numbers}
 use Rattle.typing.proofs.Numbers.{JudgeRefusal, judge-numbers}
 use Rattle.typing.proofs.Represents.{Represents}
 use Rattle.typing.proofs.Largest.{largest-over, largest-bound, largest-unique, some-largest, bare-alike}
 use Rattle.typing.proofs.Existence.{represented}
 use Rattle.typing.proofs.Apart.{apart}
+use Rattle.typing.proofs.DesksApart.{desks-apart, desks-apart-both, desks-apart-set, desks-apart-both-set}
 use Rattle.typing.proofs.Judging.{judge-exact, judge-takes-smallest, judge-takes-largest, judge-between, judge-some}
 use Rattle.demands.specs.Demands.{TemplateListed, ScriptListed, FitListed, LargestListed, SmallestListed}
 use Rattle.demands.specs.Demands.{FromTo, TidyListed, JudgeListed, PrinterListed, FirstDemand, Formed}
 use Rattle.demands.specs.Demands.{Neighbourhood, RuleTwo, SecondDemand}
 use Rattle.demands.specs.Demands.{TurnedDown, LargestTyping, TwoTypings, ThirdDemand, BookingsFormed}
-use Rattle.demands.specs.Demands.{JudgedGrids, JudgeDemand}
+use Rattle.demands.specs.Demands.{JudgedGrids, JudgeDemand, ApartDemand}
 use Rattle.demands.proofs.Formed.{formed-sheet, sheets-are, bookings-are, largest-taken, smallest-taken}
-use Rattle.demands.proofs.Formed.{both-taken, stored-are, tidy-taken}
+use Rattle.demands.proofs.Formed.{listed-taken, both-taken, desks-taken, stored-are, tidy-taken}
 use Rattle.demands.proofs.Counts.{counts-fit-exactly, card-fits-exactly}
 use Rattle.demands.proofs.Listed.{no-values, said-listed, fit-refused, largest-refused, smallest-refused}
-use Rattle.demands.proofs.Listed.{both-refused, tidy-refused, script-numbered}
+use Rattle.demands.proofs.Listed.{both-refused, desks-refused, tidy-refused, script-numbered}
 
 -- ---- the first demand
 -- An outcome is a number of pairs, or the bookings are turned down.
@@ -89,17 +92,25 @@ first-demand = record {
   largest-takes = largest-taken;
   smallest-takes = smallest-taken;
   both-takes = both-taken;
+  desks-takes = desks-taken;
   tidy-takes = tidy-taken;
   input-exact = inputs-are;
   largest-first = λ template script before after said number at e x. rw e at x;
-  smallest-first = λ template script bookings before after said number at e x. rw e at x;
-  both-first = λ template script bookings before after said number at e x.
-      let y : BothAnswered (turnedDown number at) (Booked bookings) before after said = rw e at x in (
+  smallest-first = λ template script bookings desk before after said number at e x. rw e at x;
+  both-first = λ template script bookings desk before after said number at e x.
+      let y : BothAnswered (turnedDown number at) (Booked bookings desk) before after said = rw e at x in (
         ap (λ (z : BothSaid). z .largest) (y .0),
         ap (λ (z : BothSaid). z .smallest) (y .0),
         y .1,
       );
-  judge-first = λ template script bookings grid said number at e x. rw e at x;
+  desks-first = λ template script bookings before after said number at e x.
+      let y : DesksAnswered (turnedDown number at) bookings before after said = rw e at x in (
+        ap (λ (z : DesksSaid). z .largest) (y .0),
+        ap (λ (z : DesksSaid). z .radio) (y .0),
+        ap (λ (z : DesksSaid). z .television) (y .0),
+        y .1,
+      );
+  judge-first = λ template script bookings desk grid said number at e x. rw e at x;
   tidy-first = λ template script bookings before after said number at e x. rw e at x;
   fit-first = λ template shape counts said number at e x. rw e at x;
   template-first = λ template number at e. ap (saidOf templateValues) e;
@@ -113,24 +124,30 @@ first-demand = record {
   largest-listed = λ template script before after number at.
       largest-refused LargestListed (largestReading template script before) (largest-numbers template script before)
       before after number at;
-  smallest-listed = λ template script bookings before after number at.
-      smallest-refused SmallestListed (smallestReading template script bookings before)
-      (smallest-numbers template script bookings before) (Booked bookings) before after
-      (λ s e. smallest-taken template script bookings before s .0 e .2) number at;
-  both-listed = λ template script bookings before after said x number at.
-      both-refused SmallestListed (bothReading template script bookings before)
-      (both-numbers template script bookings before)
-      (Booked bookings) before after (λ s e. both-taken template script bookings before s .0 e .2) said x number at;
+  smallest-listed = λ template script bookings desk before after number at.
+      smallest-refused SmallestListed (smallestReading template script bookings desk before)
+      (smallest-numbers template script bookings desk before) (Booked bookings desk) before after
+      (λ s e. smallest-taken template script bookings desk before s .0 e .3) number at;
+  both-listed = λ template script bookings desk before after said x number at.
+      both-refused SmallestListed (bothReading template script bookings desk before)
+      (both-numbers template script bookings desk before)
+      (Booked bookings desk) before after (λ s e. both-taken template script bookings desk before s .0 e .3) said x
+      number at;
+  desks-listed = λ template script bookings before after said x number at.
+      desks-refused SmallestListed (desksReading template script bookings before)
+      (desks-numbers template script bookings before) bookings before after
+      (λ s e. let (f, l, radio, television, large) = desks-taken template script bookings before s .0 e in
+      (radio, television)) said x number at;
   largest-accepts = λ template script before after said s f full x.
       let found : LargestFound s after said = rw (largest-taken template script before s .1 (f, full)) at x in
       (found .rounds, found .struck, found .bare, found .says);
-  smallest-accepts = λ template script bookings before after said s f b full x.
-      let found : SmallestFound s (Booked bookings) after said =
-      rw (smallest-taken template script bookings before s .1 (f, b, full)) at x in
+  smallest-accepts = λ template script bookings desk before after said s f b ours full x.
+      let found : SmallestFound s (Booked bookings desk) after said =
+      rw (smallest-taken template script bookings desk before s .1 (f, b, ours, full)) at x in
       pairs-or-down said (found .outcome) (found .says);
-  judge-accepts = λ template script bookings grid said s f b full x.
-      let found : JudgeFound s bookings grid said =
-      rw (smallest-taken template script bookings grid s .1 (f, b, full)) at x in
+  judge-accepts = λ template script bookings desk grid said s f b ours full x.
+      let found : JudgeFound s bookings desk grid said =
+      rw (smallest-taken template script bookings desk grid s .1 (f, b, ours, full)) at x in
       accepted-or-faulty said (found .verdict) (found .says);
   tidy-accepts = λ template script bookings before after said s f b long x.
       let found : TidyFound bookings before after said =
@@ -139,8 +156,8 @@ first-demand = record {
   tidy-listed = λ template script bookings before after number at.
       tidy-refused TidyListed (tidyReading template script bookings before)
       (tidy-numbers template script bookings before) bookings before after number at;
-  judge-listed = λ template script bookings grid number at x.
-      judge-number number at (judge-numbers template script bookings grid number at x);
+  judge-listed = λ template script bookings desk grid number at x.
+      judge-number number at (judge-numbers template script bookings desk grid number at x);
   printer-listed = λ bytes number at e.
       numbered-turned PrinterListed (readInput bytes) number at (input-numbers bytes) e;
 }
@@ -210,9 +227,9 @@ largest-typing {s} {B} rep large said x = record {
 }
 
 -- The answers of both calls.
-two-typings : (s : Sheet) (bookings large small : List ℕ) (said : BothSaid)
-    → BothFound s (Booked bookings) small large said → TwoTypings s bookings large small (said .smallest)
-two-typings s bookings large small said x =
+two-typings : (s : Sheet) (bookings : List ℕ) (desk : ℕ) (large small : List ℕ) (said : BothSaid)
+    → BothFound s (Booked bookings desk) small large said → TwoTypings s bookings desk large small (said .smallest)
+two-typings s bookings desk large small said x =
     let d = x .demand in
     let o = x .smallest .outcome in
     let e = x .smallest .says in
@@ -226,8 +243,8 @@ two-typings s bookings large small said x =
       small-sound = λ never. d .small-sound (taken never);
       large-sound = λ never. d .large-sound (taken never);
       between = λ never. d .between (taken never);
-      pairs = pairs-are s (Booked bookings) large small (x .largest .rounds) (x .largest .struck) (x .largest .bare)
-          (said .smallest) o e d;
+      pairs = pairs-are s (Booked bookings desk) large small (x .largest .rounds) (x .largest .struck)
+          (x .largest .bare) (said .smallest) o e d;
     }
 
 -- A board stands for each well-formed sheet.
@@ -239,67 +256,76 @@ third-demand = record {
   largest = λ template script s f before full large said x.
       let found : LargestFound s large said = rw (largest-taken template script before s .1 (f, full)) at x in
       largest-typing (formed-board template script s f .1) large said found;
-  smallest = λ template script bookings s f b large-before small-before fl fs large small of-large of-small x y.
-      two-typings s bookings large small (record { largest = of-large; smallest = of-small })
-      (apart template script bookings large-before small-before s
+  smallest = λ template script bookings desk s f b ours large-before small-before fl fs large small of-large of-small
+      x y.
+      two-typings s bookings desk large small (record { largest = of-large; smallest = of-small })
+      (apart template script bookings desk large-before small-before s
       (largest-taken template script large-before s .1 (f, fl))
-      (smallest-taken template script bookings small-before s .1 (f, b, fs)) large small of-large of-small x y);
-  both = λ template script bookings s f b before after fl fs said x.
-      let taken = both-taken template script bookings before s .1 (f, b, fs, fl) in
-      let found : BothFound s (Booked bookings) (after .small) (after .large) said = rw taken at x in (
+      (smallest-taken template script bookings desk small-before s .1 (f, b, ours, fs)) large small of-large of-small
+      x y);
+  both = λ template script bookings desk s f b ours before after fl fs said x.
+      let taken = both-taken template script bookings desk before s .1 (f, b, ours, fs, fl) in
+      let found : BothFound s (Booked bookings desk) (after .small) (after .large) said = rw taken at x in (
         largest-typing (formed-board template script s f .1) (after .large) (said .largest) (found .largest),
-        two-typings s bookings (after .large) (after .small) said found,
+        two-typings s bookings desk (after .large) (after .small) said found,
+      );
+  desks = λ template script bookings s f b before after fr ft fl said x.
+      let taken = desks-taken template script bookings before s .1 (f, b, fr, ft, fl) in
+      let found : DesksFound s bookings after said = rw taken at x in (
+        largest-typing (formed-board template script s f .1) (after .large) (said .largest) (found .radio .largest),
+        two-typings s bookings 0 (after .large) (after .radio) _ (found .radio),
+        two-typings s bookings 1 (after .large) (after .television) _ (found .television),
       );
 }
 
 -- ---- grids of other makers
-module _ (template script bookings : List ℕ) (s : Sheet) (f : Formed template script s)
-    (b : BookingsFormed (s .cards) (s .shapes) bookings) where
+module _ (template script bookings : List ℕ) (desk : ℕ) (s : Sheet) (f : Formed template script s)
+    (b : BookingsFormed (s .cards) (s .shapes) bookings) (ours : desk ≤ 1) where
   -- the judge and the call for the smallest take each grid of the right size
-  takes : (grid : List ℕ) → length grid ≡ size s → smallestReading template script bookings grid ≡ accepted s
-  takes grid full = smallest-taken template script bookings grid s .1 (f, b, full)
+  takes : (grid : List ℕ) → length grid ≡ size s → smallestReading template script bookings desk grid ≡ accepted s
+  takes grid full = smallest-taken template script bookings desk grid s .1 (f, b, ours, full)
 
-  exactly : (grid : List ℕ) → length grid ≡ size s → (said : Said) → JudgeSays template script bookings grid said
-      → (said ≡ values []) ↔ (SoundTyping s grid × Holds s (Booked bookings) (on grid))
+  exactly : (grid : List ℕ) → length grid ≡ size s → (said : Said) → JudgeSays template script bookings desk grid said
+      → (said ≡ values []) ↔ (SoundTyping s grid × Holds s (Booked bookings desk) (on grid))
   exactly grid full said x =
-      let exact = judge-exact template script bookings grid said x in (
+      let exact = judge-exact template script bookings desk grid said x in (
         λ e.
             let (q, asked, p) = exact .0 e in
             let same : q ≡ s = accepted-same (sym asked ∙ takes grid full) in
-            let w = subst (λ (z : Sheet). Passes z (Booked bookings) grid) same p in
+            let w = subst (λ (z : Sheet). Passes z (Booked bookings desk) grid) same p in
             (w .sound, w .holds),
         λ (w, holds). exact .1 (s, takes grid full, record { sound = w; holds = holds }),
       )
 
   -- bookings that are not turned down have a number of pairs
   pairs-said : (before small : List ℕ) (said : Said) → length before ≡ size s
-      → SmallestSays template script bookings before small said → (TurnedDown said → ⊥)
+      → SmallestSays template script bookings desk before small said → (TurnedDown said → ⊥)
       → (m : ℕ) × (said ≡ values (m ∷ []))
   pairs-said before small said full x taken =
-      let found : SmallestFound s (Booked bookings) small said = rw (takes before full) at x in
+      let found : SmallestFound s (Booked bookings desk) small said = rw (takes before full) at x in
       ⊎-elim (λ h. h) (λ d. absurd (taken d)) (pairs-or-down said (found .outcome) (found .says))
 
-  judged : JudgedGrids template script bookings s
+  judged : JudgedGrids template script bookings desk s
   judged = record {
     exact = exactly;
     takes-ours = λ large-before small-before large small of-large of-small fl fs x y taken said.
         let (m, e) = pairs-said small-before small of-small fs y taken in
-        let y′ : SmallestSays template script bookings small-before small (values (m ∷ [])) = rw e at y in
+        let y′ : SmallestSays template script bookings desk small-before small (values (m ∷ [])) = rw e at y in
         let found : LargestFound s large of-large = rw (largest-taken template script large-before s .1 (f, fl)) at x in
         let x′ = subst (λ (a : Said). LargestSays template script large-before large a) (found .says) x in (
-          judge-takes-smallest template script bookings small-before small m y′ said,
-          judge-takes-largest template script bookings small-before small m y′ large-before large (found .rounds)
+          judge-takes-smallest template script bookings desk small-before small m y′ said,
+          judge-takes-largest template script bookings desk small-before small m y′ large-before large (found .rounds)
               (found .struck) (found .bare) x′ said,
         );
     between = λ large-before small-before large small of-large of-small fl fs x y grid z.
-        let (q, asked, p) = judge-exact template script bookings grid (values []) z .0 refl in
-        let (g, c, full) = smallest-taken template script bookings grid q .0 asked in
+        let (q, asked, p) = judge-exact template script bookings desk grid (values []) z .0 refl in
+        let (g, c, own, full) = smallest-taken template script bookings desk grid q .0 asked in
         let same : q ≡ s = accepted-same (sym (formed-sheet template script q g) ∙ formed-sheet template script s f) in
         let sized : length grid ≡ size s = full ∙ ap size same in
-        judge-between template script bookings grid z small-before large-before small large of-small of-large
+        judge-between template script bookings desk grid z small-before large-before small large of-small of-large
         (fs ∙ sym sized) (fl ∙ sym sized) y x s (formed-sheet template script s f);
     some = λ before small said full x.
-        let some = judge-some template script bookings before small said s (takes before full) x in (
+        let some = judge-some template script bookings desk before small said s (takes before full) x in (
           λ g (n, t, e). some .0 g n t e,
           λ taken. some .1 (λ n t e. taken (n, t, e)),
         );
@@ -307,3 +333,18 @@ module _ (template script bookings : List ℕ) (s : Sheet) (f : Formed template 
 
 pub judge-demand : JudgeDemand
 judge-demand = judged
+
+-- ---- two desks
+pub apart-demand : ApartDemand
+apart-demand template script s f desk ours one other formed same-formed =
+    let one-taken = listed-taken template script one s .1 (f, formed) in
+    let other-taken = listed-taken template script other s .1 (f, same-formed) in (
+      λ words. record {
+        smallest = desks-apart template script desk ours one other s one-taken other-taken words;
+        both = desks-apart-both template script desk ours one other s one-taken other-taken words;
+      },
+      λ same. record {
+        smallest = desks-apart-set template script desk ours one other s one-taken other-taken same;
+        both = desks-apart-both-set template script desk ours one other s one-taken other-taken same;
+      },
+    )

@@ -1,13 +1,13 @@
 -- What is well-formed is just what is read (docs/FORMAT.md, "Templates", "Scripts", "Bookings").
---   sheets-are     a template and a script; stored-are, bookings-are: a list of bookings, with and without repeats
+--   sheets-are     a template and a script; stored-are, bookings-are: a stored list, and one of both desks
 --   formed-template, formed-sheet, formed-read   what reading such words finds
---   largest-taken, smallest-taken, both-taken   what the calls take: these, and grids with a byte for each pair
---   tidy-taken     what the tidying pass takes: these, and a buffer of the list's length
+--   largest-taken, listed-taken, smallest-taken, both-taken, desks-taken   what the calls take: these, one of the two
+--                  desks, and grids with a byte for each pair
+--   tidy-taken     what the tidying pass takes: these, and a buffer with a word and three for each booking
 -- Assumes nothing.
-use Prim.Native.Nat.{ℕ}
+use Prim.Native.Nat.{ℕ, _+_, _*_, _≤_}
 use mathlib.Core.Path.{_≡_, refl, sym, ap, ap₂, _∙_, subst}
 use mathlib.Core.Logic.{_↔_}
-use mathlib.Core.Bool.{Bool, true, false}
 use mathlib.Core.List.{List}
 use lib.ListN.{length, getD}
 use Rattle.words.specs.Reading.{Reading, accepted, then, mapped}
@@ -20,13 +20,16 @@ use Rattle.script.proofs.RoundTrip.{scripts-are}
 use Rattle.sheet.specs.Sheet.{Sheet, size, sheetOf, readSheet}
 use Rattle.sheet.specs.Opened.{templateAs}
 use Rattle.sheet.proofs.Accepted.{SheetAccepted, mapped-accepted, sheet-asked, sheet-made}
-use Rattle.bookings.specs.Bookings.{readList, readBookings, readStored}
-use Rattle.bookings.proofs.Repeats.{repeated-exact}
-use Rattle.bookings.proofs.Accepted.{list-exact, listed-exact}
-use Rattle.typing.specs.Calls.{withList, withBookings, withStored, withGrid, largestReading, smallestReading}
-use Rattle.typing.specs.Calls.{Grids, bothReading}
+use Rattle.bookings.specs.Bookings.{Booking, bookingAt, readBookings}
+use Rattle.bookings.specs.Stored.{readStored}
+use Rattle.bookings.proofs.Repeats.{booking-same, repeated-exact}
+use Rattle.bookings.proofs.Accepted.{listed-exact}
+use Rattle.bookings.proofs.StoredLists.{stored-exact}
+use Rattle.typing.specs.Calls.{withList, withStored, withGrid, listedReading, bookedReading, largestReading}
+use Rattle.typing.specs.Calls.{smallestReading, Grids, bothReading}
+use Rattle.typing.specs.Desks.{DeskGrids, desksReading}
 use Rattle.typing.specs.Tidy.{tidyReading}
-use Rattle.typing.proofs.Booked.{grid-asked, grid-taken, buffer-asked, buffer-taken}
+use Rattle.typing.proofs.Booked.{grid-asked, grid-taken, desk-asked, desk-taken, buffer-asked, buffer-taken}
 use Rattle.demands.specs.Demands.{Formed, StoredFormed, BookingsFormed}
 
 module _ (words list : List ℕ) (s : Sheet) where
@@ -80,40 +83,55 @@ module _ (words list : List ℕ) (s : Sheet) where
   sheets-are = (sheet-formed, formed-sheet)
 
 module _ (cards shapes : ℕ) (list : List ℕ) where
-  stored-formed : (n : ℕ) → readStored cards shapes list ≡ accepted n → StoredFormed cards shapes list
-  stored-formed n e =
-      let fine = list-exact false cards shapes list n .0 e .0 in
-      record { few = fine .few; size = fine .size; card-in = fine .card-in; shape-in = fine .shape-in }
-
-  formed-stored : StoredFormed cards shapes list → readStored cards shapes list ≡ accepted (getD list 0 0)
-  formed-stored f = list-exact false cards shapes list (getD list 0 0) .1 (
-    record {
-      few = f .few;
-      size = f .size;
-      card-in = f .card-in;
-      shape-in = f .shape-in;
-      new = λ i l. refl;
-    },
-    refl,
-  )
-
   pub stored-are : ((n : ℕ) × (readStored cards shapes list ≡ accepted n)) ↔ StoredFormed cards shapes list
-  stored-are = (λ h. stored-formed (h .0) (h .1), λ f. (getD list 0 0, formed-stored f))
+  stored-are = (
+    λ (n, e).
+        let fine = stored-exact cards shapes list n .0 e .0 in
+        record {
+          few = fine .sized .few;
+          size = fine .sized .size;
+          card-in = fine .card-in;
+          shape-in = fine .shape-in;
+        },
+    λ f. (
+      getD list 0 0,
+      stored-exact cards shapes list (getD list 0 0) .1 (
+        record {
+          sized = record { few = f .few; size = f .size };
+          card-in = f .card-in;
+          shape-in = f .shape-in;
+        },
+        refl,
+      ),
+    ),
+  )
 
   bookings-formed : (n : ℕ) → readBookings cards shapes list ≡ accepted n → BookingsFormed cards shapes list
   bookings-formed n e =
-      let (stored, new) = listed-exact cards shapes list n .0 e in
+      let fine = listed-exact cards shapes list n .0 e .0 in
       record {
-        stored = stored-formed n stored;
-        once = λ j i l li card shape. never-both (repeated-exact list i .1 (j, l, (card, shape))) (new i li);
+        few = fine .sized .few;
+        size = fine .sized .size;
+        desk-in = fine .desk-in;
+        card-in = fine .card-in;
+        shape-in = fine .shape-in;
+        once = λ j i l li desk card shape. never-both
+            (repeated-exact (bookingAt list) i .1 (j, l, booking-same desk card shape)) (fine .once i li);
       }
 
   formed-bookings : BookingsFormed cards shapes list → readBookings cards shapes list ≡ accepted (getD list 0 0)
   formed-bookings f = listed-exact cards shapes list (getD list 0 0) .1 (
-    formed-stored (f .stored),
-    λ i li. is-false (λ e.
-        let (j, l, (card, shape)) = repeated-exact list i .0 e in
-        f .once j i l li card shape),
+    record {
+      sized = record { few = f .few; size = f .size };
+      desk-in = f .desk-in;
+      card-in = f .card-in;
+      shape-in = f .shape-in;
+      once = λ i li. is-false (λ e.
+          let (j, l, same) = repeated-exact (bookingAt list) i .0 e in
+          f .once j i l li (ap (λ (b : Booking). b .desk) same) (ap (λ (b : Booking). b .card) same)
+          (ap (λ (b : Booking). b .shape) same));
+    },
+    refl,
   )
 
   pub bookings-are : ((n : ℕ) × (readBookings cards shapes list ≡ accepted n)) ↔ BookingsFormed cards shapes list
@@ -124,15 +142,15 @@ grid-takes : (grid : List ℕ) (r : Reading Sheet) (s : Sheet)
     → (then r (withGrid grid) ≡ accepted s) ↔ ((r ≡ accepted s) × (length grid ≡ size s))
 grid-takes grid r s = (grid-asked grid r s, λ h. grid-taken grid r s (h .0) (h .1))
 
--- a list by either rule, from which lists that takes
-listed-takes : (strict : Bool) (ListFormed : ℕ → ℕ → Type 0) (words list booked : List ℕ)
-    → ((cards shapes : ℕ) → ((n : ℕ) × (readList strict cards shapes booked ≡ accepted n)) ↔ ListFormed cards shapes)
-    → (s : Sheet) → (then (readSheet words list) (withList strict booked) ≡ accepted s)
+-- a list by a reading of it, from which lists that takes
+list-takes : (reading : ℕ → ℕ → Reading ℕ) (ListFormed : ℕ → ℕ → Type 0) (words list : List ℕ)
+    → ((cards shapes : ℕ) → ((n : ℕ) × (reading cards shapes ≡ accepted n)) ↔ ListFormed cards shapes)
+    → (s : Sheet) → (then (readSheet words list) (withList reading) ≡ accepted s)
     ↔ (Formed words list s × ListFormed (s .cards) (s .shapes))
-listed-takes strict ListFormed words list booked are s = (
+list-takes reading ListFormed words list are s = (
   λ e.
-      let (q, read, rest) = then-accepted (readSheet words list) (withList strict booked) s e in
-      let (n, listed, same) = mapped-accepted (λ n. q) (readList strict (q .cards) (q .shapes) booked) s rest in
+      let (q, read, rest) = then-accepted (readSheet words list) (withList reading) s e in
+      let (n, listed, same) = mapped-accepted (λ n. q) (reading (q .cards) (q .shapes)) s rest in
       subst (λ (x : Sheet). Formed words list x × ListFormed (x .cards) (x .shapes)) same
       (sheet-formed words list q read, are (q .cards) (q .shapes) .0 (n, listed)),
   λ h.
@@ -149,35 +167,69 @@ module _ (words list : List ℕ) where
         λ h. g .1 (formed-sheet words list s (h .0), h .1),
       )
 
-  pub smallest-taken : (booked grid : List ℕ) (s : Sheet) → (smallestReading words list booked grid ≡ accepted s)
-      ↔ (Formed words list s × BookingsFormed (s .cards) (s .shapes) booked × (length grid ≡ size s))
-  smallest-taken booked grid s =
-      let g = grid-takes grid (then (readSheet words list) (withBookings booked)) s in
-      let b = listed-takes true (λ cards shapes. BookingsFormed cards shapes booked) words list booked
-      (λ cards shapes. bookings-are cards shapes booked) s in (
-        λ e. let (f, l) = b .0 (g .0 e .0) in (f, l, g .0 e .1),
-        λ h. g .1 (b .1 (h .0, h .1), h .2),
-      )
+  module _ (booked : List ℕ) where
+    pub listed-taken : (s : Sheet) → (listedReading words list booked ≡ accepted s)
+        ↔ (Formed words list s × BookingsFormed (s .cards) (s .shapes) booked)
+    listed-taken =
+        list-takes (λ cards shapes. readBookings cards shapes booked)
+        (λ cards shapes. BookingsFormed cards shapes booked) words list
+        (λ cards shapes. bookings-are cards shapes booked)
 
-  pub both-taken : (booked : List ℕ) (grids : Grids) (s : Sheet) → (bothReading words list booked grids ≡ accepted s)
-      ↔ (Formed words list s × BookingsFormed (s .cards) (s .shapes) booked
-      × (length (grids .small) ≡ size s) × (length (grids .large) ≡ size s))
-  both-taken booked grids s =
-      let g = grid-takes (grids .large) (smallestReading words list booked (grids .small)) s in
-      let b = smallest-taken booked (grids .small) s in (
-        λ e. let (f, l, m) = b .0 (g .0 e .0) in (f, l, m, g .0 e .1),
-        λ h. g .1 (b .1 (h .0, h .1, h .2), h .3),
-      )
+    pub smallest-taken : (desk : ℕ) (grid : List ℕ) (s : Sheet)
+        → (smallestReading words list booked desk grid ≡ accepted s)
+        ↔ (Formed words list s × BookingsFormed (s .cards) (s .shapes) booked × (desk ≤ 1) × (length grid ≡ size s))
+    smallest-taken desk grid s =
+        let listed = listedReading words list booked in
+        let g = grid-takes grid (bookedReading words list booked desk) s in (
+          λ e.
+              let (read, full) = g .0 e in
+              let (taken, ours) = desk-asked desk listed s read in
+              let (f, l) = listed-taken s .0 taken in
+              (f, l, ours, full),
+          λ (f, l, ours, full). g .1 (desk-taken desk listed s (listed-taken s .1 (f, l)) ours, full),
+        )
 
-  pub tidy-taken : (booked out : List ℕ) (s : Sheet) → (tidyReading words list booked out ≡ accepted s)
-      ↔ (Formed words list s × StoredFormed (s .cards) (s .shapes) booked × (length out ≡ length booked))
-  tidy-taken booked out s =
-      let listed = then (readSheet words list) (withStored booked) in
-      let b = listed-takes false (λ cards shapes. StoredFormed cards shapes booked) words list booked
-      (λ cards shapes. stored-are cards shapes booked) s in (
-        λ e.
-            let (read, long) = buffer-asked booked out listed s e in
-            let (f, l) = b .0 read in
-            (f, l, long),
-        λ h. buffer-taken booked out listed s (b .1 (h .0, h .1)) (h .2),
-      )
+    pub both-taken : (desk : ℕ) (grids : Grids) (s : Sheet) → (bothReading words list booked desk grids ≡ accepted s)
+        ↔ (Formed words list s × BookingsFormed (s .cards) (s .shapes) booked × (desk ≤ 1)
+        × (length (grids .small) ≡ size s) × (length (grids .large) ≡ size s))
+    both-taken desk grids s =
+        let g = grid-takes (grids .large) (smallestReading words list booked desk (grids .small)) s in
+        let b = smallest-taken desk (grids .small) s in (
+          λ e. let (f, l, ours, m) = b .0 (g .0 e .0) in (f, l, ours, m, g .0 e .1),
+          λ (f, l, ours, m, full). g .1 (b .1 (f, l, ours, m), full),
+        )
+
+    pub desks-taken : (grids : DeskGrids) (s : Sheet) → (desksReading words list booked grids ≡ accepted s)
+        ↔ (Formed words list s × BookingsFormed (s .cards) (s .shapes) booked
+        × (length (grids .radio) ≡ size s) × (length (grids .television) ≡ size s)
+        × (length (grids .large) ≡ size s))
+    desks-taken grids s =
+        let listed = listedReading words list booked in
+        let radio = then listed (withGrid (grids .radio)) in
+        let r = grid-takes (grids .radio) listed s in
+        let t = grid-takes (grids .television) radio s in
+        let g = grid-takes (grids .large) (then radio (withGrid (grids .television))) s in (
+          λ e.
+              let (two, large) = g .0 e in
+              let (one, television) = t .0 two in
+              let (taken, first) = r .0 one in
+              let (f, l) = listed-taken s .0 taken in
+              (f, l, first, television, large),
+          λ (f, l, first, television, large).
+              g .1 (t .1 (r .1 (listed-taken s .1 (f, l), first), television), large),
+        )
+
+    pub tidy-taken : (out : List ℕ) (s : Sheet) → (tidyReading words list booked out ≡ accepted s)
+        ↔ (Formed words list s × StoredFormed (s .cards) (s .shapes) booked
+        × (length out ≡ 1 + 3 * getD booked 0 0))
+    tidy-taken out s =
+        let listed = then (readSheet words list) (withStored booked) in
+        let b = list-takes (λ cards shapes. readStored cards shapes booked)
+        (λ cards shapes. StoredFormed cards shapes booked) words list
+        (λ cards shapes. stored-are cards shapes booked) s in (
+          λ e.
+              let (read, long) = buffer-asked booked out listed s e in
+              let (f, l) = b .0 read in
+              (f, l, long),
+          λ h. buffer-taken booked out listed s (b .1 (h .0, h .1)) (h .2),
+        )

@@ -1,7 +1,7 @@
 -- The samples of docs/FORMAT.md, "Judge a grid": what they say is allowed, and by `judge-one-answer` nothing else is.
 --   judge-worked     a right verdict on a grid of six bytes may be said
 --   last-shape-sound, no-shapes-sound   the two sound typings of the samples
---   accepted-sample, unmet-sample, unheld-sample   three of them, for the refutations of wrong answers
+--   accepted-sample, unmet-sample, unheld-sample, other-sample   four of them, for the refutations of wrong answers
 --   _&_, samples-judged   a row of a table and the others; all samples
 -- Assumes nothing.
 use Prim.Native.Nat.{ℕ, zero, suc, _≤_, _<_}
@@ -10,30 +10,31 @@ use mathlib.Core.Logic.{_⊎_, inl, inr}
 use mathlib.Core.Bool.{false}
 use mathlib.Core.List.{List, [], _∷_}
 use native.Mathlib.Omega.{arith}
-use lib.ListN.{getD}
+use lib.ListN.{length, getD}
 use Rattle.words.specs.Said.{values, refusal}
 use Rattle.words.specs.Reading.{Reading, accepted}
 use Rattle.words.proofs.Bools.{never-both, false-true}
 use Rattle.script.specs.Link.{fromAt, kindAt, toAt}
 use Rattle.sheet.specs.Sheet.{Sheet, place}
-use Rattle.bookings.specs.Bookings.{cardAt, shapeAt, readPairs, readList, Booked, repeated, bookedBefore}
+use Rattle.bookings.specs.Bookings.{deskAt, cardAt, shapeAt, readEach, readList, repeated, bookedBefore}
 use Rattle.board.specs.Grid.{on, bit, tally}
 use Rattle.board.specs.Machine.{all}
 use Rattle.typing.specs.Needs.{endTest, linkTest, metTest}
 use Rattle.typing.specs.Typing.{Has, Met, Holds, Typing, SoundTyping}
-use Rattle.typing.specs.Calls.{smallestReading}
+use Rattle.typing.specs.Calls.{listedReading, smallestReading}
 use Rattle.typing.specs.Judge.{Verdict, over, unmet, unheld, passes, verdictSaid, Judged, JudgeAnswered, JudgeSays}
 use Rattle.demands.specs.Worked.{template, script, metBookings, unmetBookings, lastShape, noShapes}
-use Rattle.demands.specs.Judged.{overGrid, unmetGrid, AllAllowed, judgements}
+use Rattle.demands.specs.Judged.{overGrid, unmetGrid, eachBooks, AllAllowed, judgements}
 use Rattle.demands.proofs.Worked.{worked, worked-read, below-six, each-pair, board, stands}
-use Rattle.demands.proofs.Worked.{largest-found, met-asked, unmet-asked}
+use Rattle.demands.proofs.Worked.{Just, one-just, one-other, two-radio, largest-found, met-listed}
+use Rattle.demands.proofs.Worked.{unmet-listed, listed-asked}
 
 -- ---- a right verdict may be said
-judge-worked : (bookings grid : List ℕ) (v : Verdict)
-    → smallestReading template script bookings grid ≡ accepted worked
-    → Judged worked bookings grid v → JudgeSays template script bookings grid (verdictSaid v)
-judge-worked bookings grid v asked right =
-    subst (λ (r : Reading Sheet). JudgeAnswered r bookings grid (verdictSaid v)) (sym asked)
+judge-worked : (bookings : List ℕ) (desk : ℕ) (grid : List ℕ) (v : Verdict)
+    → smallestReading template script bookings desk grid ≡ accepted worked
+    → Judged worked bookings desk grid v → JudgeSays template script bookings desk grid (verdictSaid v)
+judge-worked bookings desk grid v asked right =
+    subst (λ (r : Reading Sheet). JudgeAnswered r bookings desk grid (verdictSaid v)) (sym asked)
     (record { verdict = v; says = refl; right = right })
 
 -- ---- grids
@@ -53,46 +54,49 @@ no-shapes-sound = record {
 }
 
 -- ---- bookings
--- A grid holds bookings if it has the pair of each by its number in the list.
-held-each : (bookings grid : List ℕ)
-    → ((i : ℕ) → i < getD bookings 0 0 → Has worked (on grid) (cardAt bookings i) (shapeAt bookings i))
-    → Holds worked (Booked bookings) (on grid)
-held-each bookings grid each n t b =
-    subst₂ (λ (m u : ℕ). Has worked (on grid) m u) (b .card) (b .shape) (each (b .booking) (b .listed))
+-- A grid that has the one pair that is booked holds the bookings.
+held-just : {Wanted : ℕ → ℕ → Type 0} {c u : ℕ} (grid : List ℕ) → Just Wanted c u → Has worked (on grid) c u
+    → Holds worked Wanted (on grid)
+held-just grid just here n t b =
+    let (card, shape) = just .only n t b in
+    subst₂ (λ (m v : ℕ). Has worked (on grid) m v) (sym card) (sym shape) here
 
 -- What holds of the first.
 below-one : (P : ℕ → Type 0) → P 0 → (k : ℕ) → k < 1 → P k
 below-one P a zero l = a
 below-one P a (suc k) l = absurd (omega arith)
 
--- Two pairs; none.
-abbrev pair-after : List ℕ
-pair-after = 2 ∷ 2 ∷ 1 ∷ 0 ∷ 0 ∷ []
+-- The lists are read for each desk.
+met-asked : (grid : List ℕ) → length grid ≡ 6 → smallestReading template script metBookings 0 grid ≡ accepted worked
+met-asked = listed-asked metBookings 0 met-listed (omega arith)
 
-abbrev none-booked : List ℕ
-none-booked = 0 ∷ []
+each-listed : listedReading template script eachBooks ≡ accepted worked
+unfolding readList readEach repeated bookedBefore deskAt cardAt shapeAt
+each-listed = rw worked-read refl
 
 -- ---- the samples
-pub accepted-sample : JudgeSays template script metBookings lastShape (values [])
-unfolding on cardAt shapeAt
-accepted-sample = judge-worked metBookings lastShape passes (met-asked lastShape refl) (record {
+pub accepted-sample : JudgeSays template script metBookings 0 lastShape (values [])
+unfolding on
+accepted-sample = judge-worked metBookings 0 lastShape passes (met-asked lastShape refl) (record {
   sound = last-shape-sound;
-  holds = held-each metBookings lastShape (below-one _ refl);
+  holds = held-just lastShape (one-just 0 2 1) refl;
 })
 
-empty-sample : JudgeSays template script none-booked noShapes (values [])
-unfolding readList readPairs repeated bookedBefore
-empty-sample = judge-worked none-booked noShapes passes (rw worked-read refl) (record {
-  sound = no-shapes-sound;
-  holds = held-each none-booked noShapes (λ i l. absurd (omega arith));
-})
+none-sample : JudgeSays template script metBookings 1 noShapes (values [])
+none-sample = judge-worked metBookings 1 noShapes passes
+    (listed-asked metBookings 1 met-listed (omega arith) noShapes refl) (record {
+      sound = no-shapes-sound;
+      holds = λ n t b. absurd (one-other 0 2 1 1 (λ e. absurd (omega (arith, e))) n t b);
+    })
 
-five-sample : JudgeSays template script metBookings (0 ∷ 0 ∷ 0 ∷ 0 ∷ 0 ∷ []) (refusal 40 (0 ∷ []))
-unfolding readList readPairs repeated bookedBefore cardAt shapeAt
-five-sample = rw worked-read refl
+five-sample : JudgeSays template script metBookings 0 (0 ∷ 0 ∷ 0 ∷ 0 ∷ 0 ∷ []) (refusal 40 (0 ∷ []))
+five-sample = rw met-listed refl
 
-over-sample : JudgeSays template script metBookings overGrid (refusal 61 (1 ∷ []))
-over-sample = judge-worked metBookings overGrid (over 1) (met-asked overGrid refl) (record {
+third-sample : JudgeSays template script metBookings 2 (0 ∷ 0 ∷ 0 ∷ 0 ∷ 0 ∷ []) (refusal 66 (0 ∷ []))
+third-sample = rw met-listed refl
+
+over-sample : JudgeSays template script metBookings 0 overGrid (refusal 61 (1 ∷ []))
+over-sample = judge-worked metBookings 0 overGrid (over 1) (met-asked overGrid refl) (record {
   inside = omega arith;
   over-one = omega arith;
   first = below-one (λ q. getD overGrid q 0 ≤ 1) (omega arith);
@@ -110,9 +114,9 @@ unmet-typing = record {
       (inl refl) (inl refl) (inr refl) (inr refl) (inl refl) (inr refl);
 }
 
-pub unmet-sample : JudgeSays template script metBookings unmetGrid (refusal 62 (1 ∷ 0 ∷ []))
+pub unmet-sample : JudgeSays template script metBookings 0 unmetGrid (refusal 62 (1 ∷ 0 ∷ []))
 unfolding on
-unmet-sample = judge-worked metBookings unmetGrid (unmet 1 0) (met-asked unmetGrid refl) (record {
+unmet-sample = judge-worked metBookings 0 unmetGrid (unmet 1 0) (met-asked unmetGrid refl) (record {
   typing = unmet-typing;
   card-in = omega arith;
   shape-in = omega arith;
@@ -124,30 +128,45 @@ unmet-sample = judge-worked metBookings unmetGrid (unmet 1 0) (met-asked unmetGr
       (λ l. absurd (omega arith)) (λ l. absurd (omega arith));
 })
 
-pub unheld-sample : JudgeSays template script unmetBookings lastShape (refusal 63 (1 ∷ []))
-unfolding on cardAt shapeAt
-unheld-sample = judge-worked unmetBookings lastShape (unheld 0) (unmet-asked lastShape refl) (record {
-  sound = last-shape-sound;
-  listed = omega arith;
-  missing = refl;
-  first = λ j l. absurd (omega arith);
-})
+pub unheld-sample : JudgeSays template script unmetBookings 0 lastShape (refusal 63 (2 ∷ []))
+unfolding on deskAt cardAt shapeAt
+unheld-sample = judge-worked unmetBookings 0 lastShape (unheld 0)
+    (listed-asked unmetBookings 0 unmet-listed (omega arith) lastShape refl) (record {
+      sound = last-shape-sound;
+      listed = omega arith;
+      ours = refl;
+      missing = refl;
+      first = λ j l. absurd (omega arith);
+    })
 
-second-sample : JudgeSays template script pair-after lastShape (refusal 63 (3 ∷ []))
-unfolding readList readPairs repeated bookedBefore on cardAt shapeAt
-second-sample = judge-worked pair-after lastShape (unheld 1) (rw worked-read refl) (record {
-  sound = last-shape-sound;
-  listed = omega arith;
-  missing = refl;
-  first = below-one (λ j. Has worked (on lastShape) (cardAt pair-after j) (shapeAt pair-after j)) refl;
-})
+-- Television's booking is the second of the list, and the first is radio's.
+pub other-sample : JudgeSays template script eachBooks 1 lastShape (refusal 63 (5 ∷ []))
+unfolding on deskAt cardAt shapeAt
+other-sample = judge-worked eachBooks 1 lastShape (unheld 1)
+    (listed-asked eachBooks 1 each-listed (omega arith) lastShape refl) (record {
+      sound = last-shape-sound;
+      listed = omega arith;
+      ours = refl;
+      missing = refl;
+      first = below-one
+          (λ j. deskAt eachBooks j ≡ 1 → Has worked (on lastShape) (cardAt eachBooks j) (shapeAt eachBooks j))
+          (λ e. absurd (omega (arith, e)));
+    })
 
-card-sample : JudgeSays template script (1 ∷ 3 ∷ 1 ∷ []) lastShape (refusal 32 (1 ∷ []))
-unfolding readList readPairs repeated bookedBefore cardAt shapeAt
+own-sample : JudgeSays template script eachBooks 0 lastShape (values [])
+unfolding on
+own-sample = judge-worked eachBooks 0 lastShape passes
+    (listed-asked eachBooks 0 each-listed (omega arith) lastShape refl) (record {
+      sound = last-shape-sound;
+      holds = held-just lastShape (two-radio 2 1 0 0) refl;
+    })
+
+card-sample : JudgeSays template script (1 ∷ 0 ∷ 3 ∷ 1 ∷ []) 0 lastShape (refusal 32 (2 ∷ []))
+unfolding readList readEach repeated bookedBefore deskAt cardAt shapeAt
 card-sample = rw worked-read refl
 
-twice-sample : JudgeSays template script (2 ∷ 2 ∷ 1 ∷ 2 ∷ 1 ∷ []) lastShape (refusal 65 (3 ∷ []))
-unfolding readList readPairs repeated bookedBefore cardAt shapeAt
+twice-sample : JudgeSays template script (2 ∷ 0 ∷ 2 ∷ 1 ∷ 0 ∷ 2 ∷ 1 ∷ []) 1 lastShape (refusal 65 (5 ∷ []))
+unfolding readList readEach repeated bookedBefore deskAt cardAt shapeAt
 twice-sample = rw worked-read refl
 
 -- One row of a table, and then the others.
@@ -157,5 +176,5 @@ _&_ a b = (a, b)
 
 pub samples-judged : AllAllowed judgements
 samples-judged =
-    accepted-sample & empty-sample & five-sample & over-sample & unmet-sample & unheld-sample & second-sample
-    & card-sample & twice-sample & tt
+    accepted-sample & none-sample & five-sample & third-sample & over-sample & unmet-sample & unheld-sample
+    & other-sample & own-sample & card-sample & twice-sample & tt

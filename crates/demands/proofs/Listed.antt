@@ -1,8 +1,8 @@
 -- A refusal that an operation's contract allows is one of a listed number, and changes no grid but for 50, and no
 -- buffer.
 --   no-values                                    a refusal is no value
---   said-listed, fit-refused, largest-refused, smallest-refused, both-refused, tidy-refused   from the numbers of the
---                                                readings
+--   said-listed, fit-refused, largest-refused, smallest-refused, both-refused, desks-refused, tidy-refused   from the
+--                                                numbers of the readings
 --   script-numbered                              the numbers that a script with its template is refused with
 -- Assumes nothing.
 use Prim.Native.Nat.{ℕ}
@@ -19,10 +19,12 @@ use Rattle.template.proofs.Numbers.{TemplateNumber, template-numbers}
 use Rattle.script.specs.Script.{readScript, readWith}
 use Rattle.script.proofs.Reading.{ScriptNumber, script-numbers}
 use Rattle.sheet.specs.Sheet.{Sheet, size}
+use Rattle.bookings.specs.Bookings.{Booked}
 use Rattle.counts.specs.Fit.{Question, Answers}
 use Rattle.typing.specs.Demand3.{Outcome, pairs, notMet}
-use Rattle.typing.specs.Answer.{BothSaid}
+use Rattle.typing.specs.Answer.{BothSaid, DesksSaid}
 use Rattle.typing.specs.Calls.{Grids, Leaves, outcomeSaid, LargestAnswered, SmallestAnswered, BothAnswered}
+use Rattle.typing.specs.Desks.{DeskGrids, DesksAnswered}
 use Rattle.typing.specs.Tidy.{TidyAnswered}
 use Rattle.demands.specs.Demands.{ScriptListed}
 
@@ -90,6 +92,33 @@ module _ (Number : ℕ → Type 0) where
       let small : said .smallest ≡ refusal n (p ∷ []) = ap (λ (z : BothSaid). z .smallest) (x .0) in (
         λ e. (subst Number (refusal-number (sym large ∙ e)) h, x .1),
         λ e. inl (subst Number (refusal-number (sym small ∙ e)) h, x .1),
+      )
+
+  pub desks-refused : (r : Reading Sheet) → Numbered Number r → (bookings : List ℕ) (before after : DeskGrids)
+      → ((s : Sheet) → r ≡ accepted s
+      → (length (before .radio) ≡ size s) × (length (before .television) ≡ size s)) → (said : DesksSaid)
+      → DesksAnswered r bookings before after said → (number : ℕ) (at : List ℕ)
+      → ((said .largest ≡ refusal number at) → Number number × (after ≡ before))
+      × ((said .radio ≡ refusal number at) → (Number number × (after ≡ before))
+      ⊎ ((number ≡ 50) × (after .radio ≡ replicate (length (before .radio)) 0)))
+      × ((said .television ≡ refusal number at) → (Number number × (after ≡ before))
+      ⊎ ((number ≡ 50) × (after .television ≡ replicate (length (before .television)) 0)))
+  desks-refused (accepted s) h bookings before after full said x number at =
+      let radio = x .radio .smallest in
+      let television = x .television .smallest in (
+        λ e. no-values (sym e ∙ x .radio .largest .says),
+        λ e. inr (found-refused s (Booked bookings 0) (before .radio) (after .radio) number at (full s refl .0)
+            (radio .outcome) (sym e ∙ radio .says) (radio .leaves)),
+        λ e. inr (found-refused s (Booked bookings 1) (before .television) (after .television) number at
+            (full s refl .1) (television .outcome) (sym e ∙ television .says) (television .leaves)),
+      )
+  desks-refused (turnedDown n p) h bookings before after full said x number at =
+      let large : said .largest ≡ refusal n (p ∷ []) = ap (λ (z : DesksSaid). z .largest) (x .0) in
+      let radio : said .radio ≡ refusal n (p ∷ []) = ap (λ (z : DesksSaid). z .radio) (x .0) in
+      let television : said .television ≡ refusal n (p ∷ []) = ap (λ (z : DesksSaid). z .television) (x .0) in (
+        λ e. (subst Number (refusal-number (sym large ∙ e)) h, x .1),
+        λ e. inl (subst Number (refusal-number (sym radio ∙ e)) h, x .1),
+        λ e. inl (subst Number (refusal-number (sym television ∙ e)) h, x .1),
       )
 
 -- A script is refused with a template's number or one of its own.

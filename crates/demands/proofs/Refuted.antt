@@ -60,14 +60,14 @@ module _ (before : List ℕ) (six : length before ≡ 6) (after : List ℕ) (sai
   only-largest x =
       largest-one-answer template script before after lastShape said largestAnswer x (worked-largest before six)
 
-  pub only-met : SmallestSays template script metBookings before after said
+  pub only-met : SmallestSays template script metBookings 0 before after said
       → (said ≡ smallestAnswer) × (after ≡ lastShape)
-  only-met x = smallest-one-answer template script metBookings before after lastShape said smallestAnswer x
+  only-met x = smallest-one-answer template script metBookings 0 before after lastShape said smallestAnswer x
       (worked-smallest before six)
 
-  pub only-not-met : SmallestSays template script unmetBookings before after said
+  pub only-not-met : SmallestSays template script unmetBookings 0 before after said
       → (said ≡ notMetAnswer) × (after ≡ noShapes)
-  only-not-met x = smallest-one-answer template script unmetBookings before after noShapes said notMetAnswer x
+  only-not-met x = smallest-one-answer template script unmetBookings 0 before after noShapes said notMetAnswer x
       (worked-not-met before six)
 
 -- ---- wrong answers
@@ -109,28 +109,28 @@ blanks-counted words list before after rounds struck counted none some x =
 
 -- 50 with the closure of the booking left in the grid.
 pub closure-left : (before : List ℕ) → length before ≡ 6
-    → SmallestSays template script unmetBookings before (1 ∷ 1 ∷ 1 ∷ 0 ∷ 0 ∷ 1 ∷ []) notMetAnswer → ⊥
+    → SmallestSays template script unmetBookings 0 before (1 ∷ 1 ∷ 1 ∷ 0 ∷ 0 ∷ 1 ∷ []) notMetAnswer → ⊥
 closure-left before six x =
     let e = only-not-met before six _ notMetAnswer x .1 in
     let z : _≡_ {A = ℕ} 1 0 = ap (λ (g : List ℕ). getD g 0 0) e in omega arith
 
 -- 50 that names the booked pair, (0, 0), which is met.
 pub booking-named : (before after : List ℕ) → length before ≡ 6
-    → SmallestSays template script unmetBookings before after (refusal 50 (0 ∷ 0 ∷ [])) → ⊥
+    → SmallestSays template script unmetBookings 0 before after (refusal 50 (0 ∷ 0 ∷ [])) → ⊥
 booking-named before after six x =
     let e = only-not-met before six after _ x .0 in
     let z : _≡_ {A = ℕ} 0 1 = cc in omega arith
 
 -- 50 for bookings that can be met.
 pub met-turned-down : (before after place : List ℕ) → length before ≡ 6
-    → SmallestSays template script metBookings before after (refusal 50 place) → ⊥
+    → SmallestSays template script metBookings 0 before after (refusal 50 place) → ⊥
 met-turned-down before after place six x =
     let e = only-met before six after _ x .0 in
     let z : _≡_ {A = ℕ} 0 1 = cc in omega arith
 
 -- A number of pairs for bookings that cannot.
 pub unmet-accepted : (before after : List ℕ) (found : List ℕ) → length before ≡ 6
-    → SmallestSays template script unmetBookings before after (values found) → ⊥
+    → SmallestSays template script unmetBookings 0 before after (values found) → ⊥
 unmet-accepted before after found six x =
     let e = only-not-met before six after _ x .0 in
     let z : _≡_ {A = ℕ} 0 1 = cc in omega arith
@@ -145,44 +145,44 @@ pub refusal-changes : (before after : List ℕ) (said : Said) → length before 
 refusal-changes before after said five changed x = changed (five-refused before after said five x .1)
 
 -- An empty list of bookings and a grid of a wrong size, here of five bytes: 30 is said, so 40 is not allowed.
-pub list-first : (before : List ℕ) → SmallestSays template script [] before before (refusal 30 (0 ∷ []))
+pub list-first : (before : List ℕ) → SmallestSays template script [] 0 before before (refusal 30 (0 ∷ []))
 unfolding readList
 list-first before = rw worked-read (refl, refl)
 
-pub size-first : (before after : List ℕ) → SmallestSays template script [] before after (refusal 40 (0 ∷ [])) → ⊥
+pub size-first : (before after : List ℕ) → SmallestSays template script [] 0 before after (refusal 40 (0 ∷ [])) → ⊥
 size-first before after x =
-    let e = smallest-one-answer template script [] before after before _ _ x (list-first before) .0 in
+    let e = smallest-one-answer template script [] 0 before after before _ _ x (list-first before) .0 in
     let z : _≡_ {A = ℕ} 40 30 = cc in omega arith
 
 -- The judge accepts a grid with two pairs that are not met, or without the booked pair.
-pub unsound-accepted : JudgeSays template script metBookings unmetGrid (values []) → ⊥
+pub unsound-accepted : JudgeSays template script metBookings 0 unmetGrid (values []) → ⊥
 unsound-accepted x =
-    let e = judge-one-answer template script metBookings unmetGrid _ _ x unmet-sample in
+    let e = judge-one-answer template script metBookings 0 unmetGrid _ _ x unmet-sample in
     values-refusal e
 
-pub unheld-accepted : JudgeSays template script unmetBookings lastShape (values []) → ⊥
+pub unheld-accepted : JudgeSays template script unmetBookings 0 lastShape (values []) → ⊥
 unheld-accepted x =
-    let e = judge-one-answer template script unmetBookings lastShape _ _ x unheld-sample in
+    let e = judge-one-answer template script unmetBookings 0 lastShape _ _ x unheld-sample in
     values-refusal e
 
 -- It refuses the grid that both typings are.
 pub sound-refused : (number : ℕ) (place : List ℕ)
-    → JudgeSays template script metBookings lastShape (refusal number place) → ⊥
+    → JudgeSays template script metBookings 0 lastShape (refusal number place) → ⊥
 sound-refused number place x =
-    let e = judge-one-answer template script metBookings lastShape _ _ accepted-sample x in
+    let e = judge-one-answer template script metBookings 0 lastShape _ _ accepted-sample x in
     values-refusal e
 
 -- It names (1, 1), which is not met either, where (1, 0) is lower.
-pub higher-pair : JudgeSays template script metBookings unmetGrid (refusal 62 (1 ∷ 1 ∷ [])) → ⊥
+pub higher-pair : JudgeSays template script metBookings 0 unmetGrid (refusal 62 (1 ∷ 1 ∷ [])) → ⊥
 higher-pair x =
-    let e = judge-one-answer template script metBookings unmetGrid _ _ x unmet-sample in
+    let e = judge-one-answer template script metBookings 0 unmetGrid _ _ x unmet-sample in
     let z : _≡_ {A = ℕ} 1 0 = cc in omega arith
 
 -- It names the word of the booking's shape.
-pub shape-named : JudgeSays template script unmetBookings lastShape (refusal 63 (2 ∷ [])) → ⊥
+pub shape-named : JudgeSays template script unmetBookings 0 lastShape (refusal 63 (3 ∷ [])) → ⊥
 shape-named x =
-    let e = judge-one-answer template script unmetBookings lastShape _ _ x unheld-sample in
-    let z : _≡_ {A = ℕ} 2 1 = cc in omega arith
+    let e = judge-one-answer template script unmetBookings 0 lastShape _ _ x unheld-sample in
+    let z : _≡_ {A = ℕ} 3 2 = cc in omega arith
 
 -- "No" to the counts of card 0, which fit shape 0: one link of each kind from it, and one of kind 0 to it.
 pub wrong-fit : FitSays template 0 (1 ∷ 1 ∷ 1 ∷ 0 ∷ []) (values (0 ∷ [])) → ⊥

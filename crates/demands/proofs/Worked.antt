@@ -4,9 +4,14 @@
 --   names, fitting        the shapes that each shape names, and where the counts fit; board: its board
 --   stands                the board stands for the sheet
 --   four-rounds           three rounds strike something, the fourth nothing
---   met-closure, unmet-closure          the closures of the two lists of bookings
+--   Just, one-just, one-other, two-radio, two-television   what lists of one and of two bookings book for each desk
+--   met-closure, unmet-closure          the closures of the two bookings
+--   smallest-found, not-met-found, none-found   what follows from them, and from none
+--   met-listed, unmet-listed, both-unmet-listed, listed-asked   the lists are read, for each desk
 --   worked-template, worked-script, worked-links, worked-fit   what the other operations say of it, by computation
---   worked-largest, worked-smallest, worked-not-met, worked-both, worked-both-not-met   the right answers are allowed
+--   all-inside, together  the bookings of a list that is read are in the sheet; what follows from those of each desk
+--   worked-largest, worked-smallest, worked-not-met, worked-none, worked-both, worked-both-not-met, worked-desks   the
+--                         right answers are allowed
 -- Assumes nothing.
 use Prim.Native.Nat.{ℕ, zero, suc, _+_, _*_, _/_, _%_, _≤_, _<_}
 use mathlib.Core.Path.{_≡_, refl, sym, ap₂, _∙_, subst, subst₂}
@@ -19,7 +24,7 @@ use lib.Dec.{eqb}
 use lib.ListN.{length, getD, replicate}
 use borrow.Author.Tests.{eqb-true}
 use Rattle.words.specs.Limits.{maxLabels}
-use Rattle.words.specs.Said.{values}
+use Rattle.words.specs.Said.{Said, values}
 use Rattle.words.specs.Reading.{Reading, accepted}
 use Rattle.words.proofs.Bools.{never-both, or-cases, false-true, false-of-not}
 use Rattle.words.proofs.Places.{place-in, card-of, shape-of}
@@ -43,21 +48,24 @@ use Rattle.board.specs.Board.{Board}
 use Rattle.board.proofs.Tally.{all-at}
 use Rattle.board.proofs.Rounds.{after, Last, Noisy, struck}
 use Rattle.typing.specs.Needs.{endTest, linkTest, metTest, boardOf}
-use Rattle.bookings.specs.Bookings.{cardAt, shapeAt, readPairs, readList, Booked, repeated, bookedBefore}
+use Rattle.bookings.specs.Bookings.{deskAt, cardAt, shapeAt, readEach, readList, Booked, repeated, bookedBefore}
 use Rattle.typing.specs.Typing.{Pairs, Has, Met, Typing}
 use Rattle.typing.specs.Largest.{Largest, bare, bareCards}
 use Rattle.typing.specs.Smallest.{Closure, booked, follow, IsClosure}
 use Rattle.typing.specs.Demand3.{pairs, notMet}
-use Rattle.typing.specs.Calls.{largestReading, smallestReading, LargestFound, LargestAnswered, LargestSays}
-use Rattle.typing.specs.Calls.{SmallestFound, SmallestAnswered, SmallestSays, Grids, bothReading, BothSays}
+use Rattle.typing.specs.Calls.{listedReading, bookedReading, largestReading, smallestReading, LargestFound}
+use Rattle.typing.specs.Calls.{LargestAnswered, LargestSays, SmallestFound, SmallestSays, Grids, bothReading, BothSays}
+use Rattle.typing.specs.Desks.{DeskGrids, DesksFound, DesksSays}
 use Rattle.typing.proofs.Represents.{Represents, Alike, pair-in}
 use Rattle.typing.proofs.Boards.{board-lawful}
 use Rattle.typing.proofs.Demand.{both-found}
 use Rattle.typing.proofs.Largest.{largest-of}
+use Rattle.typing.proofs.Booked.{desk-taken, grid-taken, list-asked}
 use Rattle.typing.proofs.Smallest.{BookedIn, closure-in}
+use Rattle.typing.proofs.NoneBooked.{closure-empty}
 use Rattle.typing.proofs.Instance.{FitsGrid, countsOf, fits-grid, ready, represents}
-use Rattle.demands.specs.Worked.{template, script, metBookings, unmetBookings, lastShape, noShapes}
-use Rattle.demands.specs.Worked.{largestAnswer, smallestAnswer, notMetAnswer}
+use Rattle.demands.specs.Worked.{template, script, metBookings, unmetBookings, bothUnmet, lastShape, noShapes}
+use Rattle.demands.specs.Worked.{largestAnswer, smallestAnswer, notMetAnswer, noneAnswer}
 
 -- ---- the sheet that is read
 abbrev pub worked : Sheet
@@ -245,21 +253,63 @@ worked-largest before l =
     largest-found
 
 -- ---- closures
--- A list of one booking books just that pair.
-one-booked : (c u n t : ℕ) → Booked (1 ∷ c ∷ u ∷ []) n t → (n ≡ c) × (t ≡ u)
-unfolding cardAt shapeAt
-one-booked c u n t b = at (b .booking) (b .listed) (b .card) (b .shape)
-  where
-    at : (i : ℕ) → i < 1 → cardAt (1 ∷ c ∷ u ∷ []) i ≡ n → shapeAt (1 ∷ c ∷ u ∷ []) i ≡ t → (n ≡ c) × (t ≡ u)
-    at zero l e f = (sym e, sym f)
-    at (suc i) l e f = absurd (omega arith)
+-- Just the pair of card c and shape u is booked.
+pub record Just (Wanted : ℕ → ℕ → Type 0) (c u : ℕ) : Type 0 where
+  pub some : Wanted c u
+  pub only : (n t : ℕ) → Wanted n t → (n ≡ c) × (t ≡ u)
 
-is-booked : (c u : ℕ) → Booked (1 ∷ c ∷ u ∷ []) c u
-unfolding cardAt shapeAt
-is-booked c u = record { booking = 0; listed = omega arith; card = refl; shape = refl }
+pub just-inside : {Wanted : ℕ → ℕ → Type 0} {c u : ℕ} → Just Wanted c u → c < 3 → u < 2 → BookedIn worked Wanted
+just-inside just lc lu n t b = let (e, f) = just .only n t b in (omega (arith, e), omega (arith, f))
 
-pub one-inside : (c u : ℕ) → c < 3 → u < 2 → BookedIn worked (Booked (1 ∷ c ∷ u ∷ []))
-one-inside c u lc lu n t b = let (e, f) = one-booked c u n t b in (omega (arith, e), omega (arith, f))
+-- A list of one booking books just that pair for its desk, and nothing for the other.
+module _ (d c u : ℕ) where
+  one-of : (e n t : ℕ) → Booked (1 ∷ d ∷ c ∷ u ∷ []) e n t → (e ≡ d) × (n ≡ c) × (t ≡ u)
+  unfolding deskAt cardAt shapeAt
+  one-of e n t b = at (b .booking) (b .listed) (b .ours) (b .card) (b .shape)
+    where
+      at : (i : ℕ) → i < 1 → deskAt (1 ∷ d ∷ c ∷ u ∷ []) i ≡ e → cardAt (1 ∷ d ∷ c ∷ u ∷ []) i ≡ n
+          → shapeAt (1 ∷ d ∷ c ∷ u ∷ []) i ≡ t → (e ≡ d) × (n ≡ c) × (t ≡ u)
+      at zero l o e f = (sym o, sym e, sym f)
+      at (suc i) l o e f = absurd (omega arith)
+
+  pub one-just : Just (Booked (1 ∷ d ∷ c ∷ u ∷ []) d) c u
+  unfolding deskAt cardAt shapeAt
+  one-just = record {
+    some = record { booking = 0; listed = omega arith; ours = refl; card = refl; shape = refl };
+    only = λ n t b. let (_, card, shape) = one-of d n t b in (card, shape);
+  }
+
+  pub one-other : (e : ℕ) → (e ≡ d → ⊥) → (n t : ℕ) → Booked (1 ∷ d ∷ c ∷ u ∷ []) e n t → ⊥
+  one-other e ne n t b = ne (one-of e n t b .0)
+
+-- A list with a booking of each desk books just that pair for it.
+module _ (c u m v : ℕ) where
+  abbrev two : List ℕ
+  two = 2 ∷ 0 ∷ c ∷ u ∷ 1 ∷ m ∷ v ∷ []
+
+  pub two-radio : Just (Booked two 0) c u
+  unfolding deskAt cardAt shapeAt
+  two-radio = record {
+    some = record { booking = 0; listed = omega arith; ours = refl; card = refl; shape = refl };
+    only = λ n t b. at n t (b .booking) (b .listed) (b .ours) (b .card) (b .shape);
+  }
+    where
+      at : (n t i : ℕ) → i < 2 → deskAt two i ≡ 0 → cardAt two i ≡ n → shapeAt two i ≡ t → (n ≡ c) × (t ≡ u)
+      at n t zero l o e f = (sym e, sym f)
+      at n t (suc zero) l o e f = absurd (omega (arith, o))
+      at n t (suc (suc i)) l o e f = absurd (omega arith)
+
+  pub two-television : Just (Booked two 1) m v
+  unfolding deskAt cardAt shapeAt
+  two-television = record {
+    some = record { booking = 1; listed = omega arith; ours = refl; card = refl; shape = refl };
+    only = λ n t b. at n t (b .booking) (b .listed) (b .ours) (b .card) (b .shape);
+  }
+    where
+      at : (n t i : ℕ) → i < 2 → deskAt two i ≡ 1 → cardAt two i ≡ n → shapeAt two i ≡ t → (n ≡ m) × (t ≡ v)
+      at n t zero l o e f = absurd (omega (arith, o))
+      at n t (suc zero) l o e f = (sym e, sym f)
+      at n t (suc (suc i)) l o e f = absurd (omega arith)
 
 -- Counts that fit everywhere: then a pair is met under a set just where the set has all that the pair asks for.
 abbrev anywhere : List ℕ
@@ -270,61 +320,62 @@ abbrev goesOn : Pairs → ℕ → Bool
 goesOn X p = not (X p) || metTest script names 2 anywhere X p
 
 -- A set that has the booking and goes on from each of its pairs has the closure.
-module _ (c v : ℕ) (lc : c < 3) (lv : v < 2) (X : Pairs) (has : Has worked X c v) (on-and-on : all (goesOn X) 6 ≡ true)
-  where
-    has-closure : {n t : ℕ} → Closure worked (Booked (1 ∷ c ∷ v ∷ [])) n t → Has worked X n t
-    has-closure (booked {n} {t} b) =
-        let (e, f) = one-booked c v n t b in
-        subst₂ (λ (x y : ℕ). Has worked X x y) (sym e) (sym f) has
-    has-closure (follow {n} {t} {u} k way i l s d) =
-        let (ln, lt) = closure-in stands (one-inside c v lc lv) k in
-        let p = place worked n t in
-        let q = place worked (farAt way script i) u in
-        let asked = stands .needs-exact n t q ln lt .1
-        (record { way = way; link = i; shape = u; below = l; starts = s; declares = d; leads = refl }) in
-        let here = has-closure k in
-        let met = ⊎-elim (λ e. never-both here (false-of-not e)) (λ m. m) (or-cases (not (X p))
-        (metTest script names 2 anywhere X p) (all-at (goesOn X) 6 on-and-on p (pair-in stands n t ln lt))) in
-        board-lawful (ready read names names-tabled names-room) anywhere .met-dep X p q met asked
+module _ {Wanted : ℕ → ℕ → Type 0} {c v : ℕ} (just : Just Wanted c v) (lc : c < 3) (lv : v < 2) (X : Pairs)
+    (has : Has worked X c v) (on-and-on : all (goesOn X) 6 ≡ true) where
+  has-closure : {n t : ℕ} → Closure worked Wanted n t → Has worked X n t
+  has-closure (booked {n} {t} b) =
+      let (e, f) = just .only n t b in
+      subst₂ (λ (x y : ℕ). Has worked X x y) (sym e) (sym f) has
+  has-closure (follow {n} {t} {u} k way i l s d) =
+      let (ln, lt) = closure-in stands (just-inside just lc lv) k in
+      let p = place worked n t in
+      let q = place worked (farAt way script i) u in
+      let asked = stands .needs-exact n t q ln lt .1
+      (record { way = way; link = i; shape = u; below = l; starts = s; declares = d; leads = refl }) in
+      let here = has-closure k in
+      let met = ⊎-elim (λ e. never-both here (false-of-not e)) (λ m. m) (or-cases (not (X p))
+      (metTest script names 2 anywhere X p) (all-at (goesOn X) 6 on-and-on p (pair-in stands n t ln lt))) in
+      board-lawful (ready read names names-tabled names-room) anywhere .met-dep X p q met asked
 
 -- The closure of (2, 1) is that pair alone: card 2 has no links.
-met-closure : IsClosure worked (Booked metBookings) (on lastShape)
+met-closure : {Wanted : ℕ → ℕ → Type 0} → Just Wanted 2 1 → IsClosure worked Wanted (on lastShape)
 unfolding metTest linkTest endTest on all tally bit fromAt kindAt toAt
-met-closure = record {
-  has = λ n t. has-closure 2 1 (omega arith) (omega arith) (on lastShape) refl refl;
-  only = each-pair (λ n t. on lastShape (place worked n t) ≡ true → Closure worked (Booked metBookings) n t)
-      false-true false-true false-true false-true false-true (λ e. booked (is-booked 2 1));
+met-closure {Wanted} just = record {
+  has = λ n t. has-closure just (omega arith) (omega arith) (on lastShape) refl refl;
+  only = each-pair (λ n t. on lastShape (place worked n t) ≡ true → Closure worked Wanted n t)
+      false-true false-true false-true false-true false-true (λ e. booked (just .some));
 }
 
 -- The closure of (0, 0): with it (2, 1) and (1, 0), and with (1, 0) the pair (0, 1).
 abbrev reached : List ℕ
 reached = 1 ∷ 1 ∷ 1 ∷ 0 ∷ 0 ∷ 1 ∷ []
 
-abbrev Reached : ℕ → ℕ → Type 0
-Reached n t = Closure worked (Booked unmetBookings) n t
+module _ {Wanted : ℕ → ℕ → Type 0} (just : Just Wanted 0 0) where
+  abbrev Reached : ℕ → ℕ → Type 0
+  Reached n t = Closure worked Wanted n t
 
-from-booking : Reached 0 0
-from-booking = booked (is-booked 0 0)
+  from-booking : Reached 0 0
+  from-booking = booked (just .some)
 
-by-link-0 : Reached 2 1
-unfolding fromAt kindAt toAt
-by-link-0 = follow from-booking outgoing 0 (omega arith) refl (inl (refl, refl))
+  by-link-0 : Reached 2 1
+  unfolding fromAt kindAt toAt
+  by-link-0 = follow from-booking outgoing 0 (omega arith) refl (inl (refl, refl))
 
-by-link-1 : Reached 1 0
-unfolding fromAt kindAt toAt
-by-link-1 = follow from-booking outgoing 1 (omega arith) refl (inr (inl (refl, refl)))
+  by-link-1 : Reached 1 0
+  unfolding fromAt kindAt toAt
+  by-link-1 = follow from-booking outgoing 1 (omega arith) refl (inr (inl (refl, refl)))
 
-by-link-2 : Reached 0 1
-unfolding fromAt kindAt toAt
-by-link-2 = follow by-link-1 outgoing 2 (omega arith) refl (inl (refl, refl))
+  by-link-2 : Reached 0 1
+  unfolding fromAt kindAt toAt
+  by-link-2 = follow by-link-1 outgoing 2 (omega arith) refl (inl (refl, refl))
 
-unmet-closure : IsClosure worked (Booked unmetBookings) (on reached)
-unfolding metTest linkTest endTest on all tally bit fromAt kindAt toAt
-unmet-closure = record {
-  has = λ n t. has-closure 0 0 (omega arith) (omega arith) (on reached) refl refl;
-  only = each-pair (λ n t. on reached (place worked n t) ≡ true → Reached n t)
-      (λ e. from-booking) (λ e. by-link-2) (λ e. by-link-1) false-true false-true (λ e. by-link-0);
-}
+  unmet-closure : IsClosure worked Wanted (on reached)
+  unfolding metTest linkTest endTest on all tally bit fromAt kindAt toAt
+  unmet-closure = record {
+    has = λ n t. has-closure just (omega arith) (omega arith) (on reached) refl refl;
+    only = each-pair (λ n t. on reached (place worked n t) ≡ true → Reached n t)
+        (λ e. from-booking) (λ e. by-link-2) (λ e. by-link-1) false-true false-true (λ e. by-link-0);
+  }
 
 -- ---- the smallest typing
 one-pair : 1 ≡ tally (on lastShape) 6
@@ -332,17 +383,45 @@ unfolding tally bit on
 one-pair = refl
 
 -- Every pair of the closure of (2, 1) is met: the largest typing has the same pairs, and is sound.
-pub smallest-found : SmallestFound worked (Booked metBookings) lastShape smallestAnswer
-smallest-found = record {
+pub smallest-found : {Wanted : ℕ → ℕ → Type 0} → Just Wanted 2 1
+    → SmallestFound worked Wanted lastShape smallestAnswer
+smallest-found just = record {
   outcome = pairs 1;
   says = refl;
   leaves = record {
     typing = last-shape-typing;
-    closure = met-closure;
+    closure = met-closure just;
     met = λ n t c.
-        let (ln, lt) = closure-in stands (one-inside 2 1 (omega arith) (omega arith)) c in
-        largest-here .last n t ln lt (met-closure .has n t c);
+        let (ln, lt) = closure-in stands (just-inside just (omega arith) (omega arith)) c in
+        largest-here .last n t ln lt (met-closure just .has n t c);
     counted = one-pair;
+  };
+}
+
+-- Where nothing is booked there are no pairs.
+no-pairs : 0 ≡ tally (on noShapes) 6
+unfolding tally bit on
+no-pairs = refl
+
+pub none-found : {Wanted : ℕ → ℕ → Type 0} → ((n t : ℕ) → Wanted n t → ⊥)
+    → SmallestFound worked Wanted noShapes noneAnswer
+unfolding on
+none-found {Wanted} never = record {
+  outcome = pairs 0;
+  says = refl;
+  leaves = record {
+    typing = record {
+      full = refl;
+      bytes = below-six (λ p. (getD noShapes p 0 ≡ 0) ⊎ (getD noShapes p 0 ≡ 1))
+          (inl refl) (inl refl) (inl refl) (inl refl) (inl refl) (inl refl);
+    };
+    closure = record {
+      has = λ n t c. absurd (closure-empty worked (omega arith) never c);
+      only = each-pair (λ n t. on noShapes (place worked n t) ≡ true → Closure worked Wanted n t)
+          false-true false-true false-true false-true false-true false-true;
+    };
+    met = λ n t c. absurd (closure-empty worked (omega arith) never c);
+    counted = no-pairs;
   };
 }
 
@@ -355,15 +434,15 @@ met-computed : board .met (on reached) 0 ≡ true
 unfolding metTest linkTest endTest on all tally bit fromAt kindAt toAt
 met-computed = refl
 
-pub not-met-found : SmallestFound worked (Booked unmetBookings) noShapes notMetAnswer
-not-met-found = record {
+pub not-met-found : {Wanted : ℕ → ℕ → Type 0} → Just Wanted 0 0 → SmallestFound worked Wanted noShapes notMetAnswer
+not-met-found just = record {
   outcome = notMet 0 1;
   says = refl;
   leaves = record {
     zeros = refl;
     set = on reached;
-    closure = unmet-closure;
-    inside = by-link-2;
+    closure = unmet-closure just;
+    inside = by-link-2 just;
     unmet = λ m. never-both (stands .met-exact (on reached) 0 1 (omega arith) (omega arith) .1 m) unmet-computed;
     lowest = λ m u c l.
         let first : Met worked (on reached) 0 0 =
@@ -374,46 +453,100 @@ not-met-found = record {
   };
 }
 
-pub met-asked : (before : List ℕ) → length before ≡ 6
-    → smallestReading template script metBookings before ≡ accepted worked
-unfolding readList readPairs repeated bookedBefore cardAt shapeAt
-met-asked before l = rw (worked-read, l) refl
+-- The files are read for each desk.
+pub listed-asked : (bookings : List ℕ) (desk : ℕ) → listedReading template script bookings ≡ accepted worked → desk ≤ 1
+    → (before : List ℕ) → length before ≡ 6 → smallestReading template script bookings desk before ≡ accepted worked
+listed-asked bookings desk listed ours before full =
+    grid-taken before (bookedReading template script bookings desk) worked
+    (desk-taken desk (listedReading template script bookings) worked listed ours) full
 
-pub unmet-asked : (before : List ℕ) → length before ≡ 6
-    → smallestReading template script unmetBookings before ≡ accepted worked
-unfolding readList readPairs repeated bookedBefore cardAt shapeAt
-unmet-asked before l = rw (worked-read, l) refl
+pub met-listed : listedReading template script metBookings ≡ accepted worked
+unfolding readList readEach repeated bookedBefore deskAt cardAt shapeAt
+met-listed = rw worked-read refl
+
+pub unmet-listed : listedReading template script unmetBookings ≡ accepted worked
+unfolding readList readEach repeated bookedBefore deskAt cardAt shapeAt
+unmet-listed = rw worked-read refl
+
+pub both-unmet-listed : listedReading template script bothUnmet ≡ accepted worked
+unfolding readList readEach repeated bookedBefore deskAt cardAt shapeAt
+both-unmet-listed = rw worked-read refl
+
+-- What was found for a desk may be said.
+pub smallest-allowed : (bookings : List ℕ) (desk : ℕ) → listedReading template script bookings ≡ accepted worked
+    → desk ≤ 1 → (before after : List ℕ) (said : Said) → length before ≡ 6
+    → SmallestFound worked (Booked bookings desk) after said
+    → SmallestSays template script bookings desk before after said
+smallest-allowed bookings desk listed ours before after said full found =
+    rw (listed-asked bookings desk listed ours before full) found
 
 -- The right answers of "Smallest" are allowed.
 pub worked-smallest : (before : List ℕ) → length before ≡ 6
-    → SmallestSays template script metBookings before lastShape smallestAnswer
+    → SmallestSays template script metBookings 0 before lastShape smallestAnswer
 worked-smallest before l =
-    subst (λ (r : Reading Sheet). SmallestAnswered r (Booked metBookings) before lastShape smallestAnswer)
-    (sym (met-asked before l)) smallest-found
+    smallest-allowed metBookings 0 met-listed (omega arith) before lastShape smallestAnswer l
+    (smallest-found (one-just 0 2 1))
 
 pub worked-not-met : (before : List ℕ) → length before ≡ 6
-    → SmallestSays template script unmetBookings before noShapes notMetAnswer
+    → SmallestSays template script unmetBookings 0 before noShapes notMetAnswer
 worked-not-met before l =
-    subst (λ (r : Reading Sheet). SmallestAnswered r (Booked unmetBookings) before noShapes notMetAnswer)
-    (sym (unmet-asked before l)) not-met-found
+    smallest-allowed unmetBookings 0 unmet-listed (omega arith) before noShapes notMetAnswer l
+    (not-met-found (one-just 0 0 0))
+
+pub worked-none : (before : List ℕ) → length before ≡ 6
+    → SmallestSays template script metBookings 1 before noShapes noneAnswer
+worked-none before l =
+    smallest-allowed metBookings 1 met-listed (omega arith) before noShapes noneAnswer l
+    (none-found (one-other 0 2 1 1 (λ e. absurd (omega (arith, e)))))
 
 -- ---- both
-both-asked : (bookings : List ℕ) (before : Grids) → length (before .large) ≡ 6
-    → smallestReading template script bookings (before .small) ≡ accepted worked
-    → bothReading template script bookings before ≡ accepted worked
-both-asked bookings before l e = rw (e, l) refl
+both-asked : (bookings : List ℕ) (desk : ℕ) (before : Grids) → length (before .large) ≡ 6
+    → smallestReading template script bookings desk (before .small) ≡ accepted worked
+    → bothReading template script bookings desk before ≡ accepted worked
+both-asked bookings desk before l e = rw (e, l) refl
 
 -- The right answers of "Both" are allowed: each grid and each answer is that of its own call.
 pub worked-both : (before : Grids) → length (before .small) ≡ 6 → length (before .large) ≡ 6
-    → BothSays template script metBookings before (record { small = lastShape; large = lastShape })
+    → BothSays template script metBookings 0 before (record { small = lastShape; large = lastShape })
     (record { largest = largestAnswer; smallest = smallestAnswer })
 worked-both before small large =
-    rw (both-asked metBookings before large (met-asked (before .small) small))
-    (both-found stands (one-inside 2 1 (omega arith) (omega arith)) largest-found smallest-found)
+    rw (both-asked metBookings 0 before large
+    (listed-asked metBookings 0 met-listed (omega arith) (before .small) small))
+    (both-found stands (just-inside (one-just 0 2 1) (omega arith) (omega arith)) largest-found
+    (smallest-found (one-just 0 2 1)))
 
 pub worked-both-not-met : (before : Grids) → length (before .small) ≡ 6 → length (before .large) ≡ 6
-    → BothSays template script unmetBookings before (record { small = noShapes; large = lastShape })
+    → BothSays template script unmetBookings 0 before (record { small = noShapes; large = lastShape })
     (record { largest = largestAnswer; smallest = notMetAnswer })
 worked-both-not-met before small large =
-    rw (both-asked unmetBookings before large (unmet-asked (before .small) small))
-    (both-found stands (one-inside 0 0 (omega arith) (omega arith)) largest-found not-met-found)
+    rw (both-asked unmetBookings 0 before large
+    (listed-asked unmetBookings 0 unmet-listed (omega arith) (before .small) small))
+    (both-found stands (just-inside (one-just 0 0 0) (omega arith) (omega arith)) largest-found
+    (not-met-found (one-just 0 0 0)))
+
+-- ---- both desks
+-- What follows from each desk's bookings is found together with the largest.
+pub together : {bookings : List ℕ} {radio television : List ℕ} {a b : Said}
+    → ((desk : ℕ) → BookedIn worked (Booked bookings desk))
+    → SmallestFound worked (Booked bookings 0) radio a → SmallestFound worked (Booked bookings 1) television b
+    → DesksFound worked bookings (record { radio = radio; television = television; large = lastShape })
+    (record { largest = largestAnswer; radio = a; television = b })
+together inside r t = record {
+  radio = both-found stands (inside 0) largest-found r;
+  television = both-found stands (inside 1) largest-found t;
+}
+
+-- The bookings of a list that is read are in the sheet.
+pub all-inside : (bookings : List ℕ) → listedReading template script bookings ≡ accepted worked
+    → (desk : ℕ) → BookedIn worked (Booked bookings desk)
+all-inside bookings listed = list-asked bookings (readSheet template script) worked listed .1
+
+-- The right answer of the call for both desks is allowed.
+pub worked-desks : (before : DeskGrids) → length (before .radio) ≡ 6 → length (before .television) ≡ 6
+    → length (before .large) ≡ 6 → DesksSays template script metBookings before
+    (record { radio = lastShape; television = noShapes; large = lastShape })
+    (record { largest = largestAnswer; radio = smallestAnswer; television = noneAnswer })
+worked-desks before radio television large =
+    rw (met-listed, radio, television, large)
+    (together (all-inside metBookings met-listed) (smallest-found (one-just 0 2 1))
+    (none-found (one-other 0 2 1 1 (λ e. absurd (omega (arith, e))))))

@@ -1,6 +1,8 @@
--- The samples of docs/FORMAT.md, "Judge a grid", on the worked sheet: bookings, a grid, and what is said.
+-- The samples of docs/FORMAT.md, "Judge a grid", on the worked sheet: bookings, a desk, a grid, and what is
+-- said.
 -- Sample, Allowed, AllAllowed   a sample; the contract allows what it says; all samples
 -- overGrid, unmetGrid           a byte over 1; two pairs that are not met
+-- eachBooks                     a booking of each desk
 -- judgements                    the samples
 -- Assumes nothing.
 use Prim.Native.Nat.{ℕ}
@@ -9,13 +11,13 @@ use Rattle.words.specs.Said.{Said, values, refusal}
 use Rattle.typing.specs.Judge.{JudgeSays}
 use Rattle.demands.specs.Worked.{template, script, metBookings, unmetBookings, lastShape, noShapes}
 
--- Bookings, a grid, and what is said of them.
+-- Bookings, a desk, a grid, and what is said of them.
 pub data Sample : Type 0 where
-  sample : List ℕ → List ℕ → Said → Sample
+  sample : List ℕ → ℕ → List ℕ → Said → Sample
 
 -- The contract allows what a sample says.
 abbrev pub Allowed : Sample → Type 0
-Allowed (sample bookings grid said) = JudgeSays template script bookings grid said
+Allowed (sample bookings desk grid said) = JudgeSays template script bookings desk grid said
 
 abbrev pub AllAllowed : List Sample → Type 0
 AllAllowed [] = Unit {0}
@@ -29,24 +31,32 @@ overGrid = 0 ∷ 2 ∷ 0 ∷ 0 ∷ 0 ∷ 1 ∷ []
 abbrev pub unmetGrid : List ℕ
 unmetGrid = 0 ∷ 0 ∷ 1 ∷ 1 ∷ 0 ∷ 1 ∷ []
 
+-- Radio books card 2 for shape 1, and television card 0 for shape 0.
+abbrev pub eachBooks : List ℕ
+eachBooks = 2 ∷ 0 ∷ 2 ∷ 1 ∷ 1 ∷ 0 ∷ 0 ∷ []
+
 abbrev pub judgements : List Sample
 judgements =
     -- both typings are this grid
-    sample metBookings lastShape (values [])
-    -- the empty typing is sound, and nothing is booked
-    ∷ sample (0 ∷ []) noShapes (values [])
+    sample metBookings 0 lastShape (values [])
+    -- television books nothing
+    ∷ sample metBookings 1 noShapes (values [])
     -- five bytes for six pairs
-    ∷ sample metBookings (0 ∷ 0 ∷ 0 ∷ 0 ∷ 0 ∷ []) (refusal 40 (0 ∷ []))
+    ∷ sample metBookings 0 (0 ∷ 0 ∷ 0 ∷ 0 ∷ 0 ∷ []) (refusal 40 (0 ∷ []))
+    -- there is no desk 2, and five bytes come after
+    ∷ sample metBookings 2 (0 ∷ 0 ∷ 0 ∷ 0 ∷ 0 ∷ []) (refusal 66 (0 ∷ []))
     -- the byte at place 1
-    ∷ sample metBookings overGrid (refusal 61 (1 ∷ []))
+    ∷ sample metBookings 0 overGrid (refusal 61 (1 ∷ []))
     -- (1, 0) and (1, 1) are not met
-    ∷ sample metBookings unmetGrid (refusal 62 (1 ∷ 0 ∷ []))
+    ∷ sample metBookings 0 unmetGrid (refusal 62 (1 ∷ 0 ∷ []))
     -- (0, 0) is booked and is not in the grid
-    ∷ sample unmetBookings lastShape (refusal 63 (1 ∷ []))
-    -- of two bookings the second
-    ∷ sample (2 ∷ 2 ∷ 1 ∷ 0 ∷ 0 ∷ []) lastShape (refusal 63 (3 ∷ []))
+    ∷ sample unmetBookings 0 lastShape (refusal 63 (2 ∷ []))
+    -- it is for television, whose booking is the second
+    ∷ sample eachBooks 1 lastShape (refusal 63 (5 ∷ []))
+    -- and radio's is in the grid
+    ∷ sample eachBooks 0 lastShape (values [])
     -- there is no card 3
-    ∷ sample (1 ∷ 3 ∷ 1 ∷ []) lastShape (refusal 32 (1 ∷ []))
-    -- the same pair is booked twice
-    ∷ sample (2 ∷ 2 ∷ 1 ∷ 2 ∷ 1 ∷ []) lastShape (refusal 65 (3 ∷ []))
+    ∷ sample (1 ∷ 0 ∷ 3 ∷ 1 ∷ []) 0 lastShape (refusal 32 (2 ∷ []))
+    -- radio books a pair twice, whichever desk is asked for
+    ∷ sample (2 ∷ 0 ∷ 2 ∷ 1 ∷ 0 ∷ 2 ∷ 1 ∷ []) 1 lastShape (refusal 65 (5 ∷ []))
     ∷ []

@@ -33,10 +33,10 @@ pub data Asked : Type 0 where
   script : List ℕ → List ℕ → Asked
   -- "Largest": a template, a script and a grid
   largest : List ℕ → List ℕ → List ℕ → Asked
-  -- "Smallest": a template, a script, bookings and a grid
-  smallest : List ℕ → List ℕ → List ℕ → List ℕ → Asked
-  -- "Judge": a template, a script, bookings and a grid
-  judge : List ℕ → List ℕ → List ℕ → List ℕ → Asked
+  -- "Smallest": a template, a script, bookings, a desk and a grid
+  smallest : List ℕ → List ℕ → List ℕ → ℕ → List ℕ → Asked
+  -- "Judge": a template, a script, bookings, a desk and a grid
+  judge : List ℕ → List ℕ → List ℕ → ℕ → List ℕ → Asked
   -- "Tidy": a template, a script, bookings and a buffer
   tidy : List ℕ → List ℕ → List ℕ → List ℕ → Asked
   -- the printer's input
@@ -56,9 +56,10 @@ Gets (row number at (template words)) = templateSays words ≡ refusal number at
 Gets (row number at (fit words shape counts)) = FitSays words shape counts (refusal number at)
 Gets (row number at (script words list)) = scriptSays words list ≡ refusal number at
 Gets (row number at (largest words list grid)) = LargestSays words list grid grid (refusal number at)
-Gets (row number at (smallest words list bookings grid)) =
-    SmallestSays words list bookings grid (afterRefusal number grid) (refusal number at)
-Gets (row number at (judge words list bookings grid)) = JudgeSays words list bookings grid (refusal number at)
+Gets (row number at (smallest words list bookings desk grid)) =
+    SmallestSays words list bookings desk grid (afterRefusal number grid) (refusal number at)
+Gets (row number at (judge words list bookings desk grid)) =
+    JudgeSays words list bookings desk grid (refusal number at)
 Gets (row number at (tidy words list bookings out)) = TidySays words list bookings out out (refusal number at)
 Gets (row number at (printer bytes)) = saidOf (λ input. []) (readInput bytes) ≡ refusal number at
 
@@ -116,13 +117,13 @@ refusals =
     -- two equal links
     ∷ row 25 (5 ∷ []) (script plain (1 ∷ 2 ∷ 0 ∷ 0 ∷ 0 ∷ 0 ∷ 0 ∷ 0 ∷ []))
     -- no words
-    ∷ row 30 (0 ∷ []) (smallest plain alone [] (7 ∷ []))
+    ∷ row 30 (0 ∷ []) (smallest plain alone [] 0 (7 ∷ []))
     -- 1,025 bookings
-    ∷ row 31 (0 ∷ []) (smallest plain alone (1025 ∷ []) (7 ∷ []))
+    ∷ row 31 (0 ∷ []) (smallest plain alone (1025 ∷ []) 0 (7 ∷ []))
     -- a booking of card 1 where there is one card
-    ∷ row 32 (1 ∷ []) (smallest plain alone (1 ∷ 1 ∷ 0 ∷ []) (7 ∷ []))
+    ∷ row 32 (2 ∷ []) (smallest plain alone (1 ∷ 0 ∷ 1 ∷ 0 ∷ []) 0 (7 ∷ []))
     -- a booking of shape 1 where there is one shape
-    ∷ row 33 (2 ∷ []) (smallest plain alone (1 ∷ 0 ∷ 1 ∷ []) (7 ∷ []))
+    ∷ row 33 (3 ∷ []) (smallest plain alone (1 ∷ 0 ∷ 0 ∷ 1 ∷ []) 0 (7 ∷ []))
     -- a grid of no bytes
     ∷ row 40 (0 ∷ []) (largest plain alone [])
     -- no counts where there is one kind
@@ -132,26 +133,28 @@ refusals =
     -- a count of 8,193
     ∷ row 43 (0 ∷ []) (fit plain 0 (8193 ∷ 0 ∷ []))
     -- the worked sheet's booking that cannot be met
-    ∷ row 50 (0 ∷ 1 ∷ []) (smallest worked.template worked.script worked.unmetBookings worked.lastShape)
+    ∷ row 50 (0 ∷ 1 ∷ []) (smallest worked.template worked.script worked.unmetBookings 0 worked.lastShape)
     -- no bytes
     ∷ row 60 (0 ∷ []) (printer [])
     -- a byte of 2
-    ∷ row 61 (0 ∷ []) (judge plain alone (0 ∷ []) (2 ∷ []))
+    ∷ row 61 (0 ∷ []) (judge plain alone (0 ∷ []) 0 (2 ∷ []))
     -- the worked sheet, with two pairs that are not met
-    ∷ row 62 (1 ∷ 0 ∷ []) (judge worked.template worked.script worked.metBookings unmetGrid)
+    ∷ row 62 (1 ∷ 0 ∷ []) (judge worked.template worked.script worked.metBookings 0 unmetGrid)
     -- the worked sheet's booking that is not in the grid
-    ∷ row 63 (1 ∷ []) (judge worked.template worked.script worked.unmetBookings worked.lastShape)
+    ∷ row 63 (2 ∷ []) (judge worked.template worked.script worked.unmetBookings 0 worked.lastShape)
     -- the word of an open shape twice
     ∷ row 64 (4 ∷ []) (template (1 ∷ 1 ∷ 3 ∷ 18 ∷ 18 ∷ 0 ∷ []))
-    -- a pair that is booked twice
-    ∷ row 65 (3 ∷ []) (smallest plain alone (2 ∷ 0 ∷ 0 ∷ 0 ∷ 0 ∷ []) (7 ∷ []))
+    -- a pair that a desk books twice
+    ∷ row 65 (5 ∷ []) (smallest plain alone (2 ∷ 0 ∷ 0 ∷ 0 ∷ 0 ∷ 0 ∷ 0 ∷ []) 0 (7 ∷ []))
+    -- a booking of desk 2
+    ∷ row 66 (1 ∷ []) (smallest plain alone (1 ∷ 2 ∷ 0 ∷ 0 ∷ []) 0 (7 ∷ []))
     ∷ []
 
 -- The numbers of docs/FORMAT.md.
 abbrev pub listed : List ℕ
 listed =
     1 ∷ 2 ∷ 3 ∷ 4 ∷ 5 ∷ 6 ∷ 7 ∷ 8 ∷ 9 ∷ 10 ∷ 11 ∷ 12 ∷ 20 ∷ 21 ∷ 22 ∷ 23 ∷ 24 ∷ 25 ∷ 30 ∷ 31 ∷ 32 ∷ 33
-    ∷ 40 ∷ 41 ∷ 42 ∷ 43 ∷ 50 ∷ 60 ∷ 61 ∷ 62 ∷ 63 ∷ 64 ∷ 65 ∷ []
+    ∷ 40 ∷ 41 ∷ 42 ∷ 43 ∷ 50 ∷ 60 ∷ 61 ∷ 62 ∷ 63 ∷ 64 ∷ 65 ∷ 66 ∷ []
 
 -- The numbers of some rows.
 abbrev pub numbersOf : List Row → List ℕ
@@ -208,13 +211,13 @@ others =
     -- a link leads to card 1 where there is one card
     ∷ row 23 (4 ∷ []) (script plain (1 ∷ 1 ∷ 0 ∷ 0 ∷ 1 ∷ []))
     -- a word too few for its count of bookings
-    ∷ row 30 (0 ∷ []) (smallest plain alone (1 ∷ 0 ∷ []) (7 ∷ []))
+    ∷ row 30 (0 ∷ []) (smallest plain alone (1 ∷ 0 ∷ 0 ∷ []) 0 (7 ∷ []))
     -- a grid of two bytes where there is one pair
-    ∷ row 40 (0 ∷ []) (smallest plain alone (0 ∷ []) (7 ∷ 7 ∷ []))
+    ∷ row 40 (0 ∷ []) (smallest plain alone (0 ∷ []) 0 (7 ∷ 7 ∷ []))
     -- a grid of no bytes, judged
-    ∷ row 40 (0 ∷ []) (judge plain alone (0 ∷ []) [])
-    -- a buffer of two words for a list of three
-    ∷ row 40 (0 ∷ []) (tidy plain alone (1 ∷ 0 ∷ 0 ∷ []) (7 ∷ 7 ∷ []))
+    ∷ row 40 (0 ∷ []) (judge plain alone (0 ∷ []) 0 [])
+    -- a buffer of three words for one booking
+    ∷ row 40 (0 ∷ []) (tidy plain alone (1 ∷ 0 ∷ 0 ∷ []) (7 ∷ 7 ∷ 7 ∷ []))
     -- one count where there is one kind, which leaves and arrives
     ∷ row 41 (0 ∷ []) (fit plain 0 (0 ∷ []))
     -- 8,193 arriving links
@@ -226,6 +229,9 @@ others =
     -- the word of an open shape in a star, and in a group
     ∷ row 64 (4 ∷ []) (template (1 ∷ 1 ∷ 3 ∷ 1 ∷ 18 ∷ 0 ∷ []))
     ∷ row 64 (6 ∷ []) (template (1 ∷ 1 ∷ 5 ∷ 17 ∷ 2 ∷ 0 ∷ 18 ∷ 0 ∷ []))
-    -- a pair that is booked twice, and a grid of no bytes
-    ∷ row 65 (3 ∷ []) (judge plain alone (2 ∷ 0 ∷ 0 ∷ 0 ∷ 0 ∷ []) [])
+    -- a pair that television books twice, desk 2 and a grid of no bytes
+    ∷ row 65 (5 ∷ []) (judge plain alone (2 ∷ 1 ∷ 0 ∷ 0 ∷ 1 ∷ 0 ∷ 0 ∷ []) 2 [])
+    -- desk 2 is asked for, with a grid of no bytes
+    ∷ row 66 (0 ∷ []) (smallest plain alone (0 ∷ []) 2 [])
+    ∷ row 66 (0 ∷ []) (judge plain alone (0 ∷ []) 2 [])
     ∷ []

@@ -1,6 +1,6 @@
-// Judges the grids of the cases that standard input holds. A case is a template, a script, bookings and a grid, each
-// after its length in two bytes, low first: of the files in words, of the grid in bytes. Its line is `accepted`,
-// `refused NUMBER PLACE`, or of 62 `refused 62 CARD SHAPE`.
+// Judges the grids of the cases that standard input holds. A case is a template, a script, bookings, a desk and a grid,
+// each after its length in two bytes, low first: of the files and the desk in words, of the grid in bytes. Its line is
+// `accepted`, `refused NUMBER PLACE`, or of 62 `refused 62 CARD SHAPE`.
 use calls::judge;
 use io::read_full;
 use sections::FILE_WORDS;
@@ -12,8 +12,8 @@ use sections::text;
 use typing::JudgeAnswer;
 
 // The line of one case.
-fn answer(template: &[u16], script: &[u16], bookings: &[u16], grid: &[u8]) {
-    let said = judge(template, script, bookings, grid);
+fn answer(template: &[u16], script: &[u16], bookings: &[u16], desk: u16, grid: &[u8]) {
+    let said = judge(template, script, bookings, desk, grid);
     match said {
         JudgeAnswer::Accepted => text(b"accepted"),
         JudgeAnswer::NotMet(card, shape) => {
@@ -31,12 +31,25 @@ fn answer(template: &[u16], script: &[u16], bookings: &[u16], grid: &[u8]) {
 }
 
 // Reads the bytes of a grid into a buffer of its length and judges it, unless the input ends before.
-fn judge_grid(template: &[u16], script: &[u16], bookings: &[u16], grid: &mut [u8]) -> bool {
+fn judge_grid(
+    template: &[u16],
+    script: &[u16],
+    bookings: &[u16],
+    desk: u16,
+    grid: &mut [u8],
+) -> bool {
     if read_full(libc::STDIN_FILENO, grid) < grid.len() {
         return false;
     }
-    answer(template, script, bookings, grid);
+    answer(template, script, bookings, desk, grid);
     true
+}
+
+// Reads the desk: its section has one word, and a section that has not stands for desk 0.
+fn read_desk() -> u16 {
+    let mut words = [0u16; 2];
+    read_words(&mut words);
+    words[0]
 }
 
 // Judges the next case, and answers whether there was one.
@@ -47,6 +60,7 @@ fn judge_next() -> bool {
     let s = read_words(&mut script);
     let mut bookings = [0u16; FILE_WORDS];
     let b = read_words(&mut bookings);
+    let desk = read_desk();
     let size = next_length();
     if MOST <= size {
         return false;
@@ -56,6 +70,7 @@ fn judge_next() -> bool {
         &template[..t],
         &script[..s],
         &bookings[..b],
+        desk,
         &mut grid[0..size],
     )
 }

@@ -2,7 +2,8 @@
 -- LeavingTested, ArrivingTested   what testing what the links from a card, and those to it, ask for asks
 -- GridAsked    what testing the pairs of a grid asks; MetAsked: and one pair
 -- Failing      a pair of a grid is not met under it
--- HeldAsked    what looking for the bookings asks; Missing: a booking is not in the grid
+-- PairAsked    what looking for one booking asks; HeldAsked: for all
+-- Missing      a booking of a desk is not in the grid
 -- Assumes nothing.
 use Prim.Native.Nat.{ℕ, _+_, _*_, _≤_, _<_}
 use mathlib.Core.Path.{_≡_}
@@ -12,8 +13,8 @@ use lib.ListN.{length, getD}
 use Rattle.bags.specs.Label.{outgoing, incoming}
 use Rattle.script.specs.Index.{ArrivalsOf}
 use Rattle.board.specs.Grid.{on}
-use Rattle.bookings.specs.Bookings.{cardAt, shapeAt}
-use Rattle.bookings.specs.Steps.{Sized}
+use Rattle.bookings.specs.Bookings.{deskAt, cardAt, shapeAt}
+use Rattle.bookings.specs.Steps.{Sized, WordsIn}
 use Rattle.typing.specs.Needs.{metTest}
 use Rattle.search.specs.Walks.{LinksReady}
 use Rattle.search.specs.Follows.{RowAsked}
@@ -48,13 +49,19 @@ abbrev pub Failing : List ℕ → List ℕ → ℕ → List ℕ → List ℕ →
 Failing script names shapes fits grid p =
     (on grid p ≡ true) × (metTest script names shapes fits (on grid) p ≡ false)
 
--- What looking for the bookings in a grid asks.
+-- What looking for one booking in a grid asks.
+pub record PairAsked (bookings : List ℕ) (i shapes : ℕ) (grid : List ℕ) : Type 0 where
+  pub words : WordsIn 3 bookings i
+  pub inside : cardAt bookings i * shapes + shapeAt bookings i < length grid
+
+-- What looking for all of them asks.
 pub record HeldAsked (bookings : List ℕ) (count shapes : ℕ) (grid : List ℕ) : Type 0 where
   pub cards : ℕ
-  pub sized : Sized bookings count
+  pub sized : Sized 3 bookings count
   pub full : length grid ≡ cards * shapes
   pub booked-in : BookingsIn bookings cards shapes count
 
--- The grid has not the pair of booking i.
-abbrev pub Missing : List ℕ → ℕ → List ℕ → ℕ → Type 0
-Missing bookings shapes grid i = on grid (cardAt bookings i * shapes + shapeAt bookings i) ≡ false
+-- Booking i is the desk's, and the grid has not its pair.
+abbrev pub Missing : List ℕ → ℕ → ℕ → List ℕ → ℕ → Type 0
+Missing bookings desk shapes grid i =
+    (deskAt bookings i ≡ desk) × (on grid (cardAt bookings i * shapes + shapeAt bookings i) ≡ false)

@@ -2,17 +2,19 @@
 ghost use mathlib.Core.Bool.{true};
 ghost use mathlib.Core.Logic.{_↔_};
 ghost use mathlib.Core.Path.{_≡_};
-ghost use Prim.Native.Nat.{ℕ, _<_};
+ghost use Prim.Native.Nat.{ℕ, _+_, _*_, _<_};
 ghost use lib.ListN.{length};
 ghost use Rattle.words.specs.First.{First};
 ghost use Rattle.bags.specs.Label.{outgoing, incoming as arriving};
 ghost use Rattle.board.specs.Grid.{on};
+ghost use Rattle.bookings.specs.Bookings.{cardAt, shapeAt};
 ghost use Rattle.typing.specs.Needs.{metTest};
 ghost use Rattle.search.specs.Walks.{Leaving, Arriving, HasAll};
 ghost use Rattle.search.specs.Follows.{EntryGood, LedGood};
 ghost use Rattle.judging.specs.Judging.{LeavingTested, ArrivingTested, GridAsked, MetAsked, Failing};
-ghost use Rattle.judging.specs.Judging.{HeldAsked, Missing};
+ghost use Rattle.judging.specs.Judging.{PairAsked, HeldAsked, Missing};
 use bookings::card_at;
+use bookings::desk_at;
 use bookings::shape_at;
 use words::MAX_KINDS;
 use words::MAX_LABELS;
@@ -153,17 +155,27 @@ pub fn first_unmet(
     place
 }
 
-// Finds the first of so many bookings that the grid does not hold: their count where there is none.
-pub fn first_unheld(bookings: &[u16], count: u16, shapes: usize, grid: &[u8]) -> usize
+// Whether the grid has the pair of booking i.
+fn is_held(bookings: &[u16], i: usize, shapes: usize, grid: &[u8]) -> bool
+    requires { ⌜ PairAsked (now bookings) i shapes (now grid) ⌝ }
+    ensures { λ r. ⌜ r ≡ on (now (grid .entry))
+        (cardAt (now (bookings .entry)) i * shapes + shapeAt (now (bookings .entry)) i) ⌝ }
+{
+    let card = wide(card_at(bookings, i));
+    let shape = wide(shape_at(bookings, i));
+    grid[card * shapes + shape] == 1
+}
+
+// Finds the first of so many bookings that is the desk's and that the grid does not hold: their count where there is
+// none.
+pub fn first_unheld(bookings: &[u16], count: u16, desk: u16, shapes: usize, grid: &[u8]) -> usize
     requires { ⌜ HeldAsked (now bookings) count shapes (now grid) ⌝ }
-    ensures { λ r. ⌜ First (Missing (now (bookings .entry)) shapes (now (grid .entry))) count r ⌝ }
+    ensures { λ r. ⌜ First (Missing (now (bookings .entry)) desk shapes (now (grid .entry))) count r ⌝ }
 {
     let pairs = wide(count);
     let mut i = 0;
     while i < pairs {
-        let card = wide(card_at(bookings, i));
-        let shape = wide(shape_at(bookings, i));
-        if grid[card * shapes + shape] != 1 {
+        if desk_at(bookings, i) == desk && !is_held(bookings, i, shapes, grid) {
             return i;
         }
         i += 1;

@@ -1,35 +1,35 @@
 -- From what the calls find to what is printed of a sheet.
 --   refused-written    template, script or bookings are refused
 --   same-words         equal words are printed alike
---   pairs-written, not-met-written   what is printed of both typings, by how the bookings fared
+--   desks-written      what is printed of the largest typing and of each desk's smallest, by how its bookings fared
 -- Assumes nothing.
-use mathlib.Core.Path.{_≡_, refl, sym, ap, ap₂, _∙_, subst}
+use mathlib.Core.Path.{_≡_, refl, sym, ap₂, subst}
 use mathlib.Core.List.{List, [], _∷_, _++_}
 use Prim.Native.Nat.{ℕ}
 use Rattle.words.specs.Said.{values, refusal}
-use Rattle.words.specs.Reading.{Reading, turnedDown, then}
+use Rattle.words.specs.Reading.{Reading, turnedDown}
 use Rattle.words.specs.Wrote.{Wrote}
 use Rattle.words.proofs.Said.{values-refusal}
 use Rattle.words.proofs.Writing.{wrote-append}
 use Rattle.text.specs.Text.{notMetLine, refusedLine}
-use Rattle.template.specs.declared.Shape.{Shape}
-use Rattle.script.specs.declared.Card.{Card}
-use Rattle.sheet.specs.Sheet.{Sheet, readSheet}
+use Rattle.sheet.specs.Sheet.{Sheet}
 use Rattle.sheet.specs.declared.Extent.{Extent}
-use Rattle.bookings.specs.Bookings.{Booked}
+use Rattle.typing.specs.declared.Settled.{Settled}
+use Rattle.typing.specs.declared.Settled.the-variants as settled
+use Rattle.typing.specs.declared.Desks.{Desks}
 use Rattle.typing.specs.Demand3.{Outcome, pairs, notMet}
-use Rattle.typing.specs.Calls.{withBookings, outcomeSaid, LargestFound, BothFound}
-use Rattle.calls.specs.declared.Both.{Both}
-use Rattle.calls.specs.declared.Settled.the-variants as settled
-use Rattle.calls.specs.Steps.{Listed, settledSaid, bothOf}
+use Rattle.typing.specs.Answer.{settledSaid}
+use Rattle.typing.specs.Calls.{listedReading, outcomeSaid, LargestFound}
+use Rattle.typing.specs.Desks.{DeskGrids, DesksFound}
+use Rattle.calls.specs.Steps.{Listed, desksOf}
 use Rattle.calls.proofs.Known.{sheet}
 use Rattle.calls.proofs.Readings.{listed-asked}
 use Rattle.printer.specs.Printed.{largestText, pairsText, smallestText, PrintsSheet}
-use Rattle.printer.specs.Steps.{SheetWritten}
+use Rattle.printer.specs.Steps.{settledText, SheetWritten}
 
 -- Template, script or bookings are refused.
 pub refused-written : {template script bookings before after : List ℕ} {number place next : ℕ}
-    → then (readSheet template script) (withBookings bookings) ≡ turnedDown number place
+    → listedReading template script bookings ≡ turnedDown number place
     → Wrote before 0 (refusedLine number place) after next → SheetWritten template script bookings before after next
 refused-written {bookings = bookings} {number = number} {place = place} e w = record {
   text = refusedLine number place;
@@ -67,42 +67,40 @@ not-met-text s grid n t (notMet m u) e =
     let j : t ≡ u = cc in
     rw (i, j) refl
 
--- ---- what is written of both typings
-abbrev largeText : Both → List ℕ → Extent → List ℕ
+-- by how a desk's bookings fared
+settled-text : (s : Sheet) (grid : List ℕ) (found : Settled) (o : Outcome) → settledSaid found ≡ outcomeSaid o
+    → settledText found grid (s .shapes) (s .cards) ≡ smallestText s grid o
+settled-text s grid (settled.Pairs m) o e = pairs-text s grid m o e
+settled-text s grid (settled.NotMet card shape) o e = not-met-text s grid (card .0) (shape .0) o e
+
+-- ---- what is written of the typings of both desks
+abbrev largeText : Desks → List ℕ → Extent → List ℕ
 largeText found large e =
     largestText (found .largest .rounds) (found .largest .struck) (found .largest .bare) large (e .shapes) (e .cards)
 
-module _ {template script names : List ℕ} {e : Extent} {bookings : List ℕ} {count : ℕ}
-    (l : Listed template script names e bookings count) {small large : List ℕ} (found : Both)
-    (b : BothFound (sheet (l .known)) (Booked bookings) small large (bothOf found)) {out mid done : List ℕ}
-    {at next : ℕ} where
-  -- the lines of the largest, and then those that the outcome of the bookings asks for
-  both-written : (lines : List ℕ) → lines ≡ smallestText (sheet (l .known)) small (b .smallest .outcome)
-      → Wrote out 0 (largeText found large e) mid at → Wrote mid at lines done next
-      → SheetWritten template script bookings out done next
-  both-written lines same w v = record {
-    text = largeText found large e ++ lines;
-    prints = subst (λ (r : Reading Sheet). PrintsSheet r bookings (largeText found large e ++ lines))
-        (sym (listed-asked l)) (record {
-          small = small;
-          large = large;
-          said = bothOf found;
-          found = b;
-          prints = ap₂ _++_ (largest-text (b .largest) (e .shapes) (e .cards)) same;
-        });
-    wrote = wrote-append w v;
-  }
-
-  pub pairs-written : {m : ℕ} → found .smallest ≡ settled.Pairs m → Wrote out 0 (largeText found large e) mid at
-      → Wrote mid at (pairsText m small (e .shapes) (e .cards)) done next
-      → SheetWritten template script bookings out done next
-  pairs-written {m} h =
-      both-written _ (pairs-text (sheet (l .known)) small m (b .smallest .outcome)
-      (sym (ap settledSaid h) ∙ b .smallest .says))
-
-  pub not-met-written : {card : Card} {shape : Shape} → found .smallest ≡ settled.NotMet card shape
-      → Wrote out 0 (largeText found large e) mid at → Wrote mid at (notMetLine (card .0) (shape .0)) done next
-      → SheetWritten template script bookings out done next
-  not-met-written {card} {shape} h =
-      both-written _ (not-met-text (sheet (l .known)) small (card .0) (shape .0) (b .smallest .outcome)
-      (sym (ap settledSaid h) ∙ b .smallest .says))
+-- the lines of the largest, and then those of each desk
+pub desks-written : {template script names : List ℕ} {e : Extent} {bookings : List ℕ} {count : ℕ}
+    (l : Listed template script names e bookings count) {grids : DeskGrids} (found : Desks)
+    → DesksFound (sheet (l .known)) bookings grids (desksOf found) → {out mid more done : List ℕ} {at then next : ℕ}
+    → Wrote out 0 (largeText found (grids .large) e) mid at
+    → Wrote mid at (settledText (found .radio) (grids .radio) (e .shapes) (e .cards)) more then
+    → Wrote more then (settledText (found .television) (grids .television) (e .shapes) (e .cards)) done next
+    → SheetWritten template script bookings out done next
+desks-written {e = e} {bookings = bookings} l {grids} found d w v u =
+    let s = sheet (l .known) in
+    let radio = settledText (found .radio) (grids .radio) (e .shapes) (e .cards) in
+    let television = settledText (found .television) (grids .television) (e .shapes) (e .cards) in
+    let text = largeText found (grids .large) e ++ (radio ++ television) in
+    record {
+      text = text;
+      prints = subst (λ (r : Reading Sheet). PrintsSheet r bookings text) (sym (listed-asked l)) (record {
+        grids = grids;
+        said = desksOf found;
+        found = d;
+        prints = ap₂ _++_ (largest-text (d .radio .largest) (e .shapes) (e .cards)) (ap₂ _++_
+            (settled-text s (grids .radio) (found .radio) (d .radio .smallest .outcome) (d .radio .smallest .says))
+            (settled-text s (grids .television) (found .television) (d .television .smallest .outcome)
+            (d .television .smallest .says)));
+      });
+      wrote = wrote-append w (wrote-append v u);
+    }

@@ -4,19 +4,18 @@
 --   written-unique         one buffer and one number of bytes
 -- Assumes nothing.
 use mathlib.Core.Path.{_≡_, refl, sym, ap, ap₂, _∙_}
-use mathlib.Core.Bool.{true}
 use mathlib.Core.List.{List, [], _∷_, _++_}
 use Prim.Native.Nat.{ℕ}
 use lib.ListN.{length, drop, take-append-drop}
-use Rattle.words.specs.Said.{values}
-use Rattle.words.specs.Reading.{Reading, accepted, turnedDown, then}
+use Rattle.words.specs.Said.{Said, values}
+use Rattle.words.specs.Reading.{Reading, accepted, turnedDown}
 use Rattle.input.specs.Input.{Input, readInput}
 use Rattle.sheet.specs.Sheet.{Sheet, readSheet}
 use Rattle.bookings.specs.Bookings.{Booked}
 use Rattle.typing.specs.Demand3.{Outcome, pairs, notMet}
-use Rattle.typing.specs.Calls.{withBookings, outcomeSaid}
+use Rattle.typing.specs.Calls.{listedReading, outcomeSaid, SmallestFound}
 use Rattle.typing.proofs.Smallest.{BookedIn}
-use Rattle.typing.proofs.Booked.{bookings-asked}
+use Rattle.typing.proofs.Booked.{list-asked}
 use Rattle.typing.proofs.Unique.{Represented, both-found-unique}
 use Rattle.typing.proofs.Existence.{represented}
 use Rattle.printer.specs.Printed.{largestText, smallestText, SheetPrinted, PrintsSheet, PrintsInput, Prints}
@@ -37,31 +36,41 @@ largest-same {a} {b} {c} {x} {y} {z} shapes cards e f =
     let k : c ≡ z = cc in
     rw (i, j, k, f) refl
 
-sheet-printed-unique : {s : Sheet} {bookings a b : List ℕ} → Represented (accepted s) → BookedIn s (Booked bookings)
+-- The text of a desk's smallest is told by what is said of it and by its grid.
+smallest-same : (s : Sheet) {P Q : ℕ → ℕ → Type 0} {g h : List ℕ} {a b : Said} (x : SmallestFound s P g a)
+    (y : SmallestFound s Q h b) → a ≡ b → g ≡ h
+    → smallestText s g (x .outcome) ≡ smallestText s h (y .outcome)
+smallest-same s x y e f =
+    ap₂ (smallestText s) f (outcome-said-unique (x .outcome) (y .outcome) (sym (x .says) ∙ e ∙ y .says))
+
+sheet-printed-unique : {s : Sheet} {bookings a b : List ℕ} → Represented (accepted s)
+    → ((desk : ℕ) → BookedIn s (Booked bookings desk))
     → SheetPrinted s bookings a → SheetPrinted s bookings b → a ≡ b
 sheet-printed-unique {s} sheets inside x y =
-    let (l, m, small, large) = both-found-unique (sheets s refl .1) inside (x .found) (y .found) in
-    let outcome = outcome-said-unique (x .found .smallest .outcome) (y .found .smallest .outcome)
-    (sym (x .found .smallest .says) ∙ m ∙ y .found .smallest .says) in
+    let (l, r, radio, large) = both-found-unique (sheets s refl .1) (inside 0) (x .found .radio) (y .found .radio) in
+    let (_, t, television, _) =
+    both-found-unique (sheets s refl .1) (inside 1) (x .found .television) (y .found .television) in
     x .prints
     ∙ ap₂ _++_
-    (largest-same (s .shapes) (s .cards) (sym (x .found .largest .says) ∙ l ∙ y .found .largest .says) large)
-    (ap₂ (smallestText s) small outcome)
+    (largest-same (s .shapes) (s .cards)
+    (sym (x .found .radio .largest .says) ∙ l ∙ y .found .radio .largest .says) large)
+    (ap₂ _++_ (smallest-same s (x .found .radio .smallest) (y .found .radio .smallest) r radio)
+    (smallest-same s (x .found .television .smallest) (y .found .television .smallest) t television))
     ∙ sym (y .prints)
 
 module _ (template script bookings : List ℕ) {a b : List ℕ} where
-  sheet-unique : (r : Reading Sheet) → then (readSheet template script) (withBookings bookings) ≡ r
+  sheet-unique : (r : Reading Sheet) → listedReading template script bookings ≡ r
       → PrintsSheet r bookings a → PrintsSheet r bookings b → a ≡ b
   sheet-unique (turnedDown number place) e x y = x ∙ sym y
   sheet-unique (accepted s) e x y =
-      let (asked, inside) = bookings-asked true bookings (readSheet template script) s e in
+      let (asked, inside) = list-asked bookings (readSheet template script) s e in
       sheet-printed-unique (λ q same. represented template script q (asked ∙ same)) inside x y
 
 input-unique : {a b : List ℕ} (r : Reading Input) → PrintsInput r a → PrintsInput r b → a ≡ b
 input-unique (turnedDown number place) x y = x ∙ sym y
 input-unique (accepted i) x y =
-    sheet-unique (i .template) (i .script) (i .bookings)
-    (then (readSheet (i .template) (i .script)) (withBookings (i .bookings))) refl x y
+    sheet-unique (i .template) (i .script) (i .bookings) (listedReading (i .template) (i .script) (i .bookings)) refl
+    x y
 
 pub prints-unique : (input : List ℕ) {a b : List ℕ} → Prints input a → Prints input b → a ≡ b
 prints-unique input x y = input-unique (readInput input) x y

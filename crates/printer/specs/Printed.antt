@@ -1,6 +1,6 @@
 -- What the sheet printer writes for its input, from bytes to bytes (docs/FORMAT.md, "The printer").
 -- largestText, pairsText   the lines of the largest typing, and of the smallest
--- smallestText    those of the smallest, or the one line of 50
+-- smallestText    those of a desk's smallest, or the one line of 50
 -- SheetPrinted    the text of a sheet whose template, script and bookings are read
 -- Prints          the text for any input
 -- Written         it was written to the front of a buffer
@@ -9,14 +9,14 @@ use Prim.Native.Nat.{ℕ, _≤_}
 use mathlib.Core.Path.{_≡_}
 use mathlib.Core.List.{List, _++_}
 use lib.ListN.{length, take, drop}
-use Rattle.words.specs.Reading.{Reading, accepted, turnedDown, then}
+use Rattle.words.specs.Reading.{Reading, accepted, turnedDown}
 use Rattle.text.specs.Text.{cardLines, largestLine, smallestLine, notMetLine, refusedLine}
 use Rattle.input.specs.Input.{Input, readInput}
-use Rattle.sheet.specs.Sheet.{Sheet, readSheet}
-use Rattle.bookings.specs.Bookings.{Booked}
-use Rattle.typing.specs.Answer.{BothSaid}
+use Rattle.sheet.specs.Sheet.{Sheet}
+use Rattle.typing.specs.Answer.{DesksSaid}
 use Rattle.typing.specs.Demand3.{Outcome, pairs, notMet}
-use Rattle.typing.specs.Calls.{withBookings, BothFound}
+use Rattle.typing.specs.Calls.{listedReading}
+use Rattle.typing.specs.Desks.{DeskGrids, DesksFound}
 
 -- The line of the largest typing: rounds, pairs struck, cards with some link and no shape. Then a line for each
 -- card.
@@ -27,19 +27,20 @@ largestText rounds struck bare grid shapes cards = largestLine rounds struck bar
 abbrev pub pairsText : ℕ → List ℕ → ℕ → ℕ → List ℕ
 pairsText m grid shapes cards = smallestLine m ++ cardLines grid shapes cards
 
--- The smallest typing; or the one line of 50, its card and its shape, with no card lines after it.
+-- A desk's smallest typing; or the one line of 50, its card and its shape, with no card lines after it.
 abbrev pub smallestText : Sheet → List ℕ → Outcome → List ℕ
 smallestText s grid (pairs m) = pairsText m grid (s .shapes) (s .cards)
 smallestText s grid (notMet n t) = notMetLine n t
 
--- The two typings of the sheet, with the numbers that the calls say.
+-- The largest typing of the sheet and then each desk's smallest, radio's first, with the numbers that the calls say.
 pub record SheetPrinted (s : Sheet) (bookings text : List ℕ) : Type 0 where
-  pub small : List ℕ
-  pub large : List ℕ
-  pub said : BothSaid
-  pub found : BothFound s (Booked bookings) small large said
-  pub prints : text ≡ largestText (found .largest .rounds) (found .largest .struck) (found .largest .bare) large
-      (s .shapes) (s .cards) ++ smallestText s small (found .smallest .outcome)
+  pub grids : DeskGrids
+  pub said : DesksSaid
+  pub found : DesksFound s bookings grids said
+  pub prints : text ≡ largestText (found .radio .largest .rounds) (found .radio .largest .struck)
+      (found .radio .largest .bare) (grids .large) (s .shapes) (s .cards)
+      ++ (smallestText s (grids .radio) (found .radio .smallest .outcome)
+      ++ smallestText s (grids .television) (found .television .smallest .outcome))
 
 -- Any refusal but 50 prints only its number and its place.
 abbrev pub PrintsSheet : Reading Sheet → List ℕ → List ℕ → Type 0
@@ -50,7 +51,7 @@ PrintsSheet (accepted s) bookings text = SheetPrinted s bookings text
 abbrev pub PrintsInput : Reading Input → List ℕ → Type 0
 PrintsInput (turnedDown number place) text = text ≡ refusedLine number place
 PrintsInput (accepted i) text =
-    PrintsSheet (then (readSheet (i .template) (i .script)) (withBookings (i .bookings))) (i .bookings) text
+    PrintsSheet (listedReading (i .template) (i .script) (i .bookings)) (i .bookings) text
 
 -- The text for the input's bytes.
 abbrev pub Prints : List ℕ → List ℕ → Type 0

@@ -4,11 +4,10 @@ ghost use lib.ListN.{length};
 ghost use Rattle.input.specs.Machine.{wordsIn};
 ghost use Rattle.words.specs.Wrote.{Wrote};
 ghost use Rattle.printer.specs.Printed.{largestText, pairsText, Written};
-ghost use Rattle.printer.specs.Steps.{textRoom, partIn, Putting, Printing, Parted, SectionsLaid, SheetWritten};
+ghost use Rattle.printer.specs.Steps.{textRoom, settledText, partIn, Putting, Printing, Parted, SectionsLaid};
+ghost use Rattle.printer.specs.Steps.{SheetWritten};
 use calls::BookedRead;
-use calls::Settled;
-use calls::Struck;
-use calls::both_of;
+use calls::desks_of;
 use calls::grid_size;
 use calls::read_booked;
 use input::Section;
@@ -21,12 +20,14 @@ use text::put_largest;
 use text::put_not_met;
 use text::put_refused;
 use text::put_smallest;
+use typing::Settled;
+use typing::Struck;
 use words::MAX_GRID;
 use words::MAX_INPUT;
 use words::TABLE_SIZE;
 
 // Room for the text of any sheet, as specs/Steps has it.
-pub const TEXT_ROOM: usize = 262144;
+pub const TEXT_ROOM: usize = 393216;
 
 // Words of the longest input.
 const MAX_WORDS: usize = MAX_INPUT / 2;
@@ -59,7 +60,26 @@ fn put_small(
     put_cards(out, first, grid, shapes, cards)
 }
 
-// The text of a sheet and bookings that are read, with the two grids lent.
+// Writes how a desk's bookings fared: its smallest typing, or the pair that is not met.
+fn put_settled(
+    out: &mut [u8],
+    at: usize,
+    found: Settled,
+    grid: &[u8],
+    shapes: usize,
+    cards: usize,
+) -> usize
+    requires { ⌜ Putting (now grid) shapes cards at (now out) ⌝ }
+    ensures { λ r. ⌜ Wrote (now (out .entry)) at (settledText found (now (grid .entry)) shapes cards)
+        (now (out .exit)) r ⌝ }
+{
+    match found {
+        Settled::Pairs(pairs) => put_small(out, at, pairs, grid, shapes, cards),
+        Settled::NotMet(card, shape) => put_not_met(out, at, card.0 as usize, shape.0 as usize),
+    }
+}
+
+// The text of a sheet and bookings that are read, with the grids lent.
 fn print_grids(
     template: &[u16],
     script: &[u16],
@@ -67,24 +87,34 @@ fn print_grids(
     count: u16,
     names: &[u8],
     e: Extent,
-    small: &mut [u8],
+    radio: &mut [u8],
+    television: &mut [u8],
     large: &mut [u8],
     out: &mut [u8],
 ) -> usize
-    requires { ⌜ Printing (now template) (now script) (now names) e (now bookings) count (now small) (now large)
-        (now out) ⌝ }
+    requires { ⌜ Printing (now template) (now script) (now names) e (now bookings) count (now radio)
+        (now television) (now large) (now out) ⌝ }
     ensures { λ r. ⌜ SheetWritten (now (template .entry)) (now (script .entry)) (now (bookings .entry))
         (now (out .entry)) (now (out .exit)) r ⌝ }
 {
-    let found = both_of(template, script, bookings, count, names, e, small, large);
+    let found = desks_of(
+        template,
+        script,
+        bookings,
+        count,
+        names,
+        e,
+        radio,
+        television,
+        large,
+    );
     let shapes = e.shapes as usize;
     let cards = e.cards as usize;
-    let at = put_large(out, found.largest, large, shapes, cards);
-    let settled = found.smallest;
-    match settled {
-        Settled::Pairs(pairs) => put_small(out, at, pairs, small, shapes, cards),
-        Settled::NotMet(card, shape) => put_not_met(out, at, card.0 as usize, shape.0 as usize),
-    }
+    let first = put_large(out, found.largest, large, shapes, cards);
+    let one = found.radio;
+    let second = put_settled(out, first, one, radio, shapes, cards);
+    let other = found.television;
+    put_settled(out, second, other, television, shapes, cards)
 }
 
 // The text of a template, a script and bookings.
@@ -99,7 +129,8 @@ fn print_words(template: &[u16], script: &[u16], bookings: &[u16], out: &mut [u8
         BookedRead::Refused(number, place) => put_refused(out, 0, number as usize, place),
         BookedRead::Sheet(e, count) => {
             let size = grid_size(e);
-            let mut small = [0u8; MAX_GRID];
+            let mut radio = [0u8; MAX_GRID];
+            let mut television = [0u8; MAX_GRID];
             let mut large = [0u8; MAX_GRID];
             print_grids(
                 template,
@@ -108,7 +139,8 @@ fn print_words(template: &[u16], script: &[u16], bookings: &[u16], out: &mut [u8
                 count,
                 &names,
                 e,
-                &mut small[0..size],
+                &mut radio[0..size],
+                &mut television[0..size],
                 &mut large[0..size],
                 out,
             )

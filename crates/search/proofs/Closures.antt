@@ -17,11 +17,11 @@ use Rattle.typing.proofs.Boards.{board-inside}
 use Rattle.search.specs.Closing.{BookingsIn, Marked, Closes}
 use Rattle.search.proofs.Marks.{booked-in}
 
-pub closes : {script names bookings before after grid : List ℕ} {shapes k found : ℕ}
+pub closes : {script names bookings before after grid : List ℕ} {desk shapes k found : ℕ}
     → Ready script names shapes → BookingsIn bookings (getD script 0 0) shapes k
-    → length before ≡ getD script 0 0 * shapes → Marked bookings shapes k before
+    → length before ≡ getD script 0 0 * shapes → Marked bookings desk shapes k before
     → Followed script names shapes before after found → Flipped after grid
-    → Closes script names shapes bookings k grid found
+    → Closes script names shapes bookings desk k grid found
 closes ready inside full marked followed flipped = record {
   full = flipped .full ∙ followed .full ∙ full;
   marks = flipped .marks;

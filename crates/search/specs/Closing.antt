@@ -1,6 +1,6 @@
 -- The closure of the bookings, and whether its pairs fit; no part of a promise.
 -- BookingsIn   the bookings are of cards and shapes of the sheet
--- BookedAt     a booking is of the pair at a place
+-- BookedAt     a booking of a desk is of the pair at a place
 -- MarkAsked, Marked       turning the booked pairs off: what that asks, and just these are off
 -- CloseAsked, Closes      a grid is the closure of the bookings
 -- UnfitAsked, UnfitFound  the lowest pair of the closure that does not fit, if there is one
@@ -16,7 +16,7 @@ use Rattle.board.specs.Grid.{on}
 use Rattle.board.specs.Machine.{Marks, FirstMissing}
 use Rattle.board.specs.Board.{Flooded}
 use Rattle.typing.specs.Needs.{boardOf}
-use Rattle.bookings.specs.Bookings.{cardAt, shapeAt}
+use Rattle.bookings.specs.Bookings.{deskAt, cardAt, shapeAt}
 use Rattle.bookings.specs.Steps.{Sized}
 use Rattle.search.specs.Walks.{LinksReady}
 use Rattle.search.specs.declared.Unfit.{Unfit}
@@ -26,43 +26,45 @@ use Rattle.search.specs.declared.Unfit.the-variants as unfit
 abbrev pub BookingsIn : List ℕ → ℕ → ℕ → ℕ → Type 0
 BookingsIn bookings cards shapes k = (i : ℕ) → i < k → (cardAt bookings i < cards) × (shapeAt bookings i < shapes)
 
--- One of the first k bookings is the pair at place p.
-pub record BookedAt (bookings : List ℕ) (shapes k p : ℕ) : Type 0 where
+-- One of the first k bookings is the desk's, and of the pair at place p.
+pub record BookedAt (bookings : List ℕ) (desk shapes k p : ℕ) : Type 0 where
   pub booking : ℕ
   pub listed : booking < k
+  pub ours : deskAt bookings booking ≡ desk
   pub at : p ≡ cardAt bookings booking * shapes + shapeAt bookings booking
 
--- What turning the pairs of the bookings off asks: a grid that has every pair.
+-- What turning the pairs of a desk's bookings off asks: a grid that has every pair.
 pub record MarkAsked (bookings : List ℕ) (count cards shapes : ℕ) (grid : List ℕ) : Type 0 where
-  pub sized : Sized bookings count
+  pub sized : Sized 3 bookings count
   pub full : length grid ≡ cards * shapes
   pub few-cards : cards ≤ maxCards
   pub few-shapes : shapes ≤ maxShapes
   pub booked-in : BookingsIn bookings cards shapes count
   pub ones : (p : ℕ) → p < length grid → getD grid p 0 ≡ 1
 
--- The pairs of the first k bookings are off in the grid, and no others.
-pub record Marked (bookings : List ℕ) (shapes k : ℕ) (grid : List ℕ) : Type 0 where
-  pub only : (p : ℕ) → p < length grid → on grid p ≡ false → BookedAt bookings shapes k p
-  pub each : (p : ℕ) → BookedAt bookings shapes k p → on grid p ≡ false
+-- The pairs of the first k bookings that are the desk's are off in the grid, and no others.
+pub record Marked (bookings : List ℕ) (desk shapes k : ℕ) (grid : List ℕ) : Type 0 where
+  pub only : (p : ℕ) → p < length grid → on grid p ≡ false → BookedAt bookings desk shapes k p
+  pub each : (p : ℕ) → BookedAt bookings desk shapes k p → on grid p ≡ false
 
 -- What the closure asks: where each card's links stand, bookings that are read, a byte for each pair, a roomy queue.
 pub record CloseAsked (script starts first next bookings : List ℕ) (count : ℕ) (names : List ℕ) (cards shapes : ℕ)
     (incoming : Bool) (grid queue : List ℕ) : Type 0 where
   pub links : LinksReady script starts first next names shapes incoming
   pub all-cards : cards ≡ getD script 0 0
-  pub sized : Sized bookings count
+  pub sized : Sized 3 bookings count
   pub booked-in : BookingsIn bookings cards shapes count
   pub full : length grid ≡ cards * shapes
   pub room : length grid ≤ length queue
 
--- The grid has just the closure of the first k bookings, and so many pairs. Which pairs fit plays no part.
-pub record Closes (script names : List ℕ) (shapes : ℕ) (bookings : List ℕ) (k : ℕ) (grid : List ℕ) (found : ℕ)
+-- The grid has just the closure of the first k bookings that are the desk's, and so many pairs. Which pairs fit plays
+-- no part.
+pub record Closes (script names : List ℕ) (shapes : ℕ) (bookings : List ℕ) (desk k : ℕ) (grid : List ℕ) (found : ℕ)
     : Type 0 where
   pub full : length grid ≡ getD script 0 0 * shapes
   pub marks : Marks grid
   pub closure : (fits : List ℕ)
-      → Flooded (boardOf script names shapes fits) (BookedAt bookings shapes k) (on grid) found
+      → Flooded (boardOf script names shapes fits) (BookedAt bookings desk shapes k) (on grid) found
 
 -- What testing the closure asks: a grid of the same size for the pairs that fit.
 pub record UnfitAsked (closure fitting : List ℕ) (shapes : ℕ) : Type 0 where

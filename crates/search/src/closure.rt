@@ -9,27 +9,37 @@ use board::first_missing;
 use board::flip;
 use board::list_off;
 use bookings::card_at;
+use bookings::desk_at;
 use bookings::shape_at;
 use script::Card;
 use template::Shape;
 use words::wide;
 
-// Turns the pairs of the bookings off in a grid that has every pair.
-fn mark_bookings(bookings: &[u16], count: u16, cards: usize, shapes: usize, grid: &mut [u8])
+// Turns the pairs of a desk's bookings off in a grid that has every pair.
+fn mark_bookings(
+    bookings: &[u16],
+    count: u16,
+    desk: u16,
+    cards: usize,
+    shapes: usize,
+    grid: &mut [u8],
+)
     requires { ⌜ MarkAsked (now bookings) count cards shapes (now grid) ⌝ }
-    ensures { λ _. ⌜ Marked (now (bookings .entry)) shapes count (now (grid .exit))
+    ensures { λ _. ⌜ Marked (now (bookings .entry)) desk shapes count (now (grid .exit))
         × (length (now (grid .exit)) ≡ length (now (grid .entry))) ⌝ }
 {
     let mut i = 0;
     while i < wide(count) {
-        let card = wide(card_at(bookings, i));
-        let shape = wide(shape_at(bookings, i));
-        grid[card * shapes + shape] = 0;
+        if desk_at(bookings, i) == desk {
+            let card = wide(card_at(bookings, i));
+            let shape = wide(shape_at(bookings, i));
+            grid[card * shapes + shape] = 0;
+        }
         i += 1;
     }
 }
 
-// Writes the closure of the bookings into the grid, whatever it held, and returns its number of pairs.
+// Writes the closure of a desk's bookings into the grid, whatever it held, and returns its number of pairs.
 pub fn close(
     script: &[u16],
     starts: &[u16],
@@ -37,6 +47,7 @@ pub fn close(
     next: &[u16],
     bookings: &[u16],
     count: u16,
+    desk: u16,
     names: &[u8],
     cards: usize,
     shapes: usize,
@@ -46,11 +57,11 @@ pub fn close(
 ) -> usize
     requires { ⌜ CloseAsked (now script) (now starts) (now first) (now next) (now bookings) count (now names)
         cards shapes incoming (now grid) (now queue) ⌝ }
-    ensures { λ r. ⌜ Closes (now (script .entry)) (now (names .entry)) shapes (now (bookings .entry)) count
+    ensures { λ r. ⌜ Closes (now (script .entry)) (now (names .entry)) shapes (now (bookings .entry)) desk count
         (now (grid .exit)) r ⌝ }
 {
     fill(grid, 1);
-    mark_bookings(bookings, count, cards, shapes, grid);
+    mark_bookings(bookings, count, desk, cards, shapes, grid);
     let booked = list_off(grid, queue);
     let found = flood(
         script,

@@ -1,4 +1,4 @@
-// Tidies the booking lists of the cases that standard input holds. A case is a template, a script and bookings, each
+// Tidies the stored lists of the cases that standard input holds. A case is a template, a script and such a list, each
 // after its count of words in two bytes, low first, and then in two bytes how many words the buffer has, which are all
 // 7 before the call. Its line is `written WORDS` or `refused NUMBER PLACE`, then ` :` and the words of the buffer.
 use calls::tidy_bookings;

@@ -112,13 +112,13 @@ module _ (template script : List ℕ) where
       → LargestSays template script before g a → LargestSays template script before h b → (a ≡ b) × (g ≡ h)
   largest-one-answer = largest-says-unique template script (represented template script)
 
-  pub smallest-one-answer : (bookings before g h : List ℕ) (a b : Said)
-      → SmallestSays template script bookings before g a → SmallestSays template script bookings before h b
+  pub smallest-one-answer : (bookings : List ℕ) (desk : ℕ) (before g h : List ℕ) (a b : Said)
+      → SmallestSays template script bookings desk before g a → SmallestSays template script bookings desk before h b
       → (a ≡ b) × (g ≡ h)
   smallest-one-answer = smallest-says-unique template script (represented template script)
 
-  pub both-one-answer : (bookings : List ℕ) (before g h : Grids) (a b : BothSaid)
-      → BothSays template script bookings before g a → BothSays template script bookings before h b
+  pub both-one-answer : (bookings : List ℕ) (desk : ℕ) (before g h : Grids) (a b : BothSaid)
+      → BothSays template script bookings desk before g a → BothSays template script bookings desk before h b
       → (a ≡ b) × (g ≡ h)
   both-one-answer = both-says-unique template script (represented template script)
 
@@ -130,20 +130,20 @@ module _ (template script : List ℕ) where
       let (e, f) = largest-one-answer before g h (largestSaid a) (largestSaid b) x y in
       (largest-said-unique a b e, f)
 
-  pub smallest-no-choice : (bookings before g h : List ℕ) (a b : SmallestAnswer)
-      → SmallestSays template script bookings before g (smallestSaid a)
-      → SmallestSays template script bookings before h (smallestSaid b)
+  pub smallest-no-choice : (bookings : List ℕ) (desk : ℕ) (before g h : List ℕ) (a b : SmallestAnswer)
+      → SmallestSays template script bookings desk before g (smallestSaid a)
+      → SmallestSays template script bookings desk before h (smallestSaid b)
       → (a ≡ b) × (g ≡ h)
-  smallest-no-choice bookings before g h a b x y =
-      let (e, f) = smallest-one-answer bookings before g h (smallestSaid a) (smallestSaid b) x y in
+  smallest-no-choice bookings desk before g h a b x y =
+      let (e, f) = smallest-one-answer bookings desk before g h (smallestSaid a) (smallestSaid b) x y in
       (smallest-said-unique a b e, f)
 
-  pub both-no-choice : (bookings : List ℕ) (before g h : Grids) (a b : BothAnswer)
-      → BothSays template script bookings before g (bothSaid a)
-      → BothSays template script bookings before h (bothSaid b)
+  pub both-no-choice : (bookings : List ℕ) (desk : ℕ) (before g h : Grids) (a b : BothAnswer)
+      → BothSays template script bookings desk before g (bothSaid a)
+      → BothSays template script bookings desk before h (bothSaid b)
       → (a ≡ b) × (g ≡ h)
-  both-no-choice bookings before g h a b x y =
-      let (e, f) = both-one-answer bookings before g h (bothSaid a) (bothSaid b) x y in
+  both-no-choice bookings desk before g h a b x y =
+      let (e, f) = both-one-answer bookings desk before g h (bothSaid a) (bothSaid b) x y in
       let large = ap (λ (x : BothSaid). x .largest) e in
       let small = ap (λ (x : BothSaid). x .smallest) e in
       (both-said-unique a b large small, f)

@@ -5,8 +5,9 @@
 -- open shapes. Existence: every sheet has a board, so no contract leaves a choice. Numbers: which numbers the calls
 -- refuse with. Adequate: met is decided, and a round strikes nothing exactly if its set is sound. Apart: the two calls
 -- made apart. Verdicts: a grid that is judged has one right verdict. Values: values are said of a sheet that is read.
--- Judging: the judge and the two typings. SamePairs: bookings of the same pairs.
--- DifferentPairs: how many pairs are booked. Tidying: a list that is tidied.
+-- Judging: the judge and the two typings. SamePairs: bookings of the same pairs. NoneBooked: where nothing is booked.
+-- DifferentPairs: how many pairs are booked. Tidying: a list that is tidied. DesksApart: what one desk books changes
+-- nothing for the other. DeskAnswers: the typings of both desks in one call.
 pub mod Boards
 pub mod Represents
 pub mod Rounds
@@ -26,5 +27,8 @@ pub mod Verdicts
 pub mod Values
 pub mod Judging
 pub mod SamePairs
+pub mod NoneBooked
 pub mod DifferentPairs
 pub mod Tidying
+pub mod DesksApart
+pub mod DeskAnswers

@@ -1,27 +1,31 @@
--- Which numbers the calls refuse with at one place: the template's, the script's, the bookings', 40, and of a grid that
--- is judged 61 and 63.
+-- Which numbers the calls refuse with at one place: the template's, the script's, the bookings', the desk's, 40, and
+-- of a grid that is judged 61 and 63.
 --   LargestNumber, largest-numbers      of the call for the largest
---   SmallestNumber, smallest-numbers, both-numbers   of the calls for the smallest and for both
+--   SmallestNumber, listed-numbers, booked-numbers   of the files, and of these for a desk
+--   smallest-numbers, both-numbers, desks-numbers    of the calls for the smallest, for both and for both desks
 --   TidyNumber, tidy-numbers            of the call that tidies bookings
 --   JudgeNumber, JudgeRefusal, judge-numbers   of the judge; its other number, 62, has two words for its place
 -- Assumes nothing.
-use Prim.Native.Nat.{ℕ}
+use Prim.Native.Nat.{ℕ, _+_, _*_}
 use mathlib.Core.Path.{_≡_, refl, sym, ap, subst}
 use mathlib.Core.Logic.{_⊎_, inl, inr}
-use mathlib.Core.Bool.{Bool, true, false, not}
+use mathlib.Core.Bool.{Bool, not}
 use mathlib.Core.List.{List}
-use lib.ListN.{length}
-use lib.Dec.{eqb}
+use native.Mathlib.Omega.{arith}
+use lib.ListN.{length, getD}
+use lib.Dec.{ltb, eqb}
 use Rattle.words.specs.Said.{refusal}
 use Rattle.words.specs.Reading.{Reading, accepted, turnedDown, refuse, then}
 use Rattle.words.proofs.Said.{values-refusal, refusal-number, refusal-place}
 use Rattle.words.proofs.Readings.{Numbered, refuse-numbered, then-numbered, mapped-numbered, numbered-map}
 use Rattle.sheet.specs.Sheet.{Sheet, size, readSheet}
 use Rattle.sheet.proofs.Accepted.{SheetNumber, sheet-numbers}
-use Rattle.bookings.specs.Bookings.{readList}
+use Rattle.bookings.specs.Bookings.{readBookings}
+use Rattle.bookings.specs.Stored.{readStored}
 use Rattle.bookings.proofs.Reading.{StoredNumber, stored-numbers, BookingNumber, bookings-numbers}
-use Rattle.typing.specs.Calls.{withList, withBookings, withStored, withGrid, largestReading, smallestReading}
-use Rattle.typing.specs.Calls.{Grids, bothReading}
+use Rattle.typing.specs.Calls.{withList, withStored, withDesk, withGrid, listedReading, bookedReading}
+use Rattle.typing.specs.Calls.{largestReading, smallestReading, Grids, bothReading}
+use Rattle.typing.specs.Desks.{DeskGrids, desksReading}
 use Rattle.typing.specs.Tidy.{tidyReading}
 use Rattle.typing.specs.Judge.{Verdict, over, unmet, unheld, passes, verdictSaid, JudgeAnswered, JudgeSays}
 
@@ -56,35 +60,53 @@ module _ (template script : List ℕ) where
       (sheet-numbers template script))
 
   module _ (bookings : List ℕ) where
-    -- the refusals of template and script, and then of the list by either rule
-    list-numbers : (strict : Bool) (ListNumber Number : ℕ → Type 0) → ((n : ℕ) → SheetNumber n → Number n)
-        → ((n : ℕ) → ListNumber n → Number n)
-        → ((cards shapes : ℕ) → Numbered ListNumber (readList strict cards shapes bookings))
-        → Numbered Number (then (readSheet template script) (withList strict bookings))
-    list-numbers strict ListNumber Number sheet list h =
-        then-numbered Number (readSheet template script) (withList strict bookings)
+    -- the refusals of template and script, and then of a list, by a reading of it
+    list-numbers : (list : ℕ → ℕ → Reading ℕ) (ListNumber Number : ℕ → Type 0) → ((n : ℕ) → SheetNumber n → Number n)
+        → ((n : ℕ) → ListNumber n → Number n) → ((cards shapes : ℕ) → Numbered ListNumber (list cards shapes))
+        → Numbered Number (then (readSheet template script) (withList list))
+    list-numbers list ListNumber Number sheet more h =
+        then-numbered Number (readSheet template script) (withList list)
         (numbered-map SheetNumber Number (readSheet template script) sheet (sheet-numbers template script))
-        (λ s. mapped-numbered Number (λ count. s) (readList strict (s .cards) (s .shapes) bookings)
-        (numbered-map ListNumber Number (readList strict (s .cards) (s .shapes) bookings) list
-        (h (s .cards) (s .shapes))))
+        (λ s. mapped-numbered Number (λ count. s) (list (s .cards) (s .shapes))
+        (numbered-map ListNumber Number (list (s .cards) (s .shapes)) more (h (s .cards) (s .shapes))))
 
-    pub smallest-numbers : (grid : List ℕ) → Numbered SmallestNumber (smallestReading template script bookings grid)
-    smallest-numbers grid =
-        grid-numbers SmallestNumber (inl (inr refl)) grid (then (readSheet template script) (withBookings bookings))
-        (list-numbers true BookingNumber SmallestNumber (λ n h. inl (inl h)) (λ n h. inr h)
-        (λ cards shapes. bookings-numbers cards shapes bookings))
+    pub listed-numbers : Numbered SmallestNumber (listedReading template script bookings)
+    listed-numbers =
+        list-numbers (λ cards shapes. readBookings cards shapes bookings) BookingNumber SmallestNumber
+        (λ n h. inl (inl h)) (λ n h. inr h) (λ cards shapes. bookings-numbers cards shapes bookings)
 
-    pub both-numbers : (grids : Grids) → Numbered SmallestNumber (bothReading template script bookings grids)
-    both-numbers grids =
+    pub booked-numbers : (desk : ℕ) → Numbered SmallestNumber (bookedReading template script bookings desk)
+    booked-numbers desk =
+        then-numbered SmallestNumber (listedReading template script bookings) (withDesk desk) listed-numbers
+        (λ s. refuse-numbered SmallestNumber 66 0 (ltb 1 desk) (accepted s) (inr (inr (omega arith, omega arith))) tt)
+
+    pub smallest-numbers : (desk : ℕ) (grid : List ℕ)
+        → Numbered SmallestNumber (smallestReading template script bookings desk grid)
+    smallest-numbers desk grid =
+        grid-numbers SmallestNumber (inl (inr refl)) grid (bookedReading template script bookings desk)
+        (booked-numbers desk)
+
+    pub both-numbers : (desk : ℕ) (grids : Grids)
+        → Numbered SmallestNumber (bothReading template script bookings desk grids)
+    both-numbers desk grids =
         grid-numbers SmallestNumber (inl (inr refl)) (grids .large)
-        (smallestReading template script bookings (grids .small)) (smallest-numbers (grids .small))
+        (smallestReading template script bookings desk (grids .small)) (smallest-numbers desk (grids .small))
+
+    pub desks-numbers : (grids : DeskGrids) → Numbered SmallestNumber (desksReading template script bookings grids)
+    desks-numbers grids =
+        let listed = listedReading template script bookings in
+        let radio = then listed (withGrid (grids .radio)) in
+        let television = then radio (withGrid (grids .television)) in
+        grid-numbers SmallestNumber (inl (inr refl)) (grids .large) television
+        (grid-numbers SmallestNumber (inl (inr refl)) (grids .television) radio
+        (grid-numbers SmallestNumber (inl (inr refl)) (grids .radio) listed listed-numbers))
 
     pub tidy-numbers : (out : List ℕ) → Numbered TidyNumber (tidyReading template script bookings out)
     tidy-numbers out =
-        forty-numbers TidyNumber (inl (inr refl)) (λ s. not (eqb (length out) (length bookings)))
+        forty-numbers TidyNumber (inl (inr refl)) (λ s. not (eqb (length out) (1 + 3 * getD bookings 0 0)))
         (then (readSheet template script) (withStored bookings))
-        (list-numbers false StoredNumber TidyNumber (λ n h. inl (inl h)) (λ n h. inr h)
-        (λ cards shapes. stored-numbers cards shapes bookings))
+        (list-numbers (λ cards shapes. readStored cards shapes bookings) StoredNumber TidyNumber (λ n h. inl (inl h))
+        (λ n h. inr h) (λ cards shapes. stored-numbers cards shapes bookings))
 
 -- ---- the judge
 -- A number with one place, or 62 with a card and a shape.
@@ -97,13 +119,14 @@ verdict-numbers (unmet n t) number at e = inr (refusal-number e, ap length (refu
 verdict-numbers (unheld i) number at e = inl (inr (inr (refusal-number e)))
 verdict-numbers passes number at e = values-refusal (sym e)
 
-judge-by : (r : Reading Sheet) (bookings grid : List ℕ) (number : ℕ) (at : List ℕ) → Numbered SmallestNumber r
-    → JudgeAnswered r bookings grid (refusal number at) → JudgeRefusal number at
-judge-by (turnedDown n p) bookings grid number at h x = inl (inl (subst SmallestNumber (sym (refusal-number x)) h))
-judge-by (accepted s) bookings grid number at h x = verdict-numbers (x .verdict) number at (x .says)
+judge-by : (r : Reading Sheet) (bookings : List ℕ) (desk : ℕ) (grid : List ℕ) (number : ℕ) (at : List ℕ)
+    → Numbered SmallestNumber r
+    → JudgeAnswered r bookings desk grid (refusal number at) → JudgeRefusal number at
+judge-by (turnedDown n p) bookings desk grid number at h x = inl (inl (subst SmallestNumber (sym (refusal-number x)) h))
+judge-by (accepted s) bookings desk grid number at h x = verdict-numbers (x .verdict) number at (x .says)
 
-pub judge-numbers : (template script bookings grid : List ℕ) (number : ℕ) (at : List ℕ)
-    → JudgeSays template script bookings grid (refusal number at) → JudgeRefusal number at
-judge-numbers template script bookings grid number at =
-    judge-by (smallestReading template script bookings grid) bookings grid number at
-    (smallest-numbers template script bookings grid)
+pub judge-numbers : (template script bookings : List ℕ) (desk : ℕ) (grid : List ℕ) (number : ℕ) (at : List ℕ)
+    → JudgeSays template script bookings desk grid (refusal number at) → JudgeRefusal number at
+judge-numbers template script bookings desk grid number at =
+    judge-by (smallestReading template script bookings desk grid) bookings desk grid number at
+    (smallest-numbers template script bookings desk grid)

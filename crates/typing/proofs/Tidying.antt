@@ -1,36 +1,37 @@
 -- Tidying a list of bookings, over what its contract allows and for all inputs.
---   Tidies, tidy-values   a number of words is said of a list that is accepted as it was stored; these words are the
---                  tidied list
+--   Tidies, tidy-values   a number of words is said of a stored list that is accepted; these words are the tidied list
 --   tidied-taken   every call takes what is written
---   tidied-alike   the smallest typing or its 50, by the rule that takes repeats on the list and by the strict one on
---                  what was written, is the same
---   tidied-unchanged   a list that every call takes is written unchanged
+--   tidied-alike   the smallest typing or its 50, of the stored list and of what was written for desk 0, is the same
+--   tidied-other   of what was written there are no pairs for desk 1, and the grid is all 0
 --   tidy-one-answer, tidy-no-choice   two answers that are allowed for one input are equal, and so are the buffers
 -- Assumes nothing.
 use Prim.Native.Nat.{ℕ}
 use mathlib.Core.Path.{_≡_, refl, sym, ap, _∙_}
 use mathlib.Core.Logic.{_↔_}
-use mathlib.Core.List.{List, [], _∷_, _++_, append-nil}
-use lib.ListN.{length, take}
-use lib.Seq.{take-at, drop-length}
+use mathlib.Core.List.{List, [], _∷_}
+use native.Mathlib.Omega.{arith}
+use lib.ListN.{length, take, replicate}
+use lib.Seq.{take-at}
 use borrow.Author.Tests.{eq-eqb}
 use Rattle.words.specs.Said.{Said, values}
 use Rattle.words.specs.Reading.{Reading, accepted, turnedDown, then}
 use Rattle.words.proofs.Said.{values-refusal, one-value}
 use Rattle.words.proofs.Readings.{then-accepted}
-use Rattle.sheet.specs.Sheet.{Sheet, readSheet}
+use Rattle.sheet.specs.Sheet.{Sheet, size, readSheet}
 use Rattle.sheet.proofs.Accepted.{mapped-accepted}
-use Rattle.bookings.specs.Bookings.{readBookings, readStored}
+use Rattle.bookings.specs.Bookings.{readBookings, Booked}
+use Rattle.bookings.specs.Stored.{storedAt, readStored}
 use Rattle.bookings.specs.Tidied.{different, tidied}
-use Rattle.bookings.proofs.Accepted.{listed-stored}
-use Rattle.bookings.proofs.Tidied.{tidied-booked, tidied-listed, tidied-listed-same}
+use Rattle.bookings.proofs.Tidied.{tidied-booked, tidied-desk, tidied-listed}
 use Rattle.typing.specs.declared.TidyAnswer.{TidyAnswer}
 use Rattle.typing.specs.declared.TidyAnswer.the-variants as tidy
 use Rattle.typing.specs.Answer.{tidySaid}
-use Rattle.typing.specs.Calls.{withBookings, withStored, withGrid, SmallestSays}
+use Rattle.typing.specs.Calls.{withStored, withGrid, SmallestFound, SmallestSays}
 use Rattle.typing.specs.Tidy.{tidyReading, TidyFound, TidyAnswered, TidySays, StoredSmallestSays}
 use Rattle.typing.proofs.Booked.{buffer-asked}
+use Rattle.typing.proofs.Existence.{represented}
 use Rattle.typing.proofs.SamePairs.{smallest-answered-same}
+use Rattle.typing.proofs.NoneBooked.{none-booked}
 
 -- ---- no choice
 answered-unique : (r : Reading Sheet) (bookings before g h : List ℕ) (a b : Said) → TidyAnswered r bookings before g a
@@ -64,7 +65,7 @@ tidy-found : (r : Reading Sheet) (bookings before after found : List ℕ)
 tidy-found (accepted s) bookings before after found x = (s, refl, x)
 tidy-found (turnedDown number place) bookings before after found x = values-refusal (x .0)
 
--- The files are read, the list by the rule that takes repeats; the buffer begins with the tidied list, of so many
+-- The files are read, the list as a stored one; the buffer begins with the tidied list, of so many
 -- words.
 pub record Tidies (template script bookings after : List ℕ) (words : ℕ) : Type 0 where
   pub sheet : Sheet
@@ -94,14 +95,15 @@ module _ (template script bookings before after : List ℕ) (words : ℕ)
 
   -- every call takes what is written, with as many bookings as there are different pairs
   pub tidied-taken : (cards shapes count : ℕ) → readStored cards shapes bookings ≡ accepted count
-      → readBookings cards shapes (take words after) ≡ accepted (different bookings count)
+      → readBookings cards shapes (take words after) ≡ accepted (different (storedAt bookings) count)
   tidied-taken cards shapes count stored =
       rw (tidy-values .front) (tidied-listed cards shapes bookings count stored)
 
-  -- the smallest typing or its 50, answer and grid, whatever grid is lent
+  -- the smallest typing or its 50, answer and grid, whatever grid is lent: of the stored list, and of what was written
+  -- for desk 0
   pub tidied-alike : (grid left : List ℕ) (said : Said)
       → StoredSmallestSays template script bookings grid left said
-      ↔ SmallestSays template script (take words after) grid left said
+      ↔ SmallestSays template script (take words after) 0 grid left said
   tidied-alike grid left said =
       let t = tidy-values in
       let s = t .sheet in
@@ -110,19 +112,16 @@ module _ (template script bookings before after : List ℕ) (words : ℕ)
       (smallest-answered-same (withGrid grid s)
       (λ n u. (tidied-booked bookings n u .1, tidied-booked bookings n u .0)) grid left said)
 
--- A list that every call takes is written unchanged, into a buffer of its length.
-pub tidied-unchanged : (template script bookings before after : List ℕ) (said : Said) (s : Sheet)
-    → then (readSheet template script) (withBookings bookings) ≡ accepted s → length before ≡ length bookings
-    → TidySays template script bookings before after said
-    → (said ≡ values (length bookings ∷ [])) × (after ≡ bookings)
-tidied-unchanged template script bookings before after said s taken long x =
-    let (p, read, list) = then-accepted (readSheet template script) (withBookings bookings) s taken in
-    let (count, listed, same) = mapped-accepted (λ count. p) (readBookings (p .cards) (p .shapes) bookings) s list in
-    let stored = listed-stored (p .cards) (p .shapes) bookings count listed in
-    let own : tidied bookings ≡ bookings = tidied-listed-same (p .cards) (p .shapes) bookings count listed in
-    let found : TidyFound bookings before after said =
-    rw (read, stored, eq-eqb (length before) (length bookings) long) at x in (
-      found .says ∙ ap (λ (l : List ℕ). values (length l ∷ [])) own,
-      found .writes
-          ∙ rw (own, sym long) (ap (λ (l : List ℕ). bookings ++ l) (drop-length before) ∙ append-nil bookings),
-    )
+  -- for desk 1 there are no pairs, and the grid is all 0
+  pub tidied-other : (grid left : List ℕ) (said : Said)
+      → SmallestSays template script (take words after) 1 grid left said
+      → length grid ≡ size (tidy-values .sheet)
+      → (said ≡ values (0 ∷ [])) × (left ≡ replicate (size (tidy-values .sheet)) 0)
+  tidied-other grid left said x full =
+      let t = tidy-values in
+      let s = t .sheet in
+      let listed = tidied-listed (s .cards) (s .shapes) bookings (t .count) (t .stored) in
+      let found : SmallestFound s (Booked (tidied bookings) 1) left said =
+      rw (t .front, t .read, listed, eq-eqb (length grid) (size s) full) at x in
+      none-booked s (represented template script s (t .read) .1 .one-shape)
+      (λ n u b. let e : 1 ≡ 0 = tidied-desk bookings b in absurd (omega (arith, e))) found

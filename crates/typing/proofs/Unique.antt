@@ -8,7 +8,6 @@
 use Prim.Native.Nat.{ℕ, _<_}
 use mathlib.Core.Path.{_≡_, refl, sym, ap, _∙_}
 use mathlib.Core.Logic.{_⊎_, inl, inr}
-use mathlib.Core.Bool.{true}
 use mathlib.Core.List.{List}
 use native.Mathlib.Omega.{arith}
 use lib.ListN.{getD}
@@ -34,7 +33,7 @@ use Rattle.bookings.specs.Bookings.{Booked}
 use Rattle.typing.specs.Smallest.{Accepted, TurnedDown}
 use Rattle.typing.specs.Demand3.{Outcome, pairs, notMet}
 use Rattle.typing.specs.Answer.{largestSaid, smallestSaid, BothSaid, bothSaid}
-use Rattle.typing.specs.Calls.{withBookings, withGrid, largestReading, smallestReading, bothReading, Leaves}
+use Rattle.typing.specs.Calls.{bookedReading, withGrid, largestReading, smallestReading, bothReading, Leaves}
 use Rattle.typing.specs.Calls.{outcomeSaid, Grids, LargestFound, LargestAnswered, LargestSays, SmallestFound}
 use Rattle.typing.specs.Calls.{SmallestAnswered, SmallestSays, BothFound, BothAnswered, BothSays}
 use Rattle.words.proofs.Places.{place-unique}
@@ -164,7 +163,7 @@ largest-answered-unique : (r : Reading Sheet) → Represented r → (before g h 
 largest-answered-unique (turnedDown number at) sheets before g h a b x y = (x .0 ∙ sym (y .0), x .1 ∙ sym (y .1))
 largest-answered-unique (accepted s) sheets before g h a b x y = largest-found-unique (sheets s refl .1) x y
 
-grids-unique : {g h : Grids} → g .small ≡ h .small → g .large ≡ h .large → g ≡ h
+pub grids-unique : {g h : Grids} → g .small ≡ h .small → g .large ≡ h .large → g ≡ h
 grids-unique {g} {h} e f =
     ap (λ (z : List ℕ). record { small = z; large = g .large }) e
     ∙ ap (λ (z : List ℕ). record { small = h .small; large = z }) f
@@ -188,7 +187,7 @@ module _ (Wanted : ℕ → ℕ → Type 0) where
       let (l, m, e, f) = both-found-unique (sheets s refl .1) (inside s refl) x y in
       (l, m, grids-unique e f)
 
-saids-unique : {a b : BothSaid} → a .largest ≡ b .largest → a .smallest ≡ b .smallest → a ≡ b
+pub saids-unique : {a b : BothSaid} → a .largest ≡ b .largest → a .smallest ≡ b .smallest → a ≡ b
 saids-unique {a} {b} e f =
     ap (λ (x : Said). record { largest = x; smallest = a .smallest }) e
     ∙ ap (λ (x : Said). record { largest = b .largest; smallest = x }) f
@@ -200,34 +199,34 @@ module _ (template script : List ℕ) (sheets : Represented (readSheet template 
       largest-answered-unique (largestReading template script before)
       (λ s r. sheets s (grid-asked before (readSheet template script) s r .0)) before g h a b x y
 
-  module _ (bookings : List ℕ) where
-    -- template, script and bookings are read
+  module _ (bookings : List ℕ) (desk : ℕ) where
+    -- template, script and bookings are read for the desk
     abbrev listed : Reading Sheet
-    listed = then (readSheet template script) (withBookings bookings)
+    listed = bookedReading template script bookings desk
 
     listed-sheets : Represented listed
-    listed-sheets s r = sheets s (bookings-asked true bookings (readSheet template script) s r .0)
+    listed-sheets s r = sheets s (bookings-asked bookings desk (readSheet template script) s r .0)
 
-    listed-in : ListedIn listed (Booked bookings)
-    listed-in s r = bookings-asked true bookings (readSheet template script) s r .1
+    listed-in : ListedIn listed (Booked bookings desk)
+    listed-in s r = bookings-asked bookings desk (readSheet template script) s r .1
 
     pub smallest-says-unique : (before g h : List ℕ) (a b : Said)
-        → SmallestSays template script bookings before g a → SmallestSays template script bookings before h b
+        → SmallestSays template script bookings desk before g a → SmallestSays template script bookings desk before h b
         → (a ≡ b) × (g ≡ h)
     smallest-says-unique before g h a b x y =
-        smallest-answered-unique (Booked bookings) (smallestReading template script bookings before)
+        smallest-answered-unique (Booked bookings desk) (smallestReading template script bookings desk before)
         (λ s r. listed-sheets s (grid-asked before listed s r .0))
         (λ s r. listed-in s (grid-asked before listed s r .0)) before g h a b x y
 
     pub both-says-unique : (before g h : Grids) (a b : BothSaid)
-        → BothSays template script bookings before g a → BothSays template script bookings before h b
+        → BothSays template script bookings desk before g a → BothSays template script bookings desk before h b
         → (a ≡ b) × (g ≡ h)
     both-says-unique before g h a b x y =
-        let (l, m, f) = both-answered-unique (Booked bookings) (bothReading template script bookings before)
+        let (l, m, f) = both-answered-unique (Booked bookings desk) (bothReading template script bookings desk before)
         (λ s r. listed-sheets s (asked s r)) (λ s r. listed-in s (asked s r)) before g h a b x y in
         (saids-unique l m, f)
       where
-        asked : (s : Sheet) → bothReading template script bookings before ≡ accepted s → listed ≡ accepted s
+        asked : (s : Sheet) → bothReading template script bookings desk before ≡ accepted s → listed ≡ accepted s
         asked s r =
             let small = grid-asked (before .large) (then listed (withGrid (before .small))) s r .0 in
             grid-asked (before .small) listed s small .0

@@ -45,15 +45,17 @@ module _ (Wanted : ℕ → ℕ → Type 0) where
       values-refusal (sym e ∙ ap (λ (z : BothSaid). z .smallest) (x .0))
 
 -- the verdict of which there is nothing to say
-passes-by : (s : Sheet) (bookings grid : List ℕ) (v : Verdict) → values [] ≡ verdictSaid v → Judged s bookings grid v
-    → Passes s (Booked bookings) grid
-passes-by s bookings grid (over p) e x = values-refusal e
-passes-by s bookings grid (unmet n t) e x = values-refusal e
-passes-by s bookings grid (unheld i) e x = values-refusal e
-passes-by s bookings grid passes e x = x
+passes-by : (s : Sheet) (bookings : List ℕ) (desk : ℕ) (grid : List ℕ) (v : Verdict) → values [] ≡ verdictSaid v
+    → Judged s bookings desk grid v
+    → Passes s (Booked bookings desk) grid
+passes-by s bookings desk grid (over p) e x = values-refusal e
+passes-by s bookings desk grid (unmet n t) e x = values-refusal e
+passes-by s bookings desk grid (unheld i) e x = values-refusal e
+passes-by s bookings desk grid passes e x = x
 
-pub judge-values : (r : Reading Sheet) (bookings grid : List ℕ) → JudgeAnswered r bookings grid (values [])
-    → (s : Sheet) × (r ≡ accepted s) × Passes s (Booked bookings) grid
-judge-values (accepted s) bookings grid x =
-    (s, refl, passes-by s bookings grid (x .verdict) (x .says) (x .right))
-judge-values (turnedDown number place) bookings grid x = values-refusal x
+pub judge-values : (r : Reading Sheet) (bookings : List ℕ) (desk : ℕ) (grid : List ℕ)
+    → JudgeAnswered r bookings desk grid (values [])
+    → (s : Sheet) × (r ≡ accepted s) × Passes s (Booked bookings desk) grid
+judge-values (accepted s) bookings desk grid x =
+    (s, refl, passes-by s bookings desk grid (x .verdict) (x .says) (x .right))
+judge-values (turnedDown number place) bookings desk grid x = values-refusal x

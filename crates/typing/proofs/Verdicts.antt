@@ -44,20 +44,20 @@ module _ {s : Sheet} {grid : List ℕ} where
       (λ l. x .not-met (y .lowest n t (x .card-in) (x .shape-in) l (x .has)))
       (λ l. y .not-met (x .lowest m u (y .card-in) (y .shape-in) l (y .has))))
 
-  module _ {bookings : List ℕ} where
-    holds-held : {i : ℕ} → Holds s (Booked bookings) (on grid) → Unheld s bookings grid i → ⊥
+  module _ {bookings : List ℕ} {desk : ℕ} where
+    holds-held : {i : ℕ} → Holds s (Booked bookings desk) (on grid) → Unheld s bookings desk grid i → ⊥
     holds-held {i} h u =
         let held = h (cardAt bookings i) (shapeAt bookings i)
-        (record { booking = i; listed = u .listed; card = refl; shape = refl }) in
+        (record { booking = i; listed = u .listed; ours = u .ours; card = refl; shape = refl }) in
         never-both held (u .missing)
 
-    unheld-unique : {i j : ℕ} → Unheld s bookings grid i → Unheld s bookings grid j → i ≡ j
+    unheld-unique : {i j : ℕ} → Unheld s bookings desk grid i → Unheld s bookings desk grid j → i ≡ j
     unheld-unique {i} {j} x y = neither-below i j
-        (λ l. never-both (y .first i l) (x .missing)) (λ l. never-both (x .first j l) (y .missing))
+        (λ l. never-both (y .first i l (x .ours)) (x .missing)) (λ l. never-both (x .first j l (y .ours)) (y .missing))
 
 -- ---- one verdict
-module _ (s : Sheet) (bookings grid : List ℕ) where
-  pub verdict-unique : (v w : Verdict) → Judged s bookings grid v → Judged s bookings grid w → v ≡ w
+module _ (s : Sheet) (bookings : List ℕ) (desk : ℕ) (grid : List ℕ) where
+  pub verdict-unique : (v w : Verdict) → Judged s bookings desk grid v → Judged s bookings desk grid w → v ≡ w
   verdict-unique (over p) (over q) x y = ap over (over-unique x y)
   verdict-unique (over p) (unmet n t) x y = absurd (typing-low (y .typing) x)
   verdict-unique (over p) (unheld i) x y = absurd (typing-low (y .sound .typing) x)
@@ -75,10 +75,10 @@ module _ (s : Sheet) (bookings grid : List ℕ) where
   verdict-unique passes (unheld j) x y = absurd (holds-held (x .holds) y)
   verdict-unique passes passes x y = refl
 
-pub judge-found-unique : {s : Sheet} {bookings grid : List ℕ} {a b : Said}
-    → JudgeFound s bookings grid a → JudgeFound s bookings grid b → a ≡ b
-judge-found-unique {s} {bookings} {grid} x y =
-    let same = verdict-unique s bookings grid (x .verdict) (y .verdict) (x .right) (y .right) in
+pub judge-found-unique : {s : Sheet} {bookings : List ℕ} {desk : ℕ} {grid : List ℕ} {a b : Said}
+    → JudgeFound s bookings desk grid a → JudgeFound s bookings desk grid b → a ≡ b
+judge-found-unique {s} {bookings} {desk} {grid} x y =
+    let same = verdict-unique s bookings desk grid (x .verdict) (y .verdict) (x .right) (y .right) in
     x .says ∙ ap verdictSaid same ∙ sym (y .says)
 
 pub judge-said-unique : (a b : JudgeAnswer) → judgeSaid a ≡ judgeSaid b → a ≡ b

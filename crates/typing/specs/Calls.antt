@@ -1,21 +1,24 @@
 -- What the operations for the largest, the smallest and both typings answer, and what becomes of the grids, on all
 -- inputs (docs/FORMAT.md, "Operations").
--- withList, withBookings, withStored, withGrid      the refusals of a list of bookings and of a grid
+-- withList, withBookings, withStored   the refusals of a list of bookings, and of a stored one
+-- withDesk, withGrid                   those of the desk that is asked for, and of a grid
+-- listedReading, bookedReading         template, script and bookings, and these for a desk, or the first refusal
 -- largestReading, smallestReading, bothReading      the sheet of what is lent, or the first refusal
 -- LargestFound, SmallestFound, BothFound            what is said and written where nothing is refused
 -- LargestSays, SmallestSays, BothSays               the contracts: a refusal other than 50 changes no grid
 -- Assumes nothing.
 use Prim.Native.Nat.{ℕ}
 use mathlib.Core.Path.{_≡_}
-use mathlib.Core.Bool.{Bool, true, false, not}
+use mathlib.Core.Bool.{not}
 use mathlib.Core.List.{List, [], _∷_}
 use lib.ListN.{length}
-use lib.Dec.{eqb}
+use lib.Dec.{ltb, eqb}
 use Rattle.words.specs.Said.{Said, values, refusal}
 use Rattle.words.specs.Reading.{Reading, accepted, turnedDown, refuse, then, mapped}
 use Rattle.board.specs.Grid.{on}
 use Rattle.sheet.specs.Sheet.{Sheet, size, readSheet}
 use Rattle.bookings.specs.Bookings as list
+use Rattle.bookings.specs.Stored.{readStored}
 use Rattle.typing.specs.Typing.{Typing}
 use Rattle.typing.specs.Largest.{Largest, bareCards}
 use Rattle.typing.specs.Smallest.{Accepted, TurnedDown}
@@ -23,16 +26,21 @@ use Rattle.typing.specs.Demand3.{Outcome, pairs, notMet, Demand3}
 use Rattle.typing.specs.Answer.{BothSaid}
 
 -- ---- the sheet of what is lent, or the first refusal
--- 30 to 33, and by the strict rule 65: the list of bookings is refused for the sheet's cards and shapes.
-abbrev pub withList : Bool → List ℕ → Sheet → Reading Sheet
-withList strict bookings s = mapped (λ count. s) (list.readList strict (s .cards) (s .shapes) bookings)
+-- A list of bookings is refused, by a reading of it, for the sheet's cards and shapes.
+abbrev pub withList : (ℕ → ℕ → Reading ℕ) → Sheet → Reading Sheet
+withList list s = mapped (λ count. s) (list (s .cards) (s .shapes))
 
--- A list as every call takes it, and one stored before, as the tidying pass takes it.
+-- 30 to 33, 65 and 66 of a list of both desks.
 abbrev pub withBookings : List ℕ → Sheet → Reading Sheet
-withBookings = withList true
+withBookings bookings = withList (λ cards shapes. list.readBookings cards shapes bookings)
 
+-- 30 to 33 of a stored list, as the tidying pass takes it.
 abbrev pub withStored : List ℕ → Sheet → Reading Sheet
-withStored = withList false
+withStored bookings = withList (λ cards shapes. readStored cards shapes bookings)
+
+-- 66: the desk that is asked for is over 1.
+abbrev pub withDesk : ℕ → Sheet → Reading Sheet
+withDesk desk s = refuse 66 0 (ltb 1 desk) (accepted s)
 
 -- 40: the grid has other bytes than the sheet has pairs.
 abbrev pub withGrid : List ℕ → Sheet → Reading Sheet
@@ -42,10 +50,18 @@ withGrid grid s = refuse 40 0 (not (eqb (length grid) (size s))) (accepted s)
 abbrev pub largestReading : List ℕ → List ℕ → List ℕ → Reading Sheet
 largestReading template script grid = then (readSheet template script) (withGrid grid)
 
--- The refusals of template and script, those of the bookings, 40.
-abbrev pub smallestReading : List ℕ → List ℕ → List ℕ → List ℕ → Reading Sheet
-smallestReading template script bookings grid =
-    then (then (readSheet template script) (withBookings bookings)) (withGrid grid)
+-- The refusals of template and script, and those of the bookings, whichever desk's they are.
+abbrev pub listedReading : List ℕ → List ℕ → List ℕ → Reading Sheet
+listedReading template script bookings = then (readSheet template script) (withBookings bookings)
+
+-- These, and that of the desk.
+abbrev pub bookedReading : List ℕ → List ℕ → List ℕ → ℕ → Reading Sheet
+bookedReading template script bookings desk = then (listedReading template script bookings) (withDesk desk)
+
+-- These, and 40.
+abbrev pub smallestReading : List ℕ → List ℕ → List ℕ → ℕ → List ℕ → Reading Sheet
+smallestReading template script bookings desk grid =
+    then (bookedReading template script bookings desk) (withGrid grid)
 
 -- The two grids, before or after a call.
 pub record Grids : Type 0 where
@@ -53,9 +69,9 @@ pub record Grids : Type 0 where
   pub large : List ℕ
 
 -- The same for both: either grid can cause 40.
-abbrev pub bothReading : List ℕ → List ℕ → List ℕ → Grids → Reading Sheet
-bothReading template script bookings grids =
-    then (smallestReading template script bookings (grids .small)) (withGrid (grids .large))
+abbrev pub bothReading : List ℕ → List ℕ → List ℕ → ℕ → Grids → Reading Sheet
+bothReading template script bookings desk grids =
+    then (smallestReading template script bookings desk (grids .small)) (withGrid (grids .large))
 
 -- ---- largest
 -- The grid is the largest typing, and what is said are its numbers.
@@ -101,10 +117,11 @@ SmallestAnswered (turnedDown number place) Booked before after said =
     (said ≡ refusal number (place ∷ [])) × (after ≡ before)
 SmallestAnswered (accepted s) Booked before after said = SmallestFound s Booked after said
 
--- Smallest: of a template, a script, bookings, the grid before and after the call, and what is said.
-abbrev pub SmallestSays : List ℕ → List ℕ → List ℕ → List ℕ → List ℕ → Said → Type 0
-SmallestSays template script bookings before after said =
-    SmallestAnswered (smallestReading template script bookings before) (list.Booked bookings) before after said
+-- Smallest: of a template, a script, bookings, a desk, the grid before and after the call, and what is said.
+abbrev pub SmallestSays : List ℕ → List ℕ → List ℕ → ℕ → List ℕ → List ℕ → Said → Type 0
+SmallestSays template script bookings desk before after said =
+    SmallestAnswered (smallestReading template script bookings desk before) (list.Booked bookings desk) before after
+    said
 
 -- ---- both
 -- Both typings of one sheet: each as its own call gives it, and what holds of the two together.
@@ -118,7 +135,7 @@ BothAnswered (turnedDown number place) Booked before after said =
     (said ≡ record { largest = refusal number (place ∷ []); smallest = refusal number (place ∷ []) }) × (after ≡ before)
 BothAnswered (accepted s) Booked before after said = BothFound s Booked (after .small) (after .large) said
 
--- Both: of a template, a script, bookings, the two grids before and after the call, and what is said.
-abbrev pub BothSays : List ℕ → List ℕ → List ℕ → Grids → Grids → BothSaid → Type 0
-BothSays template script bookings before after said =
-    BothAnswered (bothReading template script bookings before) (list.Booked bookings) before after said
+-- Both: of a template, a script, bookings, a desk, the two grids before and after the call, and what is said.
+abbrev pub BothSays : List ℕ → List ℕ → List ℕ → ℕ → Grids → Grids → BothSaid → Type 0
+BothSays template script bookings desk before after said =
+    BothAnswered (bothReading template script bookings desk before) (list.Booked bookings desk) before after said

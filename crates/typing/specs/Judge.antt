@@ -13,7 +13,7 @@ use Rattle.words.specs.Said.{Said, values, refusal}
 use Rattle.words.specs.Reading.{Reading, accepted, turnedDown}
 use Rattle.board.specs.Grid.{on}
 use Rattle.sheet.specs.Sheet.{Sheet, place, size}
-use Rattle.bookings.specs.Bookings.{cardIndex, cardAt, shapeAt, Booked}
+use Rattle.bookings.specs.Bookings.{cardIndex, deskAt, cardAt, shapeAt, Booked}
 use Rattle.typing.specs.Typing.{Has, Met, Holds, Typing, SoundTyping}
 use Rattle.typing.specs.Calls.{smallestReading}
 
@@ -49,12 +49,14 @@ pub record Unmet (s : Sheet) (grid : List ℕ) (n t : ℕ) : Type 0 where
   pub lowest : (m u : ℕ) → m < s .cards → u < s .shapes → place s m u < place s n t → Has s (on grid) m u
       → Met s (on grid) m u
 
--- 63: the grid is a sound typing and has not the pair of booking i; it has that of every booking before.
-pub record Unheld (s : Sheet) (bookings grid : List ℕ) (i : ℕ) : Type 0 where
+-- 63: the grid is a sound typing and has not the pair of booking i, which is the desk's; it has that of every booking
+-- of the desk before.
+pub record Unheld (s : Sheet) (bookings : List ℕ) (desk : ℕ) (grid : List ℕ) (i : ℕ) : Type 0 where
   pub sound : SoundTyping s grid
   pub listed : i < getD bookings 0 0
+  pub ours : deskAt bookings i ≡ desk
   pub missing : on grid (place s (cardAt bookings i) (shapeAt bookings i)) ≡ false
-  pub first : (j : ℕ) → j < i → Has s (on grid) (cardAt bookings j) (shapeAt bookings j)
+  pub first : (j : ℕ) → j < i → deskAt bookings j ≡ desk → Has s (on grid) (cardAt bookings j) (shapeAt bookings j)
 
 -- Accepted: the grid is a sound typing and holds the bookings.
 pub record Passes (s : Sheet) (Booked : ℕ → ℕ → Type 0) (grid : List ℕ) : Type 0 where
@@ -62,24 +64,24 @@ pub record Passes (s : Sheet) (Booked : ℕ → ℕ → Type 0) (grid : List ℕ
   pub holds : Holds s Booked (on grid)
 
 -- The verdict is right for a grid of the sheet's size.
-abbrev pub Judged : Sheet → List ℕ → List ℕ → Verdict → Type 0
-Judged s bookings grid (over p) = Over s grid p
-Judged s bookings grid (unmet n t) = Unmet s grid n t
-Judged s bookings grid (unheld i) = Unheld s bookings grid i
-Judged s bookings grid passes = Passes s (Booked bookings) grid
+abbrev pub Judged : Sheet → List ℕ → ℕ → List ℕ → Verdict → Type 0
+Judged s bookings desk grid (over p) = Over s grid p
+Judged s bookings desk grid (unmet n t) = Unmet s grid n t
+Judged s bookings desk grid (unheld i) = Unheld s bookings desk grid i
+Judged s bookings desk grid passes = Passes s (Booked bookings desk) grid
 
 -- A right verdict is said.
-pub record JudgeFound (s : Sheet) (bookings grid : List ℕ) (said : Said) : Type 0 where
+pub record JudgeFound (s : Sheet) (bookings : List ℕ) (desk : ℕ) (grid : List ℕ) (said : Said) : Type 0 where
   pub verdict : Verdict
   pub says : said ≡ verdictSaid verdict
-  pub right : Judged s bookings grid verdict
+  pub right : Judged s bookings desk grid verdict
 
-abbrev pub JudgeAnswered : Reading Sheet → List ℕ → List ℕ → Said → Type 0
-JudgeAnswered (turnedDown number place) bookings grid said = said ≡ refusal number (place ∷ [])
-JudgeAnswered (accepted s) bookings grid said = JudgeFound s bookings grid said
+abbrev pub JudgeAnswered : Reading Sheet → List ℕ → ℕ → List ℕ → Said → Type 0
+JudgeAnswered (turnedDown number place) bookings desk grid said = said ≡ refusal number (place ∷ [])
+JudgeAnswered (accepted s) bookings desk grid said = JudgeFound s bookings desk grid said
 
--- Judge: of a template, a script, bookings, the grid, and what is said. The refusals of the template, the script, the
--- bookings and of the grid's size come first, as those of the smallest.
-abbrev pub JudgeSays : List ℕ → List ℕ → List ℕ → List ℕ → Said → Type 0
-JudgeSays template script bookings grid said =
-    JudgeAnswered (smallestReading template script bookings grid) bookings grid said
+-- Judge: of a template, a script, bookings, a desk, the grid, and what is said. The refusals of the template, the
+-- script, the bookings, the desk and the grid's size come first, as those of the smallest.
+abbrev pub JudgeSays : List ℕ → List ℕ → List ℕ → ℕ → List ℕ → Said → Type 0
+JudgeSays template script bookings desk grid said =
+    JudgeAnswered (smallestReading template script bookings desk grid) bookings desk grid said

@@ -1,5 +1,5 @@
--- The promise: Typing, Largest, Smallest, Demand3, what the typings are; Answer, Calls, Judge and Tidy, what the
--- calls answer.
+-- The promise: Typing, Largest, Smallest, Demand3, what the typings are; Answer, Calls, Desks, Judge and Tidy,
+-- what the calls answer.
 -- Needs: the board of a sheet; no part of a promise.
 pub mod Needs
 pub mod Typing
@@ -8,5 +8,6 @@ pub mod Smallest
 pub mod Demand3
 pub mod Answer
 pub mod Calls
+pub mod Desks
 pub mod Judge
 pub mod Tidy

@@ -3,25 +3,25 @@
 -- tidyReading    the sheet of what is lent, or the first refusal
 -- TidyFound      what is said and written where nothing is refused
 -- TidySays       the contract: a refusal changes no word of the buffer
--- StoredSmallestSays   what the call for the smallest would say of a list stored before, if it took repeats; theorems
---                      alone speak of it
+-- StoredSmallestSays   what the call for the smallest would say of a stored list, if it took one; theorems alone speak
+--                      of it
 -- Assumes nothing.
-use Prim.Native.Nat.{ℕ}
+use Prim.Native.Nat.{ℕ, _+_, _*_}
 use mathlib.Core.Path.{_≡_}
 use mathlib.Core.Bool.{not}
 use mathlib.Core.List.{List, [], _∷_, _++_}
-use lib.ListN.{length, drop}
+use lib.ListN.{length, getD, drop}
 use lib.Dec.{eqb}
 use Rattle.words.specs.Said.{Said, values, refusal}
 use Rattle.words.specs.Reading.{Reading, accepted, turnedDown, refuse, then}
 use Rattle.sheet.specs.Sheet.{Sheet, readSheet}
-use Rattle.bookings.specs.Bookings.{Booked}
+use Rattle.bookings.specs.Stored.{StoredBooked}
 use Rattle.bookings.specs.Tidied.{tidied}
 use Rattle.typing.specs.Calls.{withStored, withGrid, SmallestAnswered}
 
--- 40: the buffer has another length than the list.
+-- 40: the buffer has not a word for the count and three for each booking of the list.
 abbrev pub withBuffer : List ℕ → List ℕ → Sheet → Reading Sheet
-withBuffer bookings out s = refuse 40 0 (not (eqb (length out) (length bookings))) (accepted s)
+withBuffer bookings out s = refuse 40 0 (not (eqb (length out) (1 + 3 * getD bookings 0 0))) (accepted s)
 
 -- The refusals of template and script, those of the list as it was stored, 40.
 abbrev pub tidyReading : List ℕ → List ℕ → List ℕ → List ℕ → Reading Sheet
@@ -43,9 +43,8 @@ abbrev pub TidySays : List ℕ → List ℕ → List ℕ → List ℕ → List �
 TidySays template script bookings before after said =
     TidyAnswered (tidyReading template script bookings before) bookings before after said
 
--- Smallest, by the rule that takes repeats: of a template, a script, bookings, the grid before and after, and what is
--- said.
+-- Smallest, of a stored list: of a template, a script, bookings, the grid before and after, and what is said.
 abbrev pub StoredSmallestSays : List ℕ → List ℕ → List ℕ → List ℕ → List ℕ → Said → Type 0
 StoredSmallestSays template script bookings before after said =
-    SmallestAnswered (then (then (readSheet template script) (withStored bookings)) (withGrid before)) (Booked bookings)
-    before after said
+    SmallestAnswered (then (then (readSheet template script) (withStored bookings)) (withGrid before))
+    (StoredBooked bookings) before after said

@@ -25,6 +25,32 @@ pub enum BothAnswer {
     Refused(u16, usize),
 }
 
+// What striking rounds found: rounds, pairs struck, cards with some link and no shape.
+pub struct Struck {
+    pub rounds: usize,
+    pub struck: usize,
+    pub bare: usize,
+}
+
+// How a desk's bookings fared: the number of pairs that follow from them, or the lowest of these that is not met.
+pub enum Settled {
+    Pairs(usize),
+    NotMet(Card, Shape),
+}
+
+// What was found of the largest typing, and of each desk's smallest.
+pub struct Desks {
+    pub largest: Struck,
+    pub radio: Settled,
+    pub television: Settled,
+}
+
+// What was found for both desks; or what is refused: number and place.
+pub enum DesksAnswer {
+    Typed(Desks),
+    Refused(u16, usize),
+}
+
 // The grid is accepted; the lowest pair of it that is not met; or what else is refused: number and place.
 pub enum JudgeAnswer {
     Accepted,

@@ -1,10 +1,9 @@
 -- `calls::both_answer` says what was found. Assumes nothing.
 use mathlib.Core.Path.{sym, ap}
 use borrow.Author.Needs.{needs}
-use Rattle.typing.specs.Answer.{BothSaid}
-use Rattle.calls.specs.Steps.{struckSaid, settledSaid}
-use Rattle.calls.specs.declared.Struck.{Struck}
-use Rattle.calls.specs.declared.Settled.{Settled}
+use Rattle.typing.specs.declared.Struck.{Struck}
+use Rattle.typing.specs.declared.Settled.{Settled}
+use Rattle.typing.specs.Answer.{BothSaid, struckSaid, settledSaid}
 use Rattle.calls.proofs.both_answer.Statement.{statement}
 use Rattle.calls.proofs.both_answer.Tie as tie
 

@@ -100,8 +100,8 @@ returns c s q =
     let pairs = tested (told .before) in
     let lent = start (chained (pairs .before) .before) in
     let t = pairs .test-pairs .ensures .tested s q in
-    both-of-found t (now (lent .args .bookings)) (lent .pre .listed .list) (rounds .strike .ensures s t)
-    (told .settle .ensures s t)
+    both-of-found t (now (lent .args .bookings)) (lent .args .desk) (lent .pre .listed .list)
+    (rounds .strike .ensures s t) (told .settle .ensures s t)
 
 pub both-of-spec : {M : Type 1} → statement M
 both-of-spec =

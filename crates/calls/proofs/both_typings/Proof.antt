@@ -1,40 +1,48 @@
 -- `calls::both_typings` answers as the format says of both calls: a law of proofs/Answered for each way out.
 -- Assumes nothing.
-use mathlib.Core.Path.{subst}
+use mathlib.Core.Path.{_≡_, subst}
 use native.Mathlib.Omega.{arith}
 use denote.Ref.{now}
 use borrow.Author.Needs.{needs}
-use Rattle.typing.specs.Calls.{Grids}
-use Rattle.calls.specs.Steps.{Listed, BookedAs}
+use Rattle.words.specs.Reading.{turnedDown}
+use Rattle.typing.specs.Calls.{smallestReading}
+use Rattle.calls.specs.Steps.{ReadFor, LentAs}
 use Rattle.calls.proofs.Known.{sheet, asked}
-use Rattle.calls.proofs.Readings.{listed-asked}
-use Rattle.calls.proofs.Answered.{both-refused, both-small, both-large, both-done}
+use Rattle.calls.proofs.Readings.{lent-asked}
+use Rattle.calls.proofs.Answered.{both-refused, both-large, both-done}
 use Rattle.calls.proofs.both_typings.Statement.{statement}
 use Rattle.calls.proofs.both_typings.Tie as tie
 
--- The start with the grids as they were lent, and sheet and bookings as they were read.
-abbrev start : tie.After-read-booked → tie.Start
-start c = c .before .before .before .before .before .before .before
+-- The start, and what is lent as it was read.
+abbrev start : tie.After-read-lent → tie.Start
+start c = c .before .before .before .before .before .before .before .before
 
-abbrev grids : tie.After-read-booked → Grids
-grids c = record { small = now (start c .args .small); large = now (start c .args .large) }
-
-abbrev read : tie.After-known-told2 → tie.After-read-booked
+abbrev read : tie.After-known-told2 → tie.After-read-lent
 read c = c .before .before .before .before
 
-listed : (c : tie.After-known-told2) → let s = start (read c) .args in
-    Listed (now (s .template)) (now (s .script)) (read c .read-booked .last .1 .1 .1 .0) (c .before .read2 .given .0 .0)
-    (now (s .bookings)) (c .before .read2 .given .0 .1 .0)
-listed c =
+lent : (c : tie.After-known-told2) → let s = start (read c) .args in
+    ReadFor (now (s .template)) (now (s .script)) (read c .read-lent .last .1 .1 .1 .1 .1 .0)
+    (c .before .read2 .given .0 .0) (now (s .bookings)) (c .before .read2 .given .0 .1 .0) (s .desk) (now (s .small))
+lent c =
     let s = start (read c) .args in
-    subst (BookedAs (now (s .template)) (now (s .script)) (read c .read-booked .last .1 .1 .1 .0) (now (s .bookings)))
-    (c .before .read2 .given .1) (read c .read-booked .ensures)
+    subst (LentAs (now (s .template)) (now (s .script)) (read c .read-lent .last .1 .1 .1 .1 .1 .0)
+    (now (s .bookings)) (s .desk) (now (s .small))) (c .before .read2 .given .1) (read c .read-lent .ensures)
 
-slice-aggregate-read-booked : tie.Need-slice-aggregate-read-booked
-slice-aggregate-read-booked c = search needs
+refused : (c : tie.After-known-told) → let both = c .before .before .before .before in
+    let s = start both .args in
+    smallestReading (now (s .template)) (now (s .script)) (now (s .bookings)) (s .desk) (now (s .small))
+    ≡ turnedDown (c .before .read .given .0 .0) (c .before .read .given .0 .1 .0)
+refused c =
+    let both = c .before .before .before .before in
+    let s = start both .args in
+    subst (LentAs (now (s .template)) (now (s .script)) (both .read-lent .last .1 .1 .1 .1 .1 .0) (now (s .bookings))
+    (s .desk) (now (s .small))) (c .before .read .given .1) (both .read-lent .ensures)
 
-read-booked-requires : tie.Need-read-booked-requires
-read-booked-requires c κs = search needs
+slice-aggregate-read-lent : tie.Need-slice-aggregate-read-lent
+slice-aggregate-read-lent c = search needs
+
+read-lent-requires : tie.Need-read-lent-requires
+read-lent-requires c κs = search needs
 
 enum-known-read : tie.Need-enum-known-read
 enum-known-read c = search needs
@@ -45,79 +53,72 @@ enum-known-read-2 c = search needs
 grid-size-requires : tie.Need-grid-size-requires
 grid-size-requires c κs = search needs
 
+same-length : tie.Need-same-length
+same-length c = search needs
+
 returns : tie.Need-returns
 returns c =
-    let told = c .before .before in
-    let s = start (read told) .args in
-    let l = listed told in
-    both-small (now (s .template)) (now (s .script)) (now (s .bookings)) (sheet (l .known)) (listed-asked l)
-    (grids (read told)) (λ e. omega (arith, c .before .grid-size .ensures))
-
-returns-2 : tie.Need-returns-2
-returns-2 c =
-    let size = c .before .before in
+    let size = c .before in
     let told = size .before in
     let s = start (read told) .args in
-    let l = listed told in
-    both-large (now (s .template)) (now (s .script)) (now (s .bookings)) (sheet (l .known)) (listed-asked l)
-    (grids (read told)) (omega (arith, size .grid-size .ensures))
-    (λ e. omega (arith, size .grid-size .ensures))
+    let l = lent told in
+    both-large (now (s .template)) (now (s .script)) (now (s .bookings)) (s .desk) (sheet (l .listed .known))
+    (now (s .small)) (lent-asked l) (now (s .large)) (λ e. omega (arith, size .grid-size .ensures))
 
 slice-aggregate-both-of : tie.Need-slice-aggregate-both-of
 slice-aggregate-both-of c = search needs
 
 both-of-requires : tie.Need-both-of-requires
 both-of-requires c κs =
-    let size = c .before .before .before .before .before in
-    record {
-      listed = listed (size .before);
-      size = omega (arith, size .grid-size .ensures);
-      other-size = omega (arith, size .grid-size .ensures);
-    }
+    let size = c .before .before .before .before in
+    let l = lent (size .before) in
+    record { listed = l .listed; size = l .size; other-size = omega (arith, size .grid-size .ensures) }
 
 both-answer-requires : tie.Need-both-answer-requires
 both-answer-requires c κs = search needs
 
-returns-3 : tie.Need-returns-3
-returns-3 c =
-    let both = c .before .before .before .before in
-    let s = start both .args in
-    both-refused (now (s .template)) (now (s .script)) (now (s .bookings)) _ _
-    (subst (BookedAs (now (s .template)) (now (s .script)) (both .read-booked .last .1 .1 .1 .0) (now (s .bookings)))
-    (c .before .read .given .1) (both .read-booked .ensures)) (grids both)
-
-same-length : tie.Need-same-length
-same-length c = search needs
-
 same-length-2 : tie.Need-same-length-2
 same-length-2 c = search needs
 
-returns-4 : tie.Need-returns-4
-returns-4 c =
+returns-2 : tie.Need-returns-2
+returns-2 c =
+    let s = start (c .before .before .before .before) .args in
+    both-refused (now (s .template)) (now (s .script)) (now (s .bookings)) (s .desk) (now (s .small)) _ _ (refused c)
+    (now (s .large))
+
+same-length-3 : tie.Need-same-length-3
+same-length-3 c = search needs
+
+same-length-4 : tie.Need-same-length-4
+same-length-4 c = search needs
+
+returns-3 : tie.Need-returns-3
+returns-3 c =
     let found = c .before .before .before .before .before in
-    let size = found .before .before .before .before .before .before in
+    let size = found .before .before .before .before .before in
     let told = size .before in
     let s = start (read told) .args in
-    let l = listed told in
-    both-done (now (s .template)) (now (s .script)) (now (s .bookings)) (sheet (l .known)) (listed-asked l)
-    (grids (read told)) _ _ (omega (arith, size .grid-size .ensures)) (omega (arith, size .grid-size .ensures))
-    (c .both-answer .ensures) (found .both-of .ensures (sheet (l .known)) (asked (l .known)))
+    let l = lent told in
+    both-done (now (s .template)) (now (s .script)) (now (s .bookings)) (s .desk) (sheet (l .listed .known))
+    (now (s .small)) (lent-asked l) (now (s .large)) _ _ (omega (arith, size .grid-size .ensures))
+    (c .both-answer .ensures) (found .both-of .ensures (sheet (l .listed .known)) (asked (l .listed .known)))
 
 pub both-typings-spec : {M : Type 1} → statement M
 both-typings-spec =
     tie.close
     (tie.spec
-    slice-aggregate-read-booked
-    read-booked-requires
+    slice-aggregate-read-lent
+    read-lent-requires
     enum-known-read
     enum-known-read-2
     grid-size-requires
+    same-length
     returns
-    returns-2
     slice-aggregate-both-of
     both-of-requires
     both-answer-requires
-    returns-3
-    same-length
     same-length-2
-    returns-4)
+    returns-2
+    same-length-3
+    same-length-4
+    returns-3)

@@ -1,9 +1,11 @@
 -- `calls::read_booked` reads the sheet and then the bookings: a law of proofs/Readings for each answer.
 -- Assumes nothing.
-use mathlib.Core.Bool.{true}
+use Prim.Native.Nat.{ℕ}
 use denote.Ref.{now}
 use borrow.Author.Needs.{needs}
+use Rattle.words.specs.Reading.{Reading}
 use Rattle.sheet.specs.Opened.{Known}
+use Rattle.bookings.specs.Bookings.{readBookings}
 use Rattle.calls.proofs.Known.{read as accepted}
 use Rattle.calls.proofs.Readings.{known-by, sheet-refused, list-refused, list-read}
 use Rattle.calls.proofs.read_booked.Statement.{statement}
@@ -15,6 +17,10 @@ start c = c .before .before .before .before .before .before
 
 abbrev read : tie.After-known-told2 → tie.After-read-sheet
 read c = c .before .before .before .before .before
+
+-- the reading of the list
+abbrev reading : tie.After-read-sheet → ℕ → ℕ → Reading ℕ
+reading c cards shapes = readBookings cards shapes (now (start c .args .bookings))
 
 known : (c : tie.After-known-told2) → let s = start (read c) .args in
     Known (now (s .template)) (now (s .script)) (read c .read-sheet .last .1 .1 .0) (c .before .read2 .given .0 .0)
@@ -44,7 +50,7 @@ same-length c = search needs
 returns : tie.Need-returns
 returns c =
     let sheet = c .before .before .before .before .before in
-    sheet-refused _ _ _ (sheet .read-sheet .ensures) true (now (start sheet .args .bookings))
+    sheet-refused _ _ _ (sheet .read-sheet .ensures) (reading sheet)
     (c .before .read .given .1)
 
 same-length-2 : tie.Need-same-length-2
@@ -53,8 +59,8 @@ same-length-2 c = search needs
 returns-2 : tie.Need-returns-2
 returns-2 c =
     let list = c .before .before .before in
-    list-refused true (known (list .before)) (now (start (read (list .before)) .args .bookings))
-    (list .read-bookings .ensures) (c .before .list .given .1)
+    list-refused (reading (read (list .before))) (known (list .before)) (list .read-bookings .ensures)
+    (c .before .list .given .1)
 
 same-length-3 : tie.Need-same-length-3
 same-length-3 c = search needs
@@ -65,8 +71,7 @@ returns-3 c =
     let k = known (list .before) in
     record {
       known = k;
-      list = list-read true k (now (start (read (list .before)) .args .bookings)) (list .read-bookings .ensures)
-          (c .before .list2 .given .1);
+      list = list-read (reading (read (list .before))) k (list .read-bookings .ensures) (c .before .list2 .given .1);
     }
 
 pub read-booked-spec : {M : Type 1} → statement M

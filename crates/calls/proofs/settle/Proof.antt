@@ -1,7 +1,6 @@
 -- `calls::settle` leaves the smallest typing that holds the bookings, or 50, of each sheet whose pairs that fit it was
 -- lent. Assumes nothing.
 use mathlib.Core.Path.{sym, _∙_}
-use mathlib.Core.Bool.{true}
 use native.Mathlib.Omega.{arith}
 use denote.Ref.{now}
 use borrow.Author.Needs.{needs}
@@ -39,8 +38,8 @@ close-requires c κs =
     record {
       links = links-ready k (s .pre .some .links);
       all-cards = read k .links .cards;
-      sized = bookings-sized true (e .cards) (e .shapes) bookings _ (s .pre .list);
-      booked-in = bookings-each true (e .cards) (e .shapes) bookings _ (s .pre .list);
+      sized = bookings-sized (e .cards) (e .shapes) bookings _ (s .pre .list);
+      booked-in = bookings-each (e .cards) (e .shapes) bookings _ (s .pre .list);
       full = s .pre .size;
       room = omega (arith, few-pairs k);
     }
@@ -50,7 +49,7 @@ first-unfit-requires c κs =
     let s = start (closed c .before) in
     let t = s .pre .some .tested in
     let accepted = read (t .known) in
-    let size = closure-full t (now (s .args .bookings)) (s .pre .list) (closed c .close .ensures) in
+    let size = closure-full t (now (s .args .bookings)) (s .args .desk) (s .pre .list) (closed c .close .ensures) in
     record {
       full = size ∙ sym (t .fits .full);
       one-shape = accepted .shapes .shapes-low;
@@ -72,8 +71,8 @@ returns c sheet t =
     let judged = verdict (c .before) in
     let closes = closed (judged .before) in
     let s = start (closes .before) in
-    met-found t (now (s .args .bookings)) (s .pre .list) (closes .close .ensures) (judged .first-unfit .ensures)
-    (c .enum-told .given .1)
+    met-found t (now (s .args .bookings)) (s .args .desk) (s .pre .list) (closes .close .ensures)
+    (judged .first-unfit .ensures) (c .enum-told .given .1)
 
 same-length-2 : tie.Need-same-length-2
 same-length-2 c = search needs
@@ -83,8 +82,8 @@ returns-2 c sheet t =
     let judged = verdict2 (c .before .before) in
     let closes = closed (judged .before) in
     let s = start (closes .before) in
-    unmet-found t (now (s .args .bookings)) (s .pre .list) (closes .close .ensures) (judged .first-unfit .ensures)
-    (c .before .unfit .given .1)
+    unmet-found t (now (s .args .bookings)) (s .args .desk) (s .pre .list) (closes .close .ensures)
+    (judged .first-unfit .ensures) (c .before .unfit .given .1)
 
 pub settle-spec : {M : Type 1} → statement M
 settle-spec =

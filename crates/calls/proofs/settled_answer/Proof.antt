@@ -1,7 +1,7 @@
 -- `calls::settled_answer` says what was found. Assumes nothing.
 use mathlib.Core.Path.{sym, ap}
 use borrow.Author.Needs.{needs}
-use Rattle.calls.specs.Steps.{settledSaid}
+use Rattle.typing.specs.Answer.{settledSaid}
 use Rattle.calls.proofs.settled_answer.Statement.{statement}
 use Rattle.calls.proofs.settled_answer.Tie as tie
 

@@ -16,18 +16,18 @@ use Rattle.capi.proofs.prep_both_typings.Tie as tie
 abbrev Allowed : tie.After-both-typings → BothSaid → Type 0
 Allowed a =
     let s = a .before .before .before .before .before .before .before .before in
-    BothSays (now (s .args .template)) (now (s .args .script)) (now (s .args .bookings))
+    BothSays (now (s .args .template)) (now (s .args .script)) (now (s .args .bookings)) (s .args .desk)
     (record { small = now (s .args .small); large = now (s .args .large) })
-    (record { small = a .both-typings .last .1 .1 .1 .0; large = a .both-typings .last .1 .1 .1 .1 .0 })
+    (record { small = a .both-typings .last .1 .1 .1 .1 .0; large = a .both-typings .last .1 .1 .1 .1 .1 .0 })
 
 plain : (a : tie.After-both-typings) (number place : ℕ)
     → Allowed a (record { largest = refusal number (place ∷ []); smallest = refusal number (place ∷ []) })
     → Plain number
 plain a number place =
     let s = a .before .before .before .before .before .before .before .before in
-    both-plain number place (now (s .args .template)) (now (s .args .script)) (now (s .args .bookings))
+    both-plain number place (now (s .args .template)) (now (s .args .script)) (now (s .args .bookings)) (s .args .desk)
     (record { small = now (s .args .small); large = now (s .args .large) })
-    (record { small = a .both-typings .last .1 .1 .1 .0; large = a .both-typings .last .1 .1 .1 .1 .0 })
+    (record { small = a .both-typings .last .1 .1 .1 .1 .0; large = a .both-typings .last .1 .1 .1 .1 .1 .0 })
 
 both-typings-requires : tie.Need-both-typings-requires
 both-typings-requires c κs = search needs

@@ -16,13 +16,14 @@ use Rattle.capi.proofs.prep_judge.Tie as tie
 abbrev Allowed : tie.After-judge → Said → Type 0
 Allowed a =
     let s = a .before .before .before .before .before in
-    JudgeSays (now (s .args .template)) (now (s .args .script)) (now (s .args .bookings)) (now (s .args .grid))
+    JudgeSays (now (s .args .template)) (now (s .args .script)) (now (s .args .bookings)) (s .args .desk)
+    (now (s .args .grid))
 
 plain : (a : tie.After-judge) (number place : ℕ) → Allowed a (refusal number (place ∷ [])) → Plain number
 plain a number place =
     let s = a .before .before .before .before .before in
     judge-plain number place (now (s .args .template)) (now (s .args .script)) (now (s .args .bookings))
-    (now (s .args .grid))
+    (s .args .desk) (now (s .args .grid))
 
 judge-requires : tie.Need-judge-requires
 judge-requires c κs = search needs

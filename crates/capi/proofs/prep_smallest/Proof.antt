@@ -16,14 +16,14 @@ use Rattle.capi.proofs.prep_smallest.Tie as tie
 abbrev Allowed : tie.After-smallest → Said → Type 0
 Allowed a =
     let s = a .before .before .before .before .before .before in
-    SmallestSays (now (s .args .template)) (now (s .args .script)) (now (s .args .bookings)) (now (s .args .grid))
-    (a .smallest .last .1 .1 .1 .0)
+    SmallestSays (now (s .args .template)) (now (s .args .script)) (now (s .args .bookings)) (s .args .desk)
+    (now (s .args .grid)) (a .smallest .last .1 .1 .1 .1 .0)
 
 plain : (a : tie.After-smallest) (number place : ℕ) → Allowed a (refusal number (place ∷ [])) → Plain number
 plain a number place =
     let s = a .before .before .before .before .before .before in
     smallest-plain number place (now (s .args .template)) (now (s .args .script)) (now (s .args .bookings))
-    (now (s .args .grid)) (a .smallest .last .1 .1 .1 .0)
+    (s .args .desk) (now (s .args .grid)) (a .smallest .last .1 .1 .1 .1 .0)
 
 smallest-requires : tie.Need-smallest-requires
 smallest-requires c κs = search needs

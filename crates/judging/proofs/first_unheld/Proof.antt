@@ -1,54 +1,38 @@
--- `judging::first_unheld` finds the first booking that the grid does not hold. The invariant: none of the first `i` is
--- such a booking. Assumes nothing.
-use Prim.Native.Nat.{ℕ, _*_, _+_, _-_, _<_, _≤_}
-use mathlib.Core.Path.{_≡_, _∙_}
+-- `judging::first_unheld` finds the first booking of a desk that the grid does not hold. The invariant: none of the
+-- first `i` is such a booking. Assumes nothing.
+use Prim.Native.Nat.{ℕ, _-_, _<_, _≤_}
+use mathlib.Core.Path.{sym, _∙_}
+use mathlib.Core.Logic.{⊎-elim}
 use native.Mathlib.Omega.{arith}
-use lib.ListN.{length}
 use denote.Ref.{now}
 use borrow.Author.Count.{below-more}
 use borrow.Author.Needs.{needs}
-use Rattle.board.proofs.Grids.{on-yes, on-no}
-use Rattle.bookings.specs.Bookings.{cardAt, shapeAt}
-use Rattle.bookings.proofs.Accepted.{booking-in}
+use Rattle.words.proofs.Bools.{never-both, false-of-not, true-of-not}
+use Rattle.bookings.proofs.Accepted.{words-in}
 use Rattle.judging.specs.Judging.{Missing}
-use Rattle.judging.proofs.Judging.{booked-in-grid, missing-here, held-here}
+use Rattle.judging.proofs.Judging.{booking-asked}
 use Rattle.judging.proofs.first_unheld.Statement.{statement}
 use Rattle.judging.proofs.first_unheld.Tie as tie
 
 abbrev Inv-loop : tie.InvT-loop
-Inv-loop bookings count shapes grid pairs i₀ i =
-    ((q : ℕ) → q < i → Missing bookings shapes grid q → ⊥) × (i ≤ count)
+Inv-loop bookings count desk shapes grid pairs i₀ i =
+    ((q : ℕ) → q < i → Missing bookings desk shapes grid q → ⊥) × (i ≤ count)
 
 abbrev μ-loop : tie.MeasureT-loop
-μ-loop bookings count shapes grid pairs i₀ i = count - i
+μ-loop bookings count desk shapes grid pairs i₀ i = count - i
 
 -- the function's entry, from the loop
 abbrev Start : tie.At-loop Inv-loop μ-loop → tie.Start Inv-loop μ-loop
 Start l = l .before .before .before .before
 
--- a turn: the booking's card is read, and its shape
-abbrev Card : tie.After-wide3 Inv-loop μ-loop → tie.After-wide2 Inv-loop μ-loop
-Card a = a .before .before
-
-abbrev Turn : tie.After-wide3 Inv-loop μ-loop → tie.In-loop Inv-loop μ-loop
-Turn a = Card a .before .before
-
-card-here : (a : tie.After-wide3 Inv-loop μ-loop) → let l = Turn a .before in
-    Card a .wide2 .result ≡ cardAt (now (Start l .args .bookings)) (l .loop .i)
-card-here a = Card a .wide2 .ensures .same ∙ Card a .before .card-at .ensures
-
-shape-here : (a : tie.After-wide3 Inv-loop μ-loop) → let l = Turn a .before in
-    a .wide3 .result ≡ shapeAt (now (Start l .args .bookings)) (l .loop .i)
-shape-here a = a .wide3 .ensures .same ∙ a .before .shape-at .ensures
-
--- the place that is read
-abbrev Place : tie.After-wide3 Inv-loop μ-loop → ℕ
-Place a = Card a .wide2 .result * Start (Turn a .before) .args .shapes + a .wide3 .result
-
-place-in-grid : (a : tie.After-wide3 Inv-loop μ-loop) → Place a < length (now (Start (Turn a .before) .args .grid))
-place-in-grid a =
-    let s = Start (Turn a .before) in
-    booked-in-grid (s .pre) (omega arith) (card-here a) (shape-here a)
+-- where booking i is passed, it is the other desk's or is held
+passed-here : (c : tie.Joined1 Inv-loop μ-loop) → let l = c .before .before .before in
+    let a = Start l .args in
+    Missing (now (a .bookings)) (a .desk) (a .shapes) (now (a .grid)) (l .loop .i) → ⊥
+passed-here c (ours, off) = ⊎-elim
+    (λ w. never-both (sym (w .1 .ensures) ∙ true-of-not (w .2 .left)) off)
+    (λ w. omega (arith, ours, c .before .desk-at .ensures, w .left))
+    (c .if1 .came)
 
 wide-requires : tie.Need-wide-requires Inv-loop μ-loop
 wide-requires c κs = search needs
@@ -56,37 +40,24 @@ wide-requires c κs = search needs
 loop-holds : tie.Need-loop-holds Inv-loop μ-loop
 loop-holds c = (λ q l. absurd (omega arith), omega arith)
 
-card-at-requires : tie.Need-card-at-requires Inv-loop μ-loop
-card-at-requires c κs = booking-in (Start (c .before) .pre .sized) (omega arith)
+desk-at-requires : tie.Need-desk-at-requires Inv-loop μ-loop
+desk-at-requires c κs = words-in (Start (c .before) .pre .sized) (omega arith)
 
-wide-requires-2 : tie.Need-wide-requires-2 Inv-loop μ-loop
-wide-requires-2 c κs = search needs
-
-shape-at-requires : tie.Need-shape-at-requires Inv-loop μ-loop
-shape-at-requires c κs = booking-in (Start (c .before .before .before) .pre .sized) (omega arith)
-
-wide-requires-3 : tie.Need-wide-requires-3 Inv-loop μ-loop
-wide-requires-3 c κs = search needs
-
-mul-if1 : tie.Need-mul-if1 Inv-loop μ-loop
-mul-if1 c = omega (arith, place-in-grid c)
-
-add-if1 : tie.Need-add-if1 Inv-loop μ-loop
-add-if1 c = omega (arith, place-in-grid c)
-
-shared-slice-read-if1 : tie.Need-shared-slice-read-if1 Inv-loop μ-loop
-shared-slice-read-if1 c = omega (arith, place-in-grid (c .before))
+is-held-requires : tie.Need-is-held-requires Inv-loop μ-loop
+is-held-requires c κs = booking-asked (Start (c .before .before .before) .pre) (omega arith)
 
 returns : tie.Need-returns Inv-loop μ-loop
 returns c =
-    let a = c .before .before in
-    let l = Turn a .before in
-    let s = Start l in
+    let held = c .before in
+    let desk = held .before .before in
+    let l = desk .before .before in
     record {
       within = l .loop .inv .1;
       before = l .loop .inv .0;
-      here = λ below. missing-here (s .pre) below (card-here a) (shape-here a)
-          (on-no (now (s .args .grid)) (Place a) (c .if1 .taken));
+      here = λ below. (
+        omega (arith, desk .desk-at .ensures, held .before .if1 .taken),
+        sym (held .is-held .ensures) ∙ false-of-not (c .if2 .taken),
+      );
     }
 
 add-i : tie.Need-add-i Inv-loop μ-loop
@@ -97,13 +68,10 @@ loop-less c = search needs
 
 loop-again : tie.Need-loop-again Inv-loop μ-loop
 loop-again c =
-    let a = c .before .before in
-    let l = Turn a .before in
-    let s = Start l in (
-      below-more (λ q. Missing (now (s .args .bookings)) (s .args .shapes) (now (s .args .grid)) q → ⊥)
-          (l .loop .i) (l .loop .inv .0)
-          (held-here (s .pre) (omega arith) (card-here a) (shape-here a)
-          (on-yes (now (s .args .grid)) (Place a) (c .if1 .left))),
+    let l = c .before .before .before in
+    let a = Start l .args in (
+      below-more (λ q. Missing (now (a .bookings)) (a .desk) (a .shapes) (now (a .grid)) q → ⊥) (l .loop .i)
+          (l .loop .inv .0) (passed-here c),
       omega arith,
     )
 
@@ -120,13 +88,8 @@ first-unheld-spec =
     μ-loop
     wide-requires
     loop-holds
-    card-at-requires
-    wide-requires-2
-    shape-at-requires
-    wide-requires-3
-    mul-if1
-    add-if1
-    shared-slice-read-if1
+    desk-at-requires
+    is-held-requires
     returns
     add-i
     loop-less

@@ -1,9 +1,11 @@
 -- `printer::print_words` prints a refusal, or lends grids of the sheet's size. Assumes nothing.
+use Prim.Native.Nat.{_≤_}
 use mathlib.Core.Path.{subst}
 use native.Mathlib.Omega.{arith}
 use native.Mathlib.Nat.{le-trans}
 use denote.Ref.{now}
 use borrow.Author.Needs.{needs}
+use Rattle.words.specs.Sizes.{maxGrid}
 use Rattle.calls.specs.Steps.{Listed, BookedAs}
 use Rattle.calls.proofs.Known.{few-pairs}
 use Rattle.printer.proofs.Writes.{refused-end}
@@ -29,6 +31,11 @@ listed c =
 -- The grids have room for the sheet's pairs.
 abbrev sized : tie.After-names3 → tie.After-grid-size
 sized c = c .before
+
+part-end : (c : tie.After-names3) → sized c .grid-size .result ≤ maxGrid
+part-end c =
+    let size = sized c in
+    omega (arith, size .grid-size .ensures, few-pairs (listed (size .before) .known))
 
 slice-aggregate-read-booked : tie.Need-slice-aggregate-read-booked
 slice-aggregate-read-booked c = search needs
@@ -57,35 +64,41 @@ slice-aggregate-print-grids c = search needs
 sub-print-grids : tie.Need-sub-print-grids
 sub-print-grids c = search needs
 
-part-small-start : tie.Need-part-small-start
-part-small-start c = search needs
+part-radio-start : tie.Need-part-radio-start
+part-radio-start c = search needs
 
-part-small-end : tie.Need-part-small-end
-part-small-end c =
-    let size = sized c in
-    omega (arith, size .grid-size .ensures, few-pairs (listed (size .before) .known))
+part-radio-end : tie.Need-part-radio-end
+part-radio-end c = part-end c
 
 sub-print-grids-2 : tie.Need-sub-print-grids-2
 sub-print-grids-2 c = search needs
+
+part-television-start : tie.Need-part-television-start
+part-television-start c = search needs
+
+part-television-end : tie.Need-part-television-end
+part-television-end c = part-end (c .before)
+
+sub-print-grids-3 : tie.Need-sub-print-grids-3
+sub-print-grids-3 c = search needs
 
 part-large-start : tie.Need-part-large-start
 part-large-start c = search needs
 
 part-large-end : tie.Need-part-large-end
-part-large-end c =
-    let size = sized (c .before) in
-    omega (arith, size .grid-size .ensures, few-pairs (listed (size .before) .known))
+part-large-end c = part-end (c .before .before)
 
 print-grids-requires : tie.Need-print-grids-requires
 print-grids-requires c κs =
-    let size = sized (c .before .before .before) in
+    let size = sized (c .before .before .before .before) in
     let l = listed (size .before) in
     let few = few-pairs (l .known) in
     record {
       lent = record {
         listed = l;
-        size = omega (arith, size .grid-size .ensures, few);
-        other-size = omega (arith, size .grid-size .ensures, few);
+        radio-size = omega (arith, size .grid-size .ensures, few);
+        television-size = omega (arith, size .grid-size .ensures, few);
+        large-size = omega (arith, size .grid-size .ensures, few);
       };
       room = omega arith;
     }
@@ -121,9 +134,12 @@ print-words-spec =
     grid-size-requires
     slice-aggregate-print-grids
     sub-print-grids
-    part-small-start
-    part-small-end
+    part-radio-start
+    part-radio-end
     sub-print-grids-2
+    part-television-start
+    part-television-end
+    sub-print-grids-3
     part-large-start
     part-large-end
     print-grids-requires

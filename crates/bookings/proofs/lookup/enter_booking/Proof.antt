@@ -1,32 +1,62 @@
--- `bookings::enter_booking` looks a pair up along the chain of its card. The invariant: what is booked below the
--- booking that it stands at decides.
+-- `bookings::enter_booking` looks a booking up along the chain of its card. The invariant: what is below the booking
+-- that it stands at decides.
 -- Assumes nothing.
 use Prim.Native.Nat.{ℕ, _-_}
-use mathlib.Core.Path.{_≡_, ap, _∙_}
+use mathlib.Core.Path.{_≡_, sym, ap, _∙_}
+use mathlib.Core.Logic.{⊎-elim}
 use native.Mathlib.Omega.{arith}
 use lib.ListN.{getD}
 use denote.Ref.{now}
 use borrow.Author.Needs.{needs}
+use borrow.Author.Tests.{eqb-true, eqb-false}
 use Rattle.words.specs.Chain.{lastAt}
 use Rattle.words.proofs.Chains.{last-le}
-use Rattle.bookings.specs.Bookings.{cardAt}
-use Rattle.bookings.proofs.Repeats.{Looking, look-start, look-found, look-next, look-none, entered-again}
-use Rattle.bookings.proofs.Repeats.{entered-new}
+use Rattle.bookings.specs.Bookings.{Booking, cardAt, bookingAt}
+use Rattle.bookings.specs.Steps.{WordsIn}
+use Rattle.bookings.proofs.Repeats.{booking-same, Looking, look-start, look-card, look-found, look-next}
+use Rattle.bookings.proofs.Repeats.{look-none, entered-again, entered-new}
 use Rattle.bookings.proofs.lookup.enter_booking.Statement.{statement}
 use Rattle.bookings.proofs.lookup.enter_booking.Tie as tie
 
+-- what is looked up
+abbrev it : ℕ → ℕ → ℕ → Booking
+it desk card shape = record { desk = desk; card = card; shape = shape }
+
 abbrev Inv-loop : tie.InvT-loop
-Inv-loop bookings k card shape first next n last at₀ at = Looking bookings card shape k at
+Inv-loop bookings k desk card shape first next n last at₀ at = Looking bookings (it desk card shape) k at
 
 abbrev μ-loop : tie.MeasureT-loop
-μ-loop bookings k card shape first next n last at₀ at = at
+μ-loop bookings k desk card shape first next n last at₀ at = at
 
--- the function's entry
+-- the function's entry, and the loop
 abbrev Start : tie.At-loop Inv-loop μ-loop → tie.Start Inv-loop μ-loop
 Start l = l .before .before .before .before .before .before .before
 
 abbrev Loop : tie.After-wide3 Inv-loop μ-loop → tie.At-loop Inv-loop μ-loop
 Loop a = a .before .before .before .before .before
+
+-- the words of the booking that it stands at are in the list
+words-here : (c : tie.In-loop Inv-loop μ-loop) → let l = c .before in
+    WordsIn 3 (now (Start l .args .bookings)) (l .loop .at - 1)
+words-here c =
+    let l = c .before in
+    let s = Start l in
+    record {
+      few = omega (arith, l .loop .inv .bound, s .pre .few);
+      inside = omega (arith, l .loop .inv .bound, s .pre .words, c .loop-test .taken);
+    }
+
+-- the booking that it stands at is another
+other-here : (c : tie.Joined1 Inv-loop μ-loop) → let l = c .before .before .before in
+    let a = Start l .args in
+    bookingAt (now (a .bookings)) (l .loop .at - 1) ≡ it (a .desk) (a .card) (a .shape) → ⊥
+other-here c e =
+    let shape-is = ap (λ (b : Booking). b .shape) e in
+    let desk-is = ap (λ (b : Booking). b .desk) e in
+    ⊎-elim
+    (λ w. absurd (eqb-false _ _ (w .2 .left) (w .1 .ensures ∙ desk-is)))
+    (λ w. omega (arith, shape-is, c .before .shape-at .ensures, w .left))
+    (c .if1 .came)
 
 -- the next booking of the chain
 next-here : (a : tie.After-wide3 Inv-loop μ-loop) → let l = Loop a in
@@ -57,29 +87,28 @@ loop-holds : tie.Need-loop-holds Inv-loop μ-loop
 loop-holds c =
     let s = c .before .before .before .before .before .before in
     let card-here = c .before .before .wide .ensures .same in
-    look-start (now (s .args .bookings)) (s .args .card) (s .args .shape)
+    look-start (now (s .args .bookings)) (it (s .args .desk) (s .args .card) (s .args .shape))
     (c .wide2 .ensures .same ∙ ap (λ (m : ℕ). getD (now (s .args .first)) m 0) card-here
     ∙ s .pre .chained .heads (s .args .card) (s .pre .card-in))
 
-sub-shape-at : tie.Need-sub-shape-at Inv-loop μ-loop
-sub-shape-at c = search needs
+sub-j : tie.Need-sub-j Inv-loop μ-loop
+sub-j c = search needs
 
 shape-at-requires : tie.Need-shape-at-requires Inv-loop μ-loop
-shape-at-requires c κs =
-    let l = c .before in
-    let s = Start l in
-    record {
-      few = omega (arith, l .loop .inv .bound, s .pre .few);
-      inside = omega (arith, l .loop .inv .bound, s .pre .words, c .loop-test .taken);
-    }
+shape-at-requires c κs = words-here c
+
+desk-at-requires : tie.Need-desk-at-requires Inv-loop μ-loop
+desk-at-requires c κs = words-here (c .before .before)
 
 returns : tie.Need-returns Inv-loop μ-loop
 returns c =
-    let l = c .before .before .before in
-    entered-again (Start l .pre) (look-found (l .loop .inv) (c .before .before .loop-test .taken) (omega arith))
-
-sub-wide : tie.Need-sub-wide Inv-loop μ-loop
-sub-wide c = search needs
+    let desk = c .before in
+    let shape = desk .before .before in
+    let l = shape .before .before in
+    let some = shape .before .loop-test .taken in
+    entered-again (Start l .pre) (look-found (l .loop .inv) some (booking-same
+    (sym (desk .desk-at .ensures) ∙ eqb-true _ _ (c .if2 .taken)) (look-card (l .loop .inv) some)
+    (omega (arith, shape .shape-at .ensures, desk .before .if1 .taken))))
 
 mul-wide : tie.Need-mul-wide Inv-loop μ-loop
 mul-wide c = search needs
@@ -104,7 +133,7 @@ loop-again : tie.Need-loop-again Inv-loop μ-loop
 loop-again c =
     let l = Loop c in
     look-next (l .loop .inv) (c .before .before .before .before .loop-test .taken)
-    (λ e. absurd (omega (arith, e))) (next-here c)
+    (other-here (c .before .before)) (next-here c)
 
 mul-next : tie.Need-mul-next Inv-loop μ-loop
 mul-next c = search needs
@@ -148,10 +177,10 @@ enter-booking-spec =
     slice-read-last
     wide-requires-2
     loop-holds
-    sub-shape-at
+    sub-j
     shape-at-requires
+    desk-at-requires
     returns
-    sub-wide
     mul-wide
     slice-read-wide
     wide-requires-3

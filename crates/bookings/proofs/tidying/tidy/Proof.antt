@@ -4,14 +4,16 @@ use Prim.Native.Nat.{_-_, _≤_, _<_}
 use mathlib.Core.Path.{_≡_, refl, subst, _∙_}
 use mathlib.Core.Logic.{⊎-elim}
 use native.Mathlib.Omega.{arith}
-use lib.ListN.{length, getD, length-set, getD-replicate}
+use lib.ListN.{length, getD, set, length-set, getD-replicate}
 use denote.Ref.{now}
 use borrow.Author.Needs.{needs}
 use Rattle.words.specs.Limits.{maxCards, maxBookings}
 use Rattle.words.proofs.Bools.{false-of-not, true-of-not}
 use Rattle.words.proofs.Writing.{wrote-length}
 use Rattle.bookings.specs.Bookings.{shapeIndex}
-use Rattle.bookings.proofs.Accepted.{booking-in}
+use Rattle.bookings.specs.Stored.{storedAt}
+use Rattle.bookings.proofs.Repeats.{booking-same}
+use Rattle.bookings.proofs.Accepted.{words-in}
 use Rattle.bookings.proofs.Keeping.{Keeping, keeping-start, keeping-again, keeping-new, keeping-end}
 use Rattle.bookings.proofs.tidying.tidy.Statement.{statement}
 use Rattle.bookings.proofs.tidying.tidy.Tie as tie
@@ -22,7 +24,7 @@ Inv-loop bookings count out₀ first₀ next₀ pairs kept₀ i₀ out first nex
     × (kept ≤ i)
     × (length first ≡ maxCards)
     × (length next ≡ maxBookings)
-    × Keeping bookings out₀ out first next kept i
+    × Keeping (storedAt bookings) out₀ out first next kept i
 
 abbrev μ-loop : tie.MeasureT-loop
 μ-loop bookings count out₀ first₀ next₀ pairs kept₀ i₀ out first next kept i = pairs - i
@@ -36,7 +38,7 @@ Loop c = c .before .before .before .before .before .before .before .before .befo
 
 -- the buffer has a word, and keeps its length
 some-word : (s : tie.Start Inv-loop μ-loop) → 1 ≤ length (now (s .args .out))
-some-word s = omega (arith, s .pre .room, s .pre .sized .size)
+some-word s = omega (arith, s .pre .room)
 
 -- it has room for one booking more
 room-left : (l : tie.At-loop Inv-loop μ-loop) → l .loop .i < l .before .wide .result
@@ -50,7 +52,6 @@ room-left l below =
       l .loop .inv .1,
       wrote-length (l .loop .inv .4 .wrote),
       s .pre .room,
-      s .pre .sized .size,
     )
 
 wide-requires : tie.Need-wide-requires Inv-loop μ-loop
@@ -66,11 +67,11 @@ loop-holds c =
       keeping-start _ _ _ _ (some-word s) (λ m l. getD-replicate maxCards m 0 0 l),
     )
 
-card-at-requires : tie.Need-card-at-requires Inv-loop μ-loop
-card-at-requires c κs = booking-in (Start (c .before) .pre .sized) (omega arith)
+stored-card-at-requires : tie.Need-stored-card-at-requires Inv-loop μ-loop
+stored-card-at-requires c κs = words-in (Start (c .before) .pre .sized) (omega arith)
 
-shape-at-requires : tie.Need-shape-at-requires Inv-loop μ-loop
-shape-at-requires c κs = booking-in (Start (c .before .before) .pre .sized) (omega arith)
+stored-shape-at-requires : tie.Need-stored-shape-at-requires Inv-loop μ-loop
+stored-shape-at-requires c κs = words-in (Start (c .before .before) .pre .sized) (omega arith)
 
 slice-aggregate-enter-booking : tie.Need-slice-aggregate-enter-booking Inv-loop μ-loop
 slice-aggregate-enter-booking c = search needs
@@ -82,7 +83,7 @@ enter-booking-requires : tie.Need-enter-booking-requires Inv-loop μ-loop
 enter-booking-requires c κs =
     let l = c .before .before .before .before .before .before in
     let s = Start l in
-    let card-here = c .before .before .before .before .card-at .ensures in
+    let card-here = c .before .before .before .before .stored-card-at .ensures in
     let card-in = s .pre .cards (l .loop .i) (omega arith) in
     record {
       chained = l .loop .inv .4 .chained;
@@ -92,8 +93,8 @@ enter-booking-requires c κs =
       card-in = omega (arith, card-in, card-here, l .loop .inv .2);
     }
 
-card-index-requires : tie.Need-card-index-requires Inv-loop μ-loop
-card-index-requires c κs = search needs
+desk-index-requires : tie.Need-desk-index-requires Inv-loop μ-loop
+desk-index-requires c κs = search needs
 
 mul-out : tie.Need-mul-out Inv-loop μ-loop
 mul-out c = search needs
@@ -101,10 +102,10 @@ mul-out c = search needs
 slice-write-out : tie.Need-slice-write-out Inv-loop μ-loop
 slice-write-out c =
     let l = Loop (c .before .before) in
-    omega (arith, c .card-index .ensures, room-left l (omega arith))
+    omega (arith, c .desk-index .ensures, room-left l (omega arith))
 
-shape-index-requires : tie.Need-shape-index-requires Inv-loop μ-loop
-shape-index-requires c κs = search needs
+card-index-requires : tie.Need-card-index-requires Inv-loop μ-loop
+card-index-requires c κs = search needs
 
 mul-out-2 : tie.Need-mul-out-2 Inv-loop μ-loop
 mul-out-2 c = search needs
@@ -112,9 +113,32 @@ mul-out-2 c = search needs
 slice-write-out-2 : tie.Need-slice-write-out-2 Inv-loop μ-loop
 slice-write-out-2 c =
     let l = Loop (c .before .before .before) in
-    let here = c .before .card-index .result in
-    let card = c .before .before .before .before .before .before .before .before .before .before .card-at .result in
-    omega (arith, c .shape-index .ensures, room-left l (omega arith), length-set (l .loop .out) here card)
+    omega (
+      arith,
+      c .card-index .ensures,
+      room-left l (omega arith),
+      length-set (l .loop .out) (c .before .desk-index .result) 0,
+    )
+
+shape-index-requires : tie.Need-shape-index-requires Inv-loop μ-loop
+shape-index-requires c κs = search needs
+
+mul-out-3 : tie.Need-mul-out-3 Inv-loop μ-loop
+mul-out-3 c = search needs
+
+slice-write-out-3 : tie.Need-slice-write-out-3 Inv-loop μ-loop
+slice-write-out-3 c =
+    let t = c .before .before .before .before in
+    let l = Loop t in
+    let desk = c .before .before .desk-index .result in
+    let card = t .before .before .before .before .before .before .before .stored-card-at .result in
+    omega (
+      arith,
+      c .shape-index .ensures,
+      room-left l (omega arith),
+      length-set (l .loop .out) desk 0,
+      length-set (set (l .loop .out) desk 0) (c .before .card-index .result) card,
+    )
 
 add-kept : tie.Need-add-kept Inv-loop μ-loop
 add-kept c = search needs
@@ -129,41 +153,40 @@ loop-again : tie.Need-loop-again Inv-loop μ-loop
 loop-again c =
     let l = Loop (c .before) in
     let s = Start l in
-    let card-here = c .before .before .before .before .before .before .before .before .card-at .ensures in
-    let shape-here = c .before .before .before .before .before .before .before .shape-at .ensures in
+    let card-here = c .before .before .before .before .before .before .before .before .stored-card-at .ensures in
+    let shape-here = c .before .before .before .before .before .before .before .stored-shape-at .ensures in
     let e = c .before .before .before .enter-booking .ensures in
     let w = l .loop .inv .4 in
-    let room : shapeIndex (l .loop .kept) < length (now (s .args .out)) =
-    omega (arith, room-left l (omega arith), wrote-length (w .wrote)) in
     let heads = e .heads ∙ l .loop .inv .2 in
     let links = e .links ∙ l .loop .inv .3 in
     ⊎-elim
-    (λ v. rw (v .3, v .4, v .1 .ensures, v .2 .ensures) (
+    (λ v. rw (v .4, v .5, v .1 .ensures, v .2 .ensures, v .3 .ensures) (
       omega arith,
       omega arith,
       heads,
       links,
-      keeping-new (some-word s) w card-here shape-here e (false-of-not (v .0 .taken)) room,
+      keeping-new (some-word s) w (booking-same refl card-here shape-here) e (false-of-not (v .0 .taken))
+          (room-left l (omega arith)),
     ))
     (λ v. rw (v .1, v .2) (
       omega arith,
       omega arith,
       heads,
       links,
-      keeping-again (some-word s) w card-here shape-here e (true-of-not (v .0 .left)),
+      keeping-again (some-word s) w (booking-same refl card-here shape-here) e (true-of-not (v .0 .left)),
     ))
     (c .if1 .came)
 
 cast-out : tie.Need-cast-out Inv-loop μ-loop
 cast-out c = search needs
 
-slice-write-out-3 : tie.Need-slice-write-out-3 Inv-loop μ-loop
-slice-write-out-3 c =
+slice-write-out-4 : tie.Need-slice-write-out-4 Inv-loop μ-loop
+slice-write-out-4 c =
     let l = c .before in
     omega (arith, some-word (Start l), wrote-length (l .loop .inv .4 .wrote))
 
-card-index-requires-2 : tie.Need-card-index-requires-2 Inv-loop μ-loop
-card-index-requires-2 c κs = search needs
+desk-index-requires-2 : tie.Need-desk-index-requires-2 Inv-loop μ-loop
+desk-index-requires-2 c κs = search needs
 
 same-length : tie.Need-same-length Inv-loop μ-loop
 same-length c =
@@ -175,7 +198,7 @@ returns c =
     let l = c .before .before in
     let s = Start l in
     let all : l .loop .i ≡ getD (now (s .args .bookings)) 0 0 = omega (arith, s .pre .counted) in
-    rw (c .card-index2 .ensures) (keeping-end (some-word s) (subst
+    rw (c .desk-index2 .ensures) (keeping-end _ (some-word s) (subst
     (Keeping _ _ _ (l .loop .first) (l .loop .next) (l .loop .kept)) all (l .loop .inv .4)))
 
 pub tidy-spec : {M : Type 1} → statement M
@@ -186,23 +209,26 @@ tidy-spec =
     μ-loop
     wide-requires
     loop-holds
-    card-at-requires
-    shape-at-requires
+    stored-card-at-requires
+    stored-shape-at-requires
     slice-aggregate-enter-booking
     slice-aggregate-enter-booking-2
     enter-booking-requires
-    card-index-requires
+    desk-index-requires
     mul-out
     slice-write-out
-    shape-index-requires
+    card-index-requires
     mul-out-2
     slice-write-out-2
+    shape-index-requires
+    mul-out-3
+    slice-write-out-3
     add-kept
     add-i
     loop-less
     loop-again
     cast-out
-    slice-write-out-3
-    card-index-requires-2
+    slice-write-out-4
+    desk-index-requires-2
     same-length
     returns)

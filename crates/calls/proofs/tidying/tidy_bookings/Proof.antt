@@ -1,13 +1,14 @@
 -- `calls::tidy_bookings` answers as the format says: a law of proofs/Answered for each way out. Assumes nothing.
+use Prim.Native.Nat.{ℕ}
 use mathlib.Core.Path.{_≡_}
-use mathlib.Core.Bool.{false}
 use native.Mathlib.Omega.{arith}
+use lib.ListN.{getD}
 use denote.Ref.{now}
 use borrow.Author.Needs.{needs}
-use Rattle.words.specs.Reading.{accepted}
+use Rattle.words.specs.Reading.{Reading, accepted}
 use Rattle.sheet.specs.Opened.{Known}
-use Rattle.bookings.specs.Bookings.{readStored}
-use Rattle.bookings.proofs.Accepted.{bookings-count, bookings-sized, bookings-each}
+use Rattle.bookings.specs.Stored.{readStored}
+use Rattle.bookings.proofs.StoredLists.{stored-count, stored-sized, stored-each}
 use Rattle.calls.proofs.Known.{sheet, read as opened}
 use Rattle.calls.proofs.Readings.{known-by, sheet-refused, list-refused, list-read, list-taken}
 use Rattle.calls.proofs.Answered.{tidy-refused, tidy-size, tidy-done}
@@ -24,6 +25,10 @@ read c = c .before .before .before .before
 abbrev list : tie.After-known-told4 → tie.After-read-stored
 list c = c .before .before .before
 
+-- the reading of the list
+abbrev reading : tie.After-read-sheet → ℕ → ℕ → Reading ℕ
+reading c cards shapes = readStored cards shapes (now (start c .args .bookings))
+
 known : (c : tie.After-known-told2) → let s = start (read c) .args in
     Known (now (s .template)) (now (s .script)) (read c .read-sheet .last .1 .1 .0) (c .before .read2 .given .0 .0)
 known c = known-by _ _ _ (read c .read-sheet .ensures) (c .before .read2 .given .1)
@@ -34,7 +39,7 @@ stored : (c : tie.After-known-told4) → let told = list c .before in
     ≡ accepted (c .before .list2 .given .0 .0)
 stored c =
     let told = list c .before in
-    list-read false (known told) (now (start (read told) .args .bookings)) (list c .read-stored .ensures)
+    list-read (reading (read told)) (known told) (list c .read-stored .ensures)
     (c .before .list2 .given .1)
 
 slice-aggregate-read-sheet : tie.Need-slice-aggregate-read-sheet
@@ -58,29 +63,46 @@ enum-known-list c = search needs
 enum-known-list-2 : tie.Need-enum-known-list-2
 enum-known-list-2 c = search needs
 
+wide-requires : tie.Need-wide-requires
+wide-requires c κs = search needs
+
+mul-if1 : tie.Need-mul-if1
+mul-if1 c = search needs
+
+add-if1 : tie.Need-add-if1
+add-if1 c = search needs
+
+-- the count that is read is the list's first word
+counted : (c : tie.After-known-told4) → c .before .list2 .given .0 .0
+    ≡ getD (now (start (read (list c .before)) .args .bookings)) 0 0
+counted c = stored-count _ _ _ _ (stored c)
+
 returns : tie.Need-returns
 returns c =
-    let told = list (c .before) .before in
+    let listed = c .before .before in
+    let told = list listed .before in
     let s = start (read told) .args in
     let k = known told in
     tidy-size (now (s .template)) (now (s .script)) (now (s .bookings)) (sheet k)
-    (list-taken false k (now (s .bookings)) (stored (c .before))) (now (s .out)) (λ e. omega (arith, e))
+    (list-taken (reading (read told)) k (stored listed)) (now (s .out))
+    (λ e. omega (arith, e, c .before .wide .ensures .same, counted listed))
 
 tidy-requires : tie.Need-tidy-requires
 tidy-requires c κs =
-    let listed = c .before .before in
+    let wide = c .before .before in
+    let listed = wide .before in
     let told = list listed .before in
     let bookings = now (start (read told) .args .bookings) in
     let e = told .before .read2 .given .0 .0 in
     record {
-      sized = bookings-sized false (e .cards) (e .shapes) bookings _ (stored listed);
-      counted = bookings-count false (e .cards) (e .shapes) bookings _ (stored listed);
+      sized = stored-sized (e .cards) (e .shapes) bookings _ (stored listed);
+      counted = counted listed;
       cards = λ i l. omega (
         arith,
-        bookings-each false (e .cards) (e .shapes) bookings _ (stored listed) i l .0,
+        stored-each (e .cards) (e .shapes) bookings _ (stored listed) i l .0,
         opened (known told) .links .cards-bound,
       );
-      room = omega arith;
+      room = omega (arith, wide .wide .ensures .same);
     }
 
 returns-2 : tie.Need-returns-2
@@ -88,7 +110,7 @@ returns-2 c =
     let sheet-read = c .before .before .before .before in
     let s = start sheet-read .args in
     tidy-refused (now (s .template)) (now (s .script)) (now (s .bookings)) (now (s .out)) _ _
-    (sheet-refused _ _ _ (sheet-read .read-sheet .ensures) false (now (s .bookings)) (c .before .read .given .1))
+    (sheet-refused _ _ _ (sheet-read .read-sheet .ensures) (reading sheet-read) (c .before .read .given .1))
 
 returns-3 : tie.Need-returns-3
 returns-3 c =
@@ -96,7 +118,7 @@ returns-3 c =
     let told = listed .before in
     let s = start (read told) .args in
     tidy-refused (now (s .template)) (now (s .script)) (now (s .bookings)) (now (s .out)) _ _
-    (list-refused false (known told) (now (s .bookings)) (listed .read-stored .ensures) (c .before .list .given .1))
+    (list-refused (reading (read told)) (known told) (listed .read-stored .ensures) (c .before .list .given .1))
 
 same-length : tie.Need-same-length
 same-length c = search needs
@@ -104,13 +126,14 @@ same-length c = search needs
 returns-4 : tie.Need-returns-4
 returns-4 c =
     let written = c .before .before in
-    let listed = written .before .before .before in
+    let wide = written .before .before .before in
+    let listed = wide .before in
     let told = list listed .before in
     let s = start (read told) .args in
     let k = known told in
     tidy-done (now (s .template)) (now (s .script)) (now (s .bookings)) (sheet k)
-    (list-taken false k (now (s .bookings)) (stored listed)) (now (s .out)) _ _ (omega arith)
-    (written .tidy .ensures)
+    (list-taken (reading (read told)) k (stored listed)) (now (s .out)) _ _
+    (omega (arith, wide .wide .ensures .same, counted listed)) (written .tidy .ensures)
 
 pub tidy-bookings-spec : {M : Type 1} → statement M
 tidy-bookings-spec =
@@ -123,6 +146,9 @@ tidy-bookings-spec =
     read-stored-requires
     enum-known-list
     enum-known-list-2
+    wide-requires
+    mul-if1
+    add-if1
     returns
     tidy-requires
     returns-2

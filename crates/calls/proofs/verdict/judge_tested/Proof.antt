@@ -1,7 +1,6 @@
 -- `calls::judge_tested` gives the verdict on a grid of zeros and ones, of each sheet whose pairs that fit it was lent.
 -- Assumes nothing.
 use mathlib.Core.Path.{_∙_, ap}
-use mathlib.Core.Bool.{true}
 use Prim.Native.Nat.{ℕ, _*_}
 use native.Mathlib.Nat.{div-le-self}
 use native.Mathlib.Omega.{arith}
@@ -31,11 +30,11 @@ first-unmet-requires c κs =
       tested = omega (arith, asked .some .tested .fits .full, asked .size);
     }
 
-div-t18 : tie.Need-div-t18
-div-t18 c = read (start (c .before .before) .pre .settling .some .tested .known) .shapes .shapes-low
+div-t19 : tie.Need-div-t19
+div-t19 c = read (start (c .before .before) .pre .settling .some .tested .known) .shapes .shapes-low
 
-cast-t19 : tie.Need-cast-t19
-cast-t19 c =
+cast-t20 : tie.Need-cast-t20
+cast-t20 c =
     let s = start (c .before .before) in
     let asked = s .pre .settling in
     omega (
@@ -45,11 +44,11 @@ cast-t19 c =
       few-pairs (asked .some .tested .known),
     )
 
-rem-t21 : tie.Need-rem-t21
-rem-t21 c = read (start (c .before .before) .pre .settling .some .tested .known) .shapes .shapes-low
+rem-t22 : tie.Need-rem-t22
+rem-t22 c = read (start (c .before .before) .pre .settling .some .tested .known) .shapes .shapes-low
 
-cast-t22 : tie.Need-cast-t22
-cast-t22 c =
+cast-t23 : tie.Need-cast-t23
+cast-t23 c =
     let s = start (c .before .before) in
     let accepted = read (s .pre .settling .some .tested .known) in
     omega (
@@ -61,8 +60,8 @@ cast-t22 c =
 returns : tie.Need-returns
 returns c sheet t =
     let s = start (c .before .before) in
-    unmet-tested t (now (s .args .bookings)) (now (s .args .grid)) (s .pre .marks) (s .pre .settling .size)
-    (c .before .first-unmet .ensures) (c .if1 .taken)
+    unmet-tested t (now (s .args .bookings)) (s .args .desk) (now (s .args .grid)) (s .pre .marks)
+    (s .pre .settling .size) (c .before .first-unmet .ensures) (c .if1 .taken)
 
 first-unheld-requires : tie.Need-first-unheld-requires
 first-unheld-requires c κs =
@@ -71,16 +70,16 @@ first-unheld-requires c κs =
     let e = s .args .e in
     record {
       cards = e .cards;
-      sized = bookings-sized true (e .cards) (e .shapes) (now (s .args .bookings)) _ (asked .list);
+      sized = bookings-sized (e .cards) (e .shapes) (now (s .args .bookings)) _ (asked .list);
       full = asked .size;
-      booked-in = bookings-each true (e .cards) (e .shapes) (now (s .args .bookings)) _ (asked .list);
+      booked-in = bookings-each (e .cards) (e .shapes) (now (s .args .bookings)) _ (asked .list);
     }
 
 card-index-requires : tie.Need-card-index-requires
 card-index-requires c κs =
     let s = start (c .before .before .before .before) in
     let e = s .args .e in
-    omega (arith, bookings-sized true (e .cards) (e .shapes) (now (s .args .bookings)) _ (s .pre .settling .list) .few)
+    omega (arith, bookings-sized (e .cards) (e .shapes) (now (s .args .bookings)) _ (s .pre .settling .list) .few)
 
 returns-2 : tie.Need-returns-2
 returns-2 c sheet t =
@@ -88,21 +87,23 @@ returns-2 c sheet t =
     let held = found .before in
     let met = held .before in
     let s = start (met .before .before) in
-    let counted = bookings-count true (s .args .e .cards) (s .args .e .shapes) (now (s .args .bookings)) _
+    let counted = bookings-count (s .args .e .cards) (s .args .e .shapes) (now (s .args .bookings)) _
     (s .pre .settling .list) in
     rw (c .card-index .ensures)
-    (unheld-tested t (now (s .args .bookings)) (now (s .args .grid)) (s .pre .marks) (s .pre .settling .size)
-    (met .before .first-unmet .ensures) (met .if1 .left) counted (held .first-unheld .ensures) (found .if2 .taken))
+    (unheld-tested t (now (s .args .bookings)) (s .args .desk) (now (s .args .grid)) (s .pre .marks)
+    (s .pre .settling .size) (met .before .first-unmet .ensures) (met .if1 .left)
+    counted (held .first-unheld .ensures) (found .if2 .taken))
 
 returns-3 : tie.Need-returns-3
 returns-3 c sheet t =
     let held = c .before in
     let met = held .before in
     let s = start (met .before .before) in
-    let counted = bookings-count true (s .args .e .cards) (s .args .e .shapes) (now (s .args .bookings)) _
+    let counted = bookings-count (s .args .e .cards) (s .args .e .shapes) (now (s .args .bookings)) _
     (s .pre .settling .list) in
-    passes-tested t (now (s .args .bookings)) (now (s .args .grid)) (s .pre .marks) (s .pre .settling .size)
-    (met .before .first-unmet .ensures) (met .if1 .left) counted (held .first-unheld .ensures) (c .if2 .left)
+    passes-tested t (now (s .args .bookings)) (s .args .desk) (now (s .args .grid)) (s .pre .marks)
+    (s .pre .settling .size) (met .before .first-unmet .ensures) (met .if1 .left)
+    counted (held .first-unheld .ensures) (c .if2 .left)
 
 pub judge-tested-spec : {M : Type 1} → statement M
 judge-tested-spec =
@@ -110,10 +111,10 @@ judge-tested-spec =
     (tie.spec
     cast-shapes
     first-unmet-requires
-    div-t18
-    cast-t19
-    rem-t21
-    cast-t22
+    div-t19
+    cast-t20
+    rem-t22
+    cast-t23
     returns
     first-unheld-requires
     card-index-requires

@@ -32,7 +32,7 @@ grid-full : (s : tie.Start) → length (now (s .args .grid)) ≡ getD (now (s .a
 grid-full s = s .pre .full ∙ ap (λ (x : ℕ). x * s .args .shapes) (s .pre .all-cards)
 
 marked-full : (m : tie.After-mark-bookings) → let s = Start (Filled m) in
-    length (m .mark-bookings .last .1 .1 .1 .1 .0) ≡ getD (now (s .args .script)) 0 0 * s .args .shapes
+    length (m .mark-bookings .last .1 .1 .1 .1 .1 .0) ≡ getD (now (s .args .script)) 0 0 * s .args .shapes
 marked-full m =
     m .mark-bookings .ensures .1 ∙ Filled m .fill .kept .0 ∙ grid-full (Start (Filled m))
 
