@@ -1,8 +1,8 @@
 //! Writes inputs with what is owed for them: into a folder, each with the text that the sheet printer owes beside
 //! it, or all of them into one file and what is owed into another.
 
-use crate::generate::{self, judging, tidying};
-use crate::sheet;
+use crate::generate::{self, judging, pairs, tidying};
+use crate::sheet::{self, Files};
 use std::fs;
 use std::path::Path;
 
@@ -25,7 +25,7 @@ pub fn write(folder: &Path, seed: u64, count: usize) -> Result<(), String> {
 const LONGEST: usize = 65_537;
 
 /// A random input and its text are left out of a stream if they are longer than this together.
-const STORED: usize = 16_000;
+const STORED: usize = 5_000;
 
 /// Writes the inputs of this seed into one file, each after its length in four bytes, low first, and their texts into
 /// another. The fixed inputs come first; random ones that are long are left out.
@@ -38,12 +38,23 @@ pub fn stream(inputs: &Path, texts: &Path, seed: u64, count: usize) -> Result<()
         if long || number >= fixed && case.bytes.len() + printed.len() > STORED {
             continue;
         }
-        input.extend((case.bytes.len() as u32).to_le_bytes());
-        input.extend(&case.bytes);
+        input.extend(counted(&case.bytes));
         text.push_str(&printed);
     }
     write_file(inputs, &input)?;
     write_file(texts, text.as_bytes())
+}
+
+/// An input after its length in four bytes, low first.
+fn counted(input: &[u8]) -> Vec<u8> {
+    [&(input.len() as u32).to_le_bytes(), input].concat()
+}
+
+/// Writes so many pairs of sheets on which one desk books the same, as `stream` writes inputs.
+pub fn desk_pairs(inputs: &Path, seed: u64, count: usize) -> Result<(), String> {
+    let sheets = pairs::pairs(seed, count).flat_map(|pair| pair.sheets);
+    let bytes: Vec<u8> = sheets.flat_map(|files: Files| counted(&files.bytes())).collect();
+    write_file(inputs, &bytes)
 }
 
 /// A random case with a grid or a buffer is left out of the stored ones if it has more bytes than this.

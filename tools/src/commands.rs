@@ -2,6 +2,7 @@
 
 use crate::files::{read, show, write};
 use crate::usage::{self, perhaps, Command, Given, Outcome, Switch};
+use prep_tools::desk::Desk;
 use prep_tools::numbers::{Card, Shape};
 use prep_tools::refusal::Refusal;
 use prep_tools::sheet::Files;
@@ -28,7 +29,8 @@ const COMMANDS: &[Command] = &[
             about: "write the outcome as JSON; tools/README.md tells the fields",
         }],
         about: "run a sheet and tell the outcome, or the fault, in words",
-        more: "Exit code: 0 if the bookings are met, 1 if they aren't, 2 if the file isn't a sheet.",
+        more: "Each desk's bookings are told apart.\n\
+               Exit code: 0 if the bookings of both desks are met, 1 if not, 2 if the file isn't a sheet.",
         run: run_check,
     },
     Command {
@@ -72,11 +74,12 @@ const COMMANDS: &[Command] = &[
     },
     Command {
         name: "judge",
-        forms: &[&["FILE", "GRID"]],
+        forms: &[&["FILE", "GRID"], &["FILE", "GRID", "DESK"]],
         options: &[],
         about: "judge a typing of a sheet that some program made",
         more: "GRID is a file with the typing's bytes: for each card, for each shape, 1 if the card has it, else 0.\n\
-               Exit code: 0 if it is a sound typing that holds the bookings, 1 if it isn't, 2 if FILE isn't a sheet.",
+               DESK, 0 for the radio or 1 for the television, is whose bookings it has to hold; without it that is 0.\n\
+               Exit code: 0 if it is a sound typing that holds them, 1 if it isn't, 2 if FILE isn't a sheet.",
         run: run_judge,
     },
     Command {
@@ -100,10 +103,11 @@ const COMMANDS: &[Command] = &[
         name: "tidy",
         forms: &[&["FILE", "OUT"]],
         options: &[],
-        about: "drop the bookings that repeat an earlier one",
-        more: "Words stay words. A text stays as it is, but for the lines of the bookings that go; a comment on\n\
-               such a line stays. How many go is told on standard error. OUT may be FILE. Nothing is written for\n\
-               a sheet that is refused for another fault.",
+        about: "drop the bookings that repeat an earlier one; give those of a stored list a desk",
+        more: "In words the bookings have to be a stored list, two words for each; those that are kept are written\n\
+               as bookings of desk 0, the radio. A text stays as it is, but for the lines of the bookings that\n\
+               repeat one of the same desk; a comment on such a line stays. How many go is told on standard error.\n\
+               OUT may be FILE. Nothing is written for a sheet that is refused for another fault.",
         run: run_tidy,
     },
     Command {
@@ -160,8 +164,8 @@ const COMMANDS: &[Command] = &[
         forms: &[&["IN", "OUT", "SEED", "COUNT"]],
         options: &[],
         about: "write sheets with grids to judge, and their answers, for stored cases",
-        more: "A case is a template, a script, bookings and a grid, each after its length in two bytes, low byte\n\
-               first, which counts words for the files and bytes for the grid. Each answer is a line.",
+        more: "A case is a template, a script, bookings, a desk, which is one word, and a grid, each after its length\n\
+               in two bytes, low byte first, which counts words, and bytes for the grid. Each answer is a line.",
         run: run_judge_cases,
     },
     Command {
@@ -173,6 +177,16 @@ const COMMANDS: &[Command] = &[
                byte first, and then in two bytes how many words the buffer has. Each answer is a line, with the\n\
                buffer after the call.",
         run: run_tidy_cases,
+    },
+    Command {
+        name: "desk-pairs",
+        forms: &[&["OUT", "SEED", "COUNT"]],
+        options: &[],
+        about: "write COUNT pairs of sheets on which one desk books the same",
+        more: "The sheets stand one after the other, each after its length, as `stream` writes them. Both of a pair\n\
+               have the same template and script, and the same bookings of one desk: desk 0 in the first pair, 1 in\n\
+               the second, and so in turn. So that desk's smallest typing is the same on both.",
+        run: run_desk_pairs,
     },
     Command {
         name: "compare",
@@ -264,7 +278,7 @@ fn run_check(given: &Given) -> Result<Outcome, String> {
     } else {
         show(sheet.report(file))?;
     }
-    Ok(noticed(sheet.not_met().is_some()))
+    Ok(noticed(!sheet.is_met()))
 }
 
 fn run_draw(given: &Given) -> Result<Outcome, String> {
@@ -306,14 +320,18 @@ fn run_explain(given: &Given) -> Result<Outcome, String> {
 fn explain_sheet(file: &str) -> Result<Outcome, String> {
     let wrong = match load_sheet(file, &read(file)?) {
         Err(trouble) => format!("{trouble}\n"),
-        Ok(sheet) => match sheet.not_met() {
-            Some(pair) => report::not_met(&sheet, &Roots::new(&sheet.setting), file, pair),
-            None => {
-                show("nothing is wrong\n")?;
-                return Ok(Outcome::Fine);
-            }
-        },
+        Ok(sheet) => {
+            let roots = Roots::new(&sheet.setting);
+            let mut pairs: Vec<Pair> = sheet.all_not_met().map(|(_, pair)| pair).collect();
+            pairs.dedup();
+            let told = |pair| report::not_met(&sheet, &roots, file, pair, &Desk::BOTH);
+            pairs.into_iter().map(told).collect()
+        }
     };
+    if wrong.is_empty() {
+        show("nothing is wrong\n")?;
+        return Ok(Outcome::Fine);
+    }
     show(wrong)?;
     Ok(Outcome::Noticed)
 }
@@ -325,7 +343,7 @@ fn explain_pair(file: &str, number: &str, pair: Pair) -> Result<Outcome, String>
         return Err(format!("the sheet in {file} has no such card or no such shape"));
     }
     show(match number {
-        "50" => report::not_met(&sheet, &Roots::new(&sheet.setting), file, pair),
+        "50" => report::not_met(&sheet, &Roots::new(&sheet.setting), file, pair, &Desk::BOTH),
         _ => judged::explain_pair(&sheet, file, pair),
     })?;
     Ok(Outcome::Fine)
@@ -349,8 +367,12 @@ fn run_judge(given: &Given) -> Result<Outcome, String> {
     if file == "-" && grid_file == "-" {
         return Err(command("judge")?.wrong("FILE and GRID can't both be standard input"));
     }
+    let desk = match given.arguments.len() {
+        2 => Desk::Radio.number(),
+        _ => given.number(2, "DESK")?,
+    };
     let sheet = load_sheet(file, &read(file)?).map_err(told)?;
-    let (told, accepted) = judged::report(&sheet, file, grid_file, &read(grid_file)?);
+    let (told, accepted) = judged::report(&sheet, file, desk, (grid_file, &read(grid_file)?));
     show(told)?;
     Ok(noticed(!accepted))
 }
@@ -435,6 +457,15 @@ fn run_judge_cases(given: &Given) -> Result<Outcome, String> {
 
 fn run_tidy_cases(given: &Given) -> Result<Outcome, String> {
     store(given, cases::tidied)
+}
+
+fn run_desk_pairs(given: &Given) -> Result<Outcome, String> {
+    cases::desk_pairs(
+        Path::new(given.at(0)),
+        given.number(1, "SEED")?,
+        given.number(2, "COUNT")?,
+    )?;
+    Ok(Outcome::Fine)
 }
 
 /// Writes cases of a seed into one file, and what is owed for them into another.

@@ -59,10 +59,12 @@ pub mod tracks;
 pub mod verify;
 pub mod wrap;
 
+use crate::desk::Desk;
 use crate::labels::{Label, Way};
 use crate::numbers::Card;
 use crate::text::check::Sheet;
 use crate::text::reasons::path;
+use crate::typing::Pair;
 use choice::Choice;
 use graph::{Arrow, Graph};
 use layout::{layout, Layout};
@@ -250,12 +252,15 @@ fn choice_note(whole: &Whole, choice: Choice, drawn: usize) -> Option<String> {
     ))
 }
 
-/// The links on the path from a booking to the unmet pair of 50. The path may run against them.
+/// The links on the path from a booking of each desk to its unmet pair of 50. A path may run against them.
 fn blamed(sheet: &Sheet) -> Vec<Arrow> {
-    let Some(goal) = sheet.not_met() else {
-        return Vec::new();
-    };
-    let steps = path(&sheet.setting, &sheet.booked, goal).unwrap_or_default();
+    let of_desk = |(desk, goal)| blamed_by(sheet, desk, goal);
+    sheet.all_not_met().flat_map(of_desk).collect()
+}
+
+/// The links on the path from a desk's booking to its unmet pair.
+fn blamed_by(sheet: &Sheet, desk: Desk, goal: Pair) -> Vec<Arrow> {
+    let steps = path(&sheet.setting, &sheet.booked_by(desk), goal).unwrap_or_default();
     let next = steps.iter().skip(1).map(|((card, _), _)| *card).chain([goal.0]);
     let arrows = steps.iter().zip(next);
     arrows

@@ -10,8 +10,11 @@
 //! | `flat`     | sheets about counting the links of a card, by flat shapes mostly  |
 //! | `alike`    | sheets with many cards that are alike or nearly so                |
 //! | `sparse`   | cards that few links touch or none, with and without a shape      |
-//! | `bookings` | bookings that are met, and others                                 |
-//! | `repeats`  | booking lists in which a pair stands twice, or nearly so          |
+//! | `bookings` | bookings of both desks that are met, and others                   |
+//! | `repeats`  | booking lists in which a desk books a pair twice, or nearly so    |
+//! | `desks`    | whose the bookings are, the same in every run                     |
+//! | `stored`   | stored lists from booking lists, and the other way round          |
+//! | `pairs`    | two sheets on which one desk books the same                       |
 //! | `heavy`    | the sheets that take longest, for timing                          |
 //! | `special`  | the worked sheet, long chains, everything at its limit            |
 //! | `turns`    | sheets on which strikes and closures run against the links        |
@@ -33,6 +36,7 @@ pub mod blanks;
 pub mod bookings;
 pub mod counted;
 pub mod damage;
+pub mod desks;
 pub mod edges;
 pub mod flat;
 pub mod heavy;
@@ -42,12 +46,14 @@ pub mod layout;
 pub mod matched;
 pub mod open;
 pub mod openings;
+pub mod pairs;
 pub mod parts;
 pub mod repeats;
 pub mod runs;
 pub mod scripts;
 pub mod sparse;
 pub mod special;
+pub mod stored;
 pub mod tidying;
 pub mod turns;
 
@@ -142,6 +148,7 @@ fn fixed_cases() -> impl Iterator<Item = Case> {
         runs::runs(),
         alike::fixed::fixed(),
         repeats::fixed::fixed(),
+        desks::fixed(),
     ];
     lists.into_iter().flatten()
 }
@@ -188,7 +195,8 @@ pub fn case(random: &mut Random) -> Case {
         49..=54 => special::random(random),
         // There are many ways to repeat a booking, so these come more often than other faults.
         55..=57 => aimed(random, 65),
-        58..=84 => {
+        58 => aimed(random, 66),
+        59..=84 => {
             let number = random.pick(&damage::AIMS);
             aimed(random, number)
         }

@@ -4,13 +4,14 @@
 //! | module     | section of docs/FORMAT.md, or purpose                                       |
 //! |------------|-----------------------------------------------------------------------------|
 //! | `numbers`  | card, kind and shape numbers: three lists, three types                      |
+//! | `desk`     | the two desks that book in one list                                         |
 //! | `labels`   | kinds with a way, outgoing or incoming, and values for each                 |
 //! | `refusal`  | a refusal's number, place and meaning                                       |
 //! | `template` | *Read a template*, refusals 1 to 12 and 64; also writes templates           |
 //! | `fit`      | *Fit counts*, refusals 41 to 43; by intervals and by enumeration of bags    |
 //! | `script`   | *Read a script*, refusals 20 to 25; *Links of a card*                       |
-//! | `typing`   | *Largest* (rounds and links) and *Smallest*, refusals 30 to 33, 65, 40 and  |
-//! |            | 50; *Judge a grid*, refusals 61 to 63; *Tidy bookings*                      |
+//! | `typing`   | *Largest* (rounds and links) and *Smallest*, refusals 30 to 33, 65, 66, 40  |
+//! |            | and 50; *Judge a grid*, refusals 61 to 63; *Tidy bookings*                  |
 //! | `sheet`    | *The sheet printer*, refusal 60                                             |
 //! | `samples`  | the count samples P1 to P12, and random small ones                          |
 //! | `random`   | a small seeded source of numbers                                            |
@@ -23,6 +24,7 @@
 
 pub mod cases;
 pub mod compare;
+pub mod desk;
 pub mod draw;
 pub mod fit;
 pub mod generate;

@@ -1,4 +1,5 @@
-//! A refusal: its number in docs/FORMAT.md and the index of the word at fault, or of the byte for 61.
+//! A refusal: its number in docs/FORMAT.md and the index of the word at fault, or of the byte for 61; 0 for a call's
+//! own desk, 66.
 //! Only 50 and 62 are not among these, because their place is a card and a shape (see `typing::Smallest` and
 //! `typing::judge::Judged`).
 
@@ -44,7 +45,7 @@ impl Refusal {
             31 => "the count of bookings is over 1,024",
             32 => "a booking's card isn't below the count of cards",
             33 => "a booking's shape isn't below the count of shapes",
-            40 => "the grid isn't cards times shapes bytes, or the buffer isn't as long as the list",
+            40 => "the grid isn't cards times shapes bytes, or the buffer isn't three words a booking and one more",
             41 => "the counts aren't one for each kind each way",
             42 => "the shape isn't below the count of shapes",
             43 => "a count is over 8,192",
@@ -53,7 +54,8 @@ impl Refusal {
             62 => "a pair of the grid isn't met under it",
             63 => "a booking isn't held by the grid",
             64 => "the code of an open shape isn't the first word of a shape",
-            65 => "a pair is booked a second time",
+            65 => "a desk books a pair a second time",
+            66 => "a desk is neither radio, 0, nor television, 1",
             _ => "a refusal that isn't known",
         }
     }

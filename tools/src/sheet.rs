@@ -2,7 +2,7 @@
 //! of words. Refusal 60 comes before all others.
 
 use crate::refusal::Refusal;
-use crate::typing::{self, Both, Smallest};
+use crate::typing::{self, Smallest, Typings};
 use std::fmt::Write;
 
 /// The most bytes of an input.
@@ -42,15 +42,15 @@ impl Files {
 /// The text of the sheet: what the printer writes for this input.
 pub fn print(input: &[u8]) -> String {
     match typings(input) {
-        Ok(both) => sheet_text(&both),
+        Ok(typings) => sheet_text(&typings),
         Err(refusal) => format!("refused {} {}\n", refusal.number, refusal.place),
     }
 }
 
-/// Both typings of the sheet in this input, or the first refusal.
-pub fn typings(input: &[u8]) -> Result<Both, Refusal> {
+/// The typings of the sheet in this input, or the first refusal.
+pub fn typings(input: &[u8]) -> Result<Typings, Refusal> {
     let files = split(input)?;
-    typing::both(&files.template, &files.script, &files.bookings)
+    typing::typings(&files.template, &files.script, &files.bookings)
 }
 
 /// Cuts the input into its three files; 60 if it ends early, goes on, or is too long.
@@ -82,18 +82,19 @@ fn section(words: &[u16]) -> Result<(&[u16], &[u16]), Refusal> {
     rest.split_at_checked(usize::from(*count)).ok_or(ends_early)
 }
 
-/// The lines of a sheet that isn't refused.
-fn sheet_text(both: &Both) -> String {
-    let (largest, largest_grid) = &both.largest;
-    let (smallest, smallest_grid) = &both.smallest;
+/// The lines of a sheet that isn't refused: the largest typing, and then each desk's smallest.
+fn sheet_text(typings: &Typings) -> String {
+    let (largest, grid) = &typings.largest;
     let mut text = format!("largest {} {} {}\n", largest.rounds, largest.struck, largest.bare);
-    text += &card_lines(largest_grid, both.shapes);
-    match smallest {
-        Smallest::Pairs(pairs) => {
-            text += &format!("smallest {pairs}\n");
-            text += &card_lines(smallest_grid, both.shapes);
+    text += &card_lines(grid, typings.shapes);
+    for (answer, grid) in &typings.smallest {
+        match answer {
+            Smallest::Pairs(pairs) => {
+                text += &format!("smallest {pairs}\n");
+                text += &card_lines(grid, typings.shapes);
+            }
+            Smallest::NotMet(card, shape) => text += &format!("smallest no {} {}\n", card.0, shape.0),
         }
-        Smallest::NotMet(card, shape) => text += &format!("smallest no {} {}\n", card.0, shape.0),
     }
     text
 }

@@ -119,8 +119,19 @@ pub struct Text {
     pub cards: Vec<(Name, Option<String>)>,
     /// The links in the order of the text: from, kind, to.
     pub links: Vec<[Name; 3]>,
-    /// The bookings: card, shape.
-    pub bookings: Vec<[Name; 2]>,
+    /// The bookings.
+    pub bookings: Vec<BookLine>,
+}
+
+/// A booking as it is written.
+#[derive(Clone, PartialEq, Eq, Debug)]
+pub struct BookLine {
+    /// The desk's number and where it stands; nowhere if none is written, which means desk 0.
+    pub desk: Option<(u16, Spot)>,
+    /// The card.
+    pub card: Name,
+    /// The shape.
+    pub shape: Name,
 }
 
 /// A shape as it is written.

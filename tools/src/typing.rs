@@ -7,10 +7,10 @@
 //! | `rounds`      | the largest typing, round by round as the definition says         |
 //! | `links`       | the largest typing, breadth-first from strike to strike           |
 //! | `counting`    | whether a card's counts fit a shape, card after card; all pairs   |
-//! | `bookings`    | reads a booking list, refusals 30 to 33 and 65                    |
+//! | `bookings`    | reads a booking list, refusals 30 to 33, 65 and 66                |
 //! | `closure`     | the smallest typing                                               |
 //! | `judge`       | judges a grid, refusals 61 to 63                                  |
-//! | `tidying`     | keeps the first booking of each pair of a stored list             |
+//! | `tidying`     | keeps the first booking of each pair of a stored list, for desk 0 |
 
 pub mod bookings;
 pub mod closure;
@@ -21,10 +21,12 @@ pub mod met;
 pub mod rounds;
 pub mod tidying;
 
+use crate::desk::Desk;
 use crate::numbers::{Card, Shape};
 use crate::refusal::Refusal;
 use crate::script::{self, Script};
 use crate::template::{self, Template};
+use bookings::Booking;
 
 /// A typing: N × S bytes, 1 where card n has shape t, at place n × S + t, else 0.
 pub type Grid = Vec<u8>;
@@ -61,7 +63,7 @@ pub enum Smallest {
     NotMet(Card, Shape),
 }
 
-/// Both typings of one sheet.
+/// Both typings of one sheet, the smallest for one desk.
 #[derive(Clone, PartialEq, Eq, Debug)]
 pub struct Both {
     /// The count of shapes, S, which a reader of the grids needs.
@@ -70,6 +72,17 @@ pub struct Both {
     pub largest: (Largest, Grid),
     /// The smallest typing's answer and grid.
     pub smallest: (Smallest, Grid),
+}
+
+/// The largest typing of one sheet, and the smallest for each desk.
+#[derive(Clone, PartialEq, Eq, Debug)]
+pub struct Typings {
+    /// The count of shapes, S, which a reader of the grids needs.
+    pub shapes: u16,
+    /// The largest typing's answer and grid.
+    pub largest: (Largest, Grid),
+    /// The answer and the grid of each desk's smallest typing.
+    pub smallest: [(Smallest, Grid); 2],
 }
 
 impl Setting {
@@ -136,14 +149,15 @@ fn largest_by(
     Ok(answer)
 }
 
-/// The smallest typing, written into a grid of the right size; all 0 if the answer is 50.
+/// The smallest typing for a desk, written into a grid of the right size; all 0 if the answer is 50.
 pub fn smallest(
     template: &[u16],
     script: &[u16],
     booking_words: &[u16],
+    desk: u16,
     grid: &mut [u8],
 ) -> Result<Smallest, Refusal> {
-    let (setting, booked) = read(template, script, booking_words)?;
+    let (setting, booked) = read_for(template, script, booking_words, desk)?;
     if grid.len() != setting.size() {
         return Err(Refusal::at(40, 0));
     }
@@ -152,10 +166,10 @@ pub fn smallest(
     Ok(answer)
 }
 
-/// Both typings, unless template, script or bookings are refused, in this order. The counts of each pair are tested
-/// once, and both typings share that.
-pub fn both(template: &[u16], script: &[u16], booking_words: &[u16]) -> Result<Both, Refusal> {
-    let (setting, booked) = read(template, script, booking_words)?;
+/// Both typings for a desk, unless template, script, bookings or the desk are refused, in this order. The counts of
+/// each pair are tested once, and both typings share that.
+pub fn both(template: &[u16], script: &[u16], booking_words: &[u16], desk: u16) -> Result<Both, Refusal> {
+    let (setting, booked) = read_for(template, script, booking_words, desk)?;
     let fits = counting::all(&setting);
     Ok(Both {
         shapes: setting.template.shapes(),
@@ -165,8 +179,13 @@ pub fn both(template: &[u16], script: &[u16], booking_words: &[u16]) -> Result<B
 }
 
 /// The same, the largest typing round by round as the definition says. The two typings share nothing.
-pub fn both_by_rounds(template: &[u16], script: &[u16], booking_words: &[u16]) -> Result<Both, Refusal> {
-    let (setting, booked) = read(template, script, booking_words)?;
+pub fn both_by_rounds(
+    template: &[u16],
+    script: &[u16],
+    booking_words: &[u16],
+    desk: u16,
+) -> Result<Both, Refusal> {
+    let (setting, booked) = read_for(template, script, booking_words, desk)?;
     Ok(Both {
         shapes: setting.template.shapes(),
         largest: rounds::largest(&setting),
@@ -174,9 +193,42 @@ pub fn both_by_rounds(template: &[u16], script: &[u16], booking_words: &[u16]) -
     })
 }
 
-/// Reads the template, the script and then the bookings.
-fn read(template: &[u16], script: &[u16], booking_words: &[u16]) -> Result<(Setting, Vec<Pair>), Refusal> {
+/// The largest typing and the smallest for each desk. The counts of each pair are tested once, for all of them.
+pub fn typings(template: &[u16], script: &[u16], booking_words: &[u16]) -> Result<Typings, Refusal> {
+    let (setting, booked) = read(template, script, booking_words)?;
+    let fits = counting::all(&setting);
+    let smallest = |desk| closure::smallest_where(&setting, &bookings::of(desk, &booked), &fits);
+    Ok(Typings {
+        shapes: setting.template.shapes(),
+        largest: links::largest_where(&setting, &fits),
+        smallest: Desk::BOTH.map(smallest),
+    })
+}
+
+/// Reads the template, the script and then the bookings of both desks.
+pub fn read(
+    template: &[u16],
+    script: &[u16],
+    booking_words: &[u16],
+) -> Result<(Setting, Vec<Booking>), Refusal> {
     let setting = Setting::read(template, script)?;
     let booked = bookings::read(&setting, booking_words)?;
     Ok((setting, booked))
+}
+
+/// The same, and then the desk of the call: what that desk books.
+fn read_for(
+    template: &[u16],
+    script: &[u16],
+    booking_words: &[u16],
+    desk: u16,
+) -> Result<(Setting, Vec<Pair>), Refusal> {
+    let (setting, booked) = read(template, script, booking_words)?;
+    let desk = asked(desk)?;
+    Ok((setting, bookings::of(desk, &booked)))
+}
+
+/// The desk that a call names; 66 at place 0 if there is no such desk.
+pub fn asked(desk: u16) -> Result<Desk, Refusal> {
+    Desk::numbered(desk).ok_or(Refusal::at(66, 0))
 }

@@ -112,7 +112,7 @@ fn check_speaks_of_the_cards_with_links() {
         lines[0],
         "x.txt: 4 cards, 1 link, 0 bookings; of the cards with links, 2 of 2 have no shape"
     );
-    assert_eq!(lines[2], "largest: 3 rounds, 4 pairs struck");
+    assert_eq!(lines[3], "largest: 3 rounds, 4 pairs struck");
     assert_eq!(report.matches("has no shape").count(), 2);
     assert!(!report.contains("A pause") && !report.contains("between"));
     let itself = TEXT
@@ -137,7 +137,7 @@ fn why_a_booked_blank_card_cannot_have_its_shape_is_told() {
     let report = sheet.report("x.txt");
     assert!(report.contains(
         "x.txt:3:6: A pause can't be an Item: 1 guest wanted, 0 there\n  \
-         refused 50 0 0: the bookings ask for first to have shape Item\n  this is booked\n"
+         refused 50 0 0 for radio: its bookings ask for first to have shape Item\n  this is booked by radio\n"
     ));
     assert!(
         report.ends_with("its guest ann can't be an Item: 1 guest wanted, 0 there\n"),

@@ -4,12 +4,13 @@ use prep_tools::generate;
 use prep_tools::random::Random;
 use prep_tools::refusal::Refusal;
 use prep_tools::text::check::Sheet;
+use prep_tools::text::form::{form, Form};
 use prep_tools::text::load::{load_input, load_sheet, tell_refusal};
 use prep_tools::text::tidy::tidy;
 use prep_tools::text::trouble::{Trouble, Why};
 use prep_tools::text::{judged, machine, write};
 
-const TEXTS: [&str; 5] = [
+const TEXTS: [&str; 6] = [
     include_str!("../../examples/prep/programme.txt"),
     include_str!("../../examples/prep/draft.txt"),
     "kinds: a b\nshape A = choice(all(a[1;2]@B, nothing)*, b[0;]@A)+\nshape B = (nothing)?\ncard x \"t \\\" \\\\\"\n\
@@ -18,10 +19,12 @@ const TEXTS: [&str; 5] = [
      card x\ncard y\ncard z\nlink x a y z\nlink x b x\nlink z b y\nbook y B\n",
     "kinds: a\nshape A = nothing\nshape B = a[0;]@A\ncard x\nbook x A # once\ncard y\nbook y A\nbook x B\n\
      # twice\nlink y a x\nbook x A # more\n\tbook y A\n",
+    "kinds: a\nshape A = nothing\nshape B = a[1;]@A\ncard x\ncard y\nlink y a x\nbook 0 x A\nbook 1 x A\nbook 1 y B\n\
+     book y B\nbook 1 x B\n",
 ];
 
 /// Pieces that a text is made of, and some that it isn't.
-const PIECES: [&str; 25] = [
+const PIECES: [&str; 27] = [
     "^",
     "(",
     ")",
@@ -44,6 +47,8 @@ const PIECES: [&str; 25] = [
     "card ",
     "link ",
     "book ",
+    "book 1 ",
+    "book 2 ",
     "\u{feff}",
     "\u{0}",
     "é",
@@ -52,7 +57,7 @@ const PIECES: [&str; 25] = [
 /// Everything that can be said about a file, to see that nothing panics.
 fn try_all(bytes: &[u8]) -> bool {
     let _ = load_input("x", bytes);
-    for number in [0, 1, 4, 12, 20, 25, 33, 40, 50, 60, 61, 62, 63, 65, 65535] {
+    for number in [0, 1, 4, 12, 20, 25, 33, 40, 50, 60, 61, 62, 63, 65, 66, 65535] {
         let place = usize::from(number) * 7 % 90;
         let _ = tell_refusal("x", bytes, Refusal::at(number, place)).to_string();
     }
@@ -65,7 +70,7 @@ fn try_all(bytes: &[u8]) -> bool {
             try_grids(&sheet);
             let written = write::sheet_text(&sheet);
             let again = load_sheet("x", written.as_bytes()).expect("what is written is read");
-            assert_eq!(again.both, sheet.both);
+            assert_eq!(again.typings, sheet.typings);
             true
         }
         Err(trouble) => {
@@ -76,22 +81,37 @@ fn try_all(bytes: &[u8]) -> bool {
     }
 }
 
-/// A sheet is tidied to itself; from other files a repeat is dropped, and any other fault is told.
+/// A text that is a sheet is tidied to itself; from other texts a repeat is dropped, and any other fault is told. Words
+/// are tidied if their bookings are a stored list, and become a sheet.
 fn try_tidy(bytes: &[u8], loaded: &Result<Sheet, Trouble>) {
-    let is_repeat = |trouble: &Trouble| match &trouble.why {
-        Why::Refused(told) => told.refusal.number == 65,
-        Why::Fault(_) => false,
+    let number = |trouble: &Trouble| match &trouble.why {
+        Why::Refused(told) => told.refusal.number,
+        Why::Fault(_) => 0,
     };
+    let is_text = form(bytes) == Form::Text;
     match (loaded, tidy("x", bytes)) {
-        (Ok(_), tidied) => assert_eq!(
-            tidied.map(|tidied| (tidied.bytes, tidied.dropped)),
-            Ok((bytes.to_vec(), 0))
-        ),
+        // Of words only a list without bookings is of both forms.
+        (Ok(_), Ok(tidied)) => assert_eq!((&tidied.bytes[..], tidied.dropped), (bytes, 0)),
+        (Ok(sheet), Err(trouble)) => assert!(!is_text && number(&trouble) == 30 && !sheet.booked.is_empty()),
         (Err(trouble), Ok(tidied)) => {
-            assert!(is_repeat(trouble) && tidied.dropped > 0, "{trouble}");
+            assert_eq!(number(trouble), if is_text { 65 } else { 30 }, "{trouble}");
+            assert!(!is_text || tidied.dropped > 0, "{trouble}");
             assert!(load_sheet("x", &tidied.bytes).is_ok(), "{trouble}");
         }
-        (Err(trouble), Err(other)) => assert!(is_repeat(trouble) != (*trouble == other), "{trouble} {other}"),
+        (Err(trouble), Err(other)) if is_text => {
+            assert!(
+                (number(trouble) == 65) != (*trouble == other),
+                "{trouble} {other}"
+            );
+        }
+        (Err(trouble), Err(other)) => {
+            let of_list = |number: u16| (30..=33).contains(&number) || number >= 65;
+            let is_same = number(trouble) == number(&other);
+            assert!(
+                is_same || of_list(number(trouble)) && of_list(number(&other)),
+                "{trouble} {other}"
+            );
+        }
     }
 }
 
@@ -99,8 +119,10 @@ fn try_tidy(bytes: &[u8], loaded: &Result<Sheet, Trouble>) {
 fn try_grids(sheet: &Sheet) {
     let size = sheet.setting.size();
     for grid in [vec![0; size], vec![1; size], vec![1; size + 1], vec![2; size]] {
-        let (told, accepted) = judged::report(sheet, "x", "y", &grid);
-        assert_eq!(accepted, told.contains("is accepted"), "{told}");
+        for desk in [0, 1, 2] {
+            let (told, accepted) = judged::report(sheet, "x", desk, ("y", &grid));
+            assert_eq!(accepted, told.contains("is accepted"), "{told}");
+        }
     }
     assert_eq!(judged::explain_byte(sheet, "x", size), None);
     for pair in sheet.setting.pairs().take(20) {

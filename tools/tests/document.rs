@@ -11,30 +11,39 @@ use prep_tools::template;
 use prep_tools::typing::{largest, largest_by_rounds, smallest, Largest, Smallest};
 
 const LARGEST_LINES: &str = "largest 4 5 2\ncard 0:\ncard 1:\ncard 2: 1\n";
+/// What is printed for a desk: with card 2 booked, with nothing booked, and with card 0 booked.
+const ONE: &str = "smallest 1\ncard 0:\ncard 1:\ncard 2: 1\n";
+const NONE: &str = "smallest 0\ncard 0:\ncard 1:\ncard 2:\n";
+const NO: &str = "smallest no 0 1\n";
 
 #[test]
 fn the_sheet_with_bookings_that_are_met() {
-    let text = sheet::print(&document(&[1, 2, 1]).bytes());
-    assert_eq!(
-        text,
-        format!("{LARGEST_LINES}smallest 1\ncard 0:\ncard 1:\ncard 2: 1\n")
-    );
+    let text = sheet::print(&document(&[1, 0, 2, 1]).bytes());
+    assert_eq!(text, format!("{LARGEST_LINES}{ONE}{NONE}"));
+    let text = sheet::print(&document(&[1, 1, 2, 1]).bytes());
+    assert_eq!(text, format!("{LARGEST_LINES}{NONE}{ONE}"));
+    let text = sheet::print(&document(&[2, 0, 2, 1, 1, 2, 1]).bytes());
+    assert_eq!(text, format!("{LARGEST_LINES}{ONE}{ONE}"));
 }
 
 #[test]
 fn the_sheet_with_bookings_that_are_not_met() {
-    let text = sheet::print(&document(&[1, 0, 0]).bytes());
-    assert_eq!(text, format!("{LARGEST_LINES}smallest no 0 1\n"));
+    let text = sheet::print(&document(&[1, 0, 0, 0]).bytes());
+    assert_eq!(text, format!("{LARGEST_LINES}{NO}{NONE}"));
+    let text = sheet::print(&document(&[2, 0, 2, 1, 1, 0, 0]).bytes());
+    assert_eq!(text, format!("{LARGEST_LINES}{ONE}{NO}"));
+    let text = sheet::print(&document(&[2, 0, 0, 0, 1, 0, 0]).bytes());
+    assert_eq!(text, format!("{LARGEST_LINES}{NO}{NO}"));
 }
 
 #[test]
-fn the_sheet_has_15_and_11_and_3_words() {
-    let files = document(&[1, 2, 1]);
+fn the_sheet_has_15_and_11_and_4_words() {
+    let files = document(&[1, 0, 2, 1]);
     assert_eq!(
         (files.template.len(), files.script.len(), files.bookings.len()),
-        (15, 11, 3)
+        (15, 11, 4)
     );
-    assert_eq!(files.bytes().len(), 2 * (3 + 15 + 11 + 3));
+    assert_eq!(files.bytes().len(), 2 * (3 + 15 + 11 + 4));
     assert_eq!(sheet::split(&files.bytes()), Ok(files));
 }
 
@@ -54,9 +63,12 @@ fn the_calls_give_the_same_answers_as_the_sheet() {
         assert_eq!(grid, [0, 0, 0, 0, 0, 1]);
     }
     let mut grid = [9; 6];
-    let met = smallest(&DOCUMENT_TEMPLATE, &DOCUMENT_SCRIPT, &[1, 2, 1], &mut grid);
+    let met = smallest(&DOCUMENT_TEMPLATE, &DOCUMENT_SCRIPT, &[1, 0, 2, 1], 0, &mut grid);
     assert_eq!((met, grid), (Ok(Smallest::Pairs(1)), [0, 0, 0, 0, 0, 1]));
-    let not_met = smallest(&DOCUMENT_TEMPLATE, &DOCUMENT_SCRIPT, &[1, 0, 0], &mut grid);
+    let of_other = smallest(&DOCUMENT_TEMPLATE, &DOCUMENT_SCRIPT, &[1, 0, 2, 1], 1, &mut grid);
+    assert_eq!((of_other, grid), (Ok(Smallest::Pairs(0)), [0; 6]));
+    grid = [9; 6];
+    let not_met = smallest(&DOCUMENT_TEMPLATE, &DOCUMENT_SCRIPT, &[1, 1, 0, 0], 1, &mut grid);
     assert_eq!((not_met, grid), (Ok(Smallest::NotMet(Card(0), Shape(1))), [0; 6]));
 }
 

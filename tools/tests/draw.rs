@@ -238,17 +238,68 @@ fn each_mark_is_drawn() {
     let met = draw(&sheet(PROGRAMME), Choice::All);
     let met = page(&met);
     assert!(met.contains(">no shape<") && met.contains("url(#hatch)"));
-    assert!(met.contains("Smallest typing: 38 pairs, each met."));
+    assert!(met.contains(">Radio's smallest: 37 pairs.<"));
+    assert!(met.contains(">Television's smallest: 21 pairs.<"));
+    assert!(met.contains(">left half radio, right television<"));
     assert!(!met.contains("the unmet pair of 50"));
     let not_met = draw(&sheet(DRAFT), Choice::All);
     let not_met = page(&not_met);
-    assert!(not_met.contains("“Guest to be found” can't be Guest (50)."));
+    assert!(not_met.contains(">Radio: “Guest to be found” can't be Guest (50).<"));
+    assert!(not_met.contains(">Television's smallest: 4 pairs.<"));
     assert!(not_met.contains("the unmet pair of 50"));
     for kind in [
         "opens", "host", "next", "guest", "film", "music", "line", "source",
     ] {
         let labels = met.matches(&format!(">{kind}<")).count();
         assert!(labels >= 3, "the label {kind} stands {labels} times");
+    }
+}
+
+/// A quiz that no guest is found for, a film and a song, with these bookings.
+fn booked(bookings: &str) -> String {
+    format!(
+        "kinds: guest film\nshape Item = all(guest[1;]@Guest, film[0;1]@Film)\nshape Guest = nothing\n\
+         shape Film = nothing\ncard quiz\ncard night\ncard ann\ncard f1\nlink quiz film f1\n\
+         link night film f1\n{bookings}"
+    )
+}
+
+/// The edge of a card with an unmet pair, and the halves of a filled chip.
+const RED_EDGE: &str = "fill=\"none\" stroke=\"#c01f1f\" stroke-width=\"1\"";
+const OTHER_HALF: &str = "fill=\"#737d8a\"";
+
+#[test]
+fn the_desks_are_told_apart() {
+    // How many cards are red, how many halves of chips are grey: also on the card of the legend, and on its chip.
+    for (bookings, cards, grey) in [
+        ("", 0, 0),
+        ("book f1 Film\n", 0, 1 + 1),
+        ("book 1 f1 Film\n", 0, 1 + 1),
+        ("book f1 Film\nbook 1 f1 Film\n", 0, 1),
+        ("book f1 Film\nbook 1 ann Guest\n", 0, 2 + 1),
+        ("book quiz Item\n", 1 + 1, 1 + 1),
+        ("book quiz Item\nbook 1 quiz Item\n", 1 + 1, 1),
+        ("book quiz Item\nbook 1 night Item\n", 2 + 1, 2 + 1),
+        ("book quiz Item\nbook 1 f1 Film\n", 1 + 1, 2 + 1),
+    ] {
+        let drawing = is_sound("desks", &sheet(&booked(bookings)));
+        let text = page(&drawing);
+        let found = (text.matches(RED_EDGE).count(), text.matches(OTHER_HALF).count());
+        assert_eq!(found, (cards, grey), "{bookings}");
+        assert_eq!(
+            text.contains(">left half radio, right television<"),
+            !bookings.is_empty()
+        );
+    }
+    let drawing = draw(
+        &sheet(&booked("book quiz Item\nbook 1 night Item\n")),
+        Choice::All,
+    );
+    for told in [
+        ">Radio: “quiz” can't be Item (50).<",
+        ">Television: “night” can't be Item (50).<",
+    ] {
+        assert!(page(&drawing).contains(told), "{told}");
     }
 }
 

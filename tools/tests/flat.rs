@@ -218,7 +218,7 @@ fn often(tally: &Tally, least: usize) {
 fn the_random_sheets_have_every_sort_of_flat_shapes_and_runs() {
     let mut random = Random::new(71);
     let mut tally = Tally::new();
-    for _ in 0..600 {
+    for _ in 0..750 {
         let scale = flat::scale(&mut random);
         Read::new(&flat::flat(&mut random, scale)).tell(&mut tally);
     }

@@ -1,6 +1,7 @@
 //! The generator: the same seed gives the same inputs, whole sheets are well-formed, the limits are reached, and
 //! every refusal comes up.
 
+use prep_tools::desk::Desk;
 use prep_tools::generate::alike::alike;
 use prep_tools::generate::flat::flat;
 use prep_tools::generate::matched::matched;
@@ -12,6 +13,7 @@ use prep_tools::sheet::{self, Files};
 use prep_tools::template::{self, label_of, Part, Template};
 use prep_tools::text::reasons::path;
 use prep_tools::text::roots::Roots;
+use prep_tools::typing::bookings::Booking;
 use prep_tools::typing::met::chosen_for;
 use prep_tools::typing::{bookings, closure, links, Grid, Pair, Setting, Smallest};
 use std::collections::{BTreeMap, BTreeSet};
@@ -118,7 +120,13 @@ fn has_both(labels: &[Label]) -> bool {
     Way::BOTH.into_iter().all(|way| has(labels, way))
 }
 
-/// A sheet that is read, its bookings, and its largest typing.
+/// What the desk books that books more.
+fn most_booked(booked: &[Booking]) -> Vec<Pair> {
+    let by_desk = Desk::BOTH.map(|desk| bookings::of(desk, booked));
+    by_desk.into_iter().max_by_key(Vec::len).unwrap_or_default()
+}
+
+/// A sheet that is read, what one desk books, and its largest typing.
 struct Read {
     setting: Setting,
     booked: Vec<Pair>,
@@ -130,7 +138,9 @@ impl Read {
         let setting =
             Setting::read(&files.template, &files.script).expect("a generated sheet is well-formed");
         Read {
-            booked: bookings::read(&setting, &files.bookings).expect("generated bookings are well-formed"),
+            booked: most_booked(
+                &bookings::read(&setting, &files.bookings).expect("generated bookings are well-formed"),
+            ),
             largest: links::largest(&setting).1,
             setting,
         }
@@ -309,11 +319,13 @@ fn every_refusal_and_every_kind_of_answer_comes_up() {
             Err(refusal) => *refusals.entry(refusal.number).or_insert(0) += 1,
             Ok(both) => {
                 many_rounds += usize::from(both.largest.0.rounds > 3);
-                match both.smallest.0 {
-                    Smallest::Pairs(pairs) => met += usize::from(pairs > 0),
-                    Smallest::NotMet(..) => {
-                        not_met += 1;
-                        *refusals.entry(50).or_insert(0) += 1;
+                for (smallest, _) in both.smallest {
+                    match smallest {
+                        Smallest::Pairs(pairs) => met += usize::from(pairs > 0),
+                        Smallest::NotMet(..) => {
+                            not_met += 1;
+                            *refusals.entry(50).or_insert(0) += 1;
+                        }
                     }
                 }
             }

@@ -111,19 +111,24 @@ fn a_sheet_that_is_met() {
     let sheet = run("x.txt", SHEET).expect("the text is a sheet");
     let expected = "{\"file\":\"x.txt\",\"form\":\"text\",\"outcome\":\"met\",\
         \"title\":\"Say \\\"hello\\\"\",\"kinds\":[\"guest\"],\"shapes\":[\"Item\",\"Guest\"],\"links\":1,\
-        \"bookings\":[{\"card\":0,\"card_name\":\"quiz\",\"shape\":0,\"shape_name\":\"Item\"}],\
-        \"largest\":{\"rounds\":2,\"struck\":2,\"bare\":0},\"smallest\":{\"pairs\":2},\
-        \"unmet\":null,\"also_unmet\":[],\"bare\":[],\
+        \"bookings\":[{\"desk\":0,\"desk_name\":\"radio\",\
+        \"card\":0,\"card_name\":\"quiz\",\"shape\":0,\"shape_name\":\"Item\"}],\
+        \"largest\":{\"rounds\":2,\"struck\":2,\"bare\":0},\
+        \"desks\":[{\"desk\":0,\"desk_name\":\"radio\",\"smallest\":{\"pairs\":2},\"unmet\":null,\"also_unmet\":[]},\
+        {\"desk\":1,\"desk_name\":\"television\",\"smallest\":{\"pairs\":0},\"unmet\":null,\"also_unmet\":[]}],\
+        \"bare\":[],\
         \"cards\":[{\"name\":\"quiz\",\"title\":\"The quiz\",\"line\":5,\"column\":6,\
-        \"largest\":[\"Item\"],\"smallest\":[\"Item\"]},\
+        \"largest\":[\"Item\"],\"smallest\":[[\"Item\"],[]]},\
         {\"name\":\"ann\",\"title\":null,\"line\":6,\"column\":6,\
-        \"largest\":[\"Guest\"],\"smallest\":[\"Guest\"]}]}";
+        \"largest\":[\"Guest\"],\"smallest\":[[\"Guest\"],[]]}]}";
     assert_eq!(machine::outcome(&sheet, "x.txt").to_string(), expected);
 }
 
 #[test]
 fn a_sheet_that_is_not_met() {
-    let source = SHEET.replace("guest[1;2]", "guest[2;2]");
+    let source = SHEET
+        .replace("guest[1;2]", "guest[2;2]")
+        .replace("book quiz", "book 1 quiz");
     let sheet = run("x.txt", &source).expect("the text is a sheet");
     let written = machine::outcome(&sheet, "x.txt").to_string();
     assert!(is_json(&written));
@@ -132,11 +137,15 @@ fn a_sheet_that_is_not_met() {
     let unmet = format!(
         "\"outcome\":\"unmet\",\"title\":\"Say \\\"hello\\\"\",\"kinds\":[\"guest\"],\
          \"shapes\":[\"Item\",\"Guest\"],\"links\":1,\
-         \"bookings\":[{{\"card\":0,\"card_name\":\"quiz\",\"shape\":0,\"shape_name\":\"Item\"}}],\
-         \"largest\":{{\"rounds\":2,\"struck\":3,\"bare\":1}},\"smallest\":null,\
+         \"bookings\":[{{\"desk\":1,\"desk_name\":\"television\",\
+         \"card\":0,\"card_name\":\"quiz\",\"shape\":0,\"shape_name\":\"Item\"}}],\
+         \"largest\":{{\"rounds\":2,\"struck\":3,\"bare\":1}},\
+         \"desks\":[{{\"desk\":0,\"desk_name\":\"radio\",\"smallest\":{{\"pairs\":0}},\
+         \"unmet\":null,\"also_unmet\":[]}},\
+         {{\"desk\":1,\"desk_name\":\"television\",\"smallest\":null,\
          \"unmet\":{{\"card\":0,\"card_name\":\"quiz\",\"shape\":0,\"shape_name\":\"Item\",\"line\":5,\"column\":6,\
          \"reason\":\"2 guest wanted, 1 there\",{lacks},\"way\":[]}},\
-         \"also_unmet\":[],\"bare\":[{{\"card\":0,\"card_name\":\"quiz\",\"line\":5,\"column\":6,\"reasons\":[\
+         \"also_unmet\":[]}}],\"bare\":[{{\"card\":0,\"card_name\":\"quiz\",\"line\":5,\"column\":6,\"reasons\":[\
          {{\"shape\":0,\"shape_name\":\"Item\",\"distance\":1,\"reason\":\"2 guest wanted, 1 there\",\
          \"root\":{{\"card\":0,\"card_name\":\"quiz\",\"shape\":0,\"shape_name\":\"Item\",\
          \"reason\":\"2 guest wanted, 1 there\",{lacks}}}}},"

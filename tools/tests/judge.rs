@@ -1,6 +1,7 @@
 //! *Judge a grid*: the page's examples, both methods, what the page promises on all grids of tiny sheets, what comes
 //! of each damage, and the command.
 
+use prep_tools::desk::Desk;
 use prep_tools::generate::judging::{grids, samples};
 use prep_tools::generate::special::{document, DOCUMENT_SCRIPT, DOCUMENT_TEMPLATE};
 use prep_tools::generate::{self, damage, Scale, SMALL, TINY};
@@ -9,9 +10,10 @@ use prep_tools::page::examples::{self, Operation};
 use prep_tools::random::Random;
 use prep_tools::refusal::Refusal;
 use prep_tools::sheet::Files;
+use prep_tools::typing::bookings::Booking;
 use prep_tools::typing::judge::{answer, can_be_tried, judge, judge_by_choices, Judged};
 use prep_tools::typing::met::{chosen_for, holds, lies_below, met_by_choices};
-use prep_tools::typing::{bookings, closure, links, Grid, Pair, Setting, Smallest};
+use prep_tools::typing::{self, bookings, closure, links, Grid, Pair, Setting, Smallest};
 use std::collections::BTreeMap;
 use std::fs;
 use std::path::PathBuf;
@@ -30,23 +32,53 @@ const TINIEST: Scale = Scale {
     bookings: 3,
 };
 
-/// A random sheet that is well-formed.
-fn sheet(random: &mut Random, scale: Scale) -> (Files, Setting, Vec<Pair>) {
-    let files = generate::any(random, scale);
-    let setting = Setting::read(&files.template, &files.script).expect("a generated sheet is well-formed");
-    let booked = bookings::read(&setting, &files.bookings).expect("generated bookings are well-formed");
-    (files, setting, booked)
+/// A random sheet that is well-formed, and a desk.
+struct Sheet {
+    files: Files,
+    setting: Setting,
+    desk: Desk,
+    /// The bookings of both desks.
+    all: Vec<Booking>,
+    /// What the desk books.
+    booked: Vec<Pair>,
+}
+
+impl Sheet {
+    fn new(random: &mut Random, scale: Scale) -> Sheet {
+        let files = generate::any(random, scale);
+        let (setting, all) = typing::read(&files.template, &files.script, &files.bookings)
+            .expect("a generated sheet is well-formed");
+        let desk = random.pick(&Desk::BOTH);
+        Sheet {
+            booked: bookings::of(desk, &all),
+            files,
+            setting,
+            desk,
+            all,
+        }
+    }
+
+    /// What both methods say about a grid for the desk.
+    fn judged(&self, grid: &[u8]) -> Result<Judged, Refusal> {
+        judged(&self.files, self.desk.number(), grid)
+    }
+
+    /// The place of the card of the desk's booking of a pair, counted in the whole list.
+    fn place(&self, pair: Pair) -> Option<usize> {
+        let number = self.all.iter().position(|booking| *booking == (self.desk, pair));
+        number.map(|number| 2 + 3 * number)
+    }
 }
 
 /// What both methods say, which must be the same.
-fn judged(files: &Files, grid: &[u8]) -> Result<Judged, Refusal> {
+fn judged(files: &Files, desk: u16, grid: &[u8]) -> Result<Judged, Refusal> {
     let Files {
         template,
         script,
         bookings,
     } = files;
-    let quick = judge(template, script, bookings, grid);
-    let by_choices = judge_by_choices(template, script, bookings, grid);
+    let quick = judge(template, script, bookings, desk, grid);
+    let by_choices = judge_by_choices(template, script, bookings, desk, grid);
     assert_eq!(quick, by_choices, "{files:?} {grid:?}");
     quick
 }
@@ -69,7 +101,9 @@ fn the_examples_of_the_page_are_the_samples() {
             bookings: question.bookings.clone(),
         };
         assert_eq!((&files, &question.grid), (&sample.files, &sample.grid));
-        assert_eq!(answer(judged(&files, &sample.grid)), example.answer, "{files:?}");
+        assert_eq!(question.desk, sample.desk, "{files:?}");
+        let said = judged(&files, sample.desk, &sample.grid);
+        assert_eq!(answer(said), example.answer, "{files:?}");
         assert_eq!(sample.answer(), example.answer);
     }
 }
@@ -80,19 +114,20 @@ fn both_methods_agree() {
     let (mut accepted, mut not_met, mut tried, mut left, mut arriving) = (0, 0, 0, 0, 0);
     for number in 0..4000 {
         let scale = if number % 4 == 0 { SMALL } else { TINY };
-        let (files, setting, booked) = sheet(&mut random, scale);
-        let (_, grid) = grids::grid(&mut random, &setting, &booked);
-        match judged(&files, &grid) {
+        let sheet = Sheet::new(&mut random, scale);
+        let setting = &sheet.setting;
+        let (_, grid) = grids::grid(&mut random, setting, &sheet.booked);
+        match sheet.judged(&grid) {
             Ok(Judged::Accepted) => accepted += 1,
             Ok(Judged::NotMet(..)) => not_met += 1,
             Err(_) => continue,
         }
         for pair in setting.pairs().filter(|pair| grid[setting.place(*pair)] == 1) {
-            match can_be_tried(&setting, &grid, pair) {
+            match can_be_tried(setting, &grid, pair) {
                 true => tried += 1,
                 false => left += 1,
             }
-            let ends = chosen_for(&setting, pair);
+            let ends = chosen_for(setting, pair);
             arriving += usize::from(ends.iter().any(|end| end.label.way == Way::Incoming));
         }
     }
@@ -109,14 +144,20 @@ fn all_grids(size: usize) -> impl Iterator<Item = Grid> {
 }
 
 /// What the page says about a grid of 0s and 1s, with no other method than trying every choice.
-fn by_definition(setting: &Setting, booked: &[Pair], grid: &[u8]) -> Result<Judged, Refusal> {
+fn by_definition(sheet: &Sheet, grid: &[u8]) -> Result<Judged, Refusal> {
+    let setting = &sheet.setting;
     let unmet = |pair: &Pair| grid[setting.place(*pair)] == 1 && !met_by_choices(setting, grid, *pair);
     if let Some((card, shape)) = setting.pairs().find(unmet) {
         return Ok(Judged::NotMet(card, shape));
     }
-    let unheld = |number: &usize| !holds(setting, grid, &booked[*number..=*number]);
-    match (0..booked.len()).find(unheld) {
-        Some(number) => Err(Refusal::at(63, 1 + 2 * number)),
+    let unheld = |pair: &&Pair| !holds(setting, grid, &[**pair]);
+    match sheet
+        .booked
+        .iter()
+        .find(unheld)
+        .and_then(|pair| sheet.place(*pair))
+    {
+        Some(place) => Err(Refusal::at(63, place)),
         None => Ok(Judged::Accepted),
     }
 }
@@ -126,23 +167,20 @@ fn all_grids_of_tiny_sheets_are_judged_as_the_page_says() {
     let mut random = Random::new(72);
     let (mut sheets, mut unmet, mut between, mut refused_between) = (0, 0, 0, 0);
     while sheets < 800 {
-        let (files, setting, booked) = sheet(&mut random, TINIEST);
+        let sheet = Sheet::new(&mut random, TINIEST);
+        let (files, setting) = (&sheet.files, &sheet.setting);
         if setting.size() > 10 {
             continue;
         }
         sheets += 1;
-        let (_, top) = links::largest(&setting);
-        let (smallest, bottom) = closure::smallest(&setting, &booked);
+        let (_, top) = links::largest(setting);
+        let (smallest, bottom) = closure::smallest(setting, &sheet.booked);
         let is_met = matches!(smallest, Smallest::Pairs(_));
         unmet += usize::from(!is_met);
         let mut accepted = 0;
         for grid in all_grids(setting.size()) {
-            let answer = judged(&files, &grid);
-            assert_eq!(
-                answer,
-                by_definition(&setting, &booked, &grid),
-                "{files:?} {grid:?}"
-            );
+            let answer = sheet.judged(&grid);
+            assert_eq!(answer, by_definition(&sheet, &grid), "{files:?} {grid:?}");
             let lies_between = is_met && lies_below(&bottom, &grid) && lies_below(&grid, &top);
             if answer == Ok(Judged::Accepted) {
                 accepted += 1;
@@ -157,12 +195,7 @@ fn all_grids_of_tiny_sheets_are_judged_as_the_page_says() {
         assert_eq!(accepted > 0, is_met, "{files:?}");
     }
     let told = format!("{unmet} unmet, {between} strictly between, {refused_between} between and refused");
-    assert!(unmet > 200 && between > 3000 && refused_between > 300, "{told}");
-}
-
-/// The first booking that asks for a pair.
-fn first_booking(booked: &[Pair], pair: Pair) -> Option<usize> {
-    booked.iter().position(|other| *other == pair)
+    assert!(unmet > 120 && between > 3000 && refused_between > 300, "{told}");
 }
 
 /// Whether a pair asks for another one over some link, along it or against it.
@@ -177,7 +210,8 @@ fn asks_for(setting: &Setting, (card, shape): Pair, (far, needed): Pair) -> bool
 }
 
 /// Each change of an accepted grid that is one byte or one pair away, and what must be said about it.
-fn changes(setting: &Setting, booked: &[Pair], grid: &[u8]) -> Vec<(Grid, Result<Judged, Refusal>)> {
+fn changes(sheet: &Sheet, grid: &[u8]) -> Vec<(Grid, Result<Judged, Refusal>)> {
+    let setting = &sheet.setting;
     let mut changes = Vec::new();
     for pair in setting.pairs() {
         let place = setting.place(pair);
@@ -201,9 +235,9 @@ fn changes(setting: &Setting, booked: &[Pair], grid: &[u8]) -> Vec<(Grid, Result
         let asking = setting
             .pairs()
             .find(|other| less[setting.place(*other)] == 1 && asks_for(setting, *other, pair));
-        let said = match (asking, first_booking(booked, pair)) {
+        let said = match (asking, sheet.place(pair)) {
             (Some((card, shape)), _) => Ok(Judged::NotMet(card, shape)),
-            (None, Some(booking)) => Err(Refusal::at(63, 1 + 2 * booking)),
+            (None, Some(place)) => Err(Refusal::at(63, place)),
             (None, None) => Ok(Judged::Accepted),
         };
         changes.push((less, said));
@@ -216,13 +250,14 @@ fn a_grid_that_is_one_byte_off_is_told_where() {
     let mut random = Random::new(73);
     let mut tally = [0; 5];
     for _ in 0..600 {
-        let (files, setting, booked) = sheet(&mut random, TINY);
-        let grid = grids::between(&mut random, &setting, &booked);
-        if judged(&files, &grid) != Ok(Judged::Accepted) {
+        let sheet = Sheet::new(&mut random, TINY);
+        let files = &sheet.files;
+        let grid = grids::between(&mut random, &sheet.setting, &sheet.booked);
+        if sheet.judged(&grid) != Ok(Judged::Accepted) {
             continue;
         }
-        for (changed, said) in changes(&setting, &booked, &grid) {
-            assert_eq!(judged(&files, &changed), said, "{files:?} {grid:?} {changed:?}");
+        for (changed, said) in changes(&sheet, &grid) {
+            assert_eq!(sheet.judged(&changed), said, "{files:?} {grid:?} {changed:?}");
             let number = match said {
                 Ok(Judged::Accepted) => 0,
                 Ok(Judged::NotMet(..)) => 1,
@@ -233,8 +268,10 @@ fn a_grid_that_is_one_byte_off_is_told_where() {
         for size in [0, grid.len() - grid.len().min(1), grid.len() + 1] {
             let mut other = grid.clone();
             other.resize(size, 2);
-            let said = judged(&files, &other);
+            let said = sheet.judged(&other);
             assert_eq!(said == Err(Refusal::at(40, 0)), size != grid.len(), "{files:?}");
+            let no_desk = judged(files, 2, &other);
+            assert_eq!(no_desk, Err(Refusal::at(66, 0)), "{files:?}");
         }
     }
     // Accepted, 62, 61 and 63.
@@ -251,14 +288,17 @@ fn a_file_that_is_refused_comes_before_the_grid() {
     let aims: Vec<u16> = damage::AIMS.into_iter().filter(of_files).collect();
     let mut hit = BTreeMap::new();
     for number in aims.iter().cycle().take(1500) {
-        let (mut files, setting, _) = sheet(&mut random, TINY);
+        let Sheet {
+            mut files, setting, ..
+        } = Sheet::new(&mut random, TINY);
         damage::aimed(&mut random, &mut files, *number);
         let size = setting.size() + random.below(2);
         let grid: Grid = (0..size).map(|_| random.below(3) as u8).collect();
         let read = Setting::read(&files.template, &files.script)
             .and_then(|setting| bookings::read(&setting, &files.bookings));
         if let Err(refusal) = read {
-            assert_eq!(judged(&files, &grid), Err(refusal), "{files:?}");
+            let desk = random.word(0, 2);
+            assert_eq!(judged(&files, desk, &grid), Err(refusal), "{files:?}");
             *hit.entry(refusal.number).or_insert(0) += 1;
         }
     }
@@ -270,27 +310,42 @@ fn a_file_that_is_refused_comes_before_the_grid() {
 
 #[test]
 fn the_order_of_the_faults() {
-    let files = document(&[2, 1, 0, 2, 1]);
-    let said = |grid: &[u8]| answer(judged(&files, grid));
-    // The first booking isn't held; card 0 has shape 1 and links; a byte is over 1; a byte is missing.
-    assert_eq!(said(&[0, 0, 0, 0, 0, 1]), "refused 63 1");
+    let files = document(&[3, 1, 0, 0, 0, 1, 0, 0, 2, 1]);
+    let said = |grid: &[u8]| answer(judged(&files, 0, grid));
+    // The radio's first booking isn't held; card 0 has shape 1 and links; a byte is over 1; a byte is missing.
+    assert_eq!(said(&[0, 0, 0, 0, 0, 1]), "refused 63 5");
     assert_eq!(said(&[0, 1, 0, 0, 0, 1]), "refused 62 0 1");
     assert_eq!(said(&[0, 1, 0, 0, 0, 2]), "refused 61 5");
     assert_eq!(said(&[0, 1, 0, 0, 2]), "refused 40 0");
-    let with = |words: &[u16]| {
+    let with = |desk: u16, words: &[u16]| {
         answer(judge(
             &DOCUMENT_TEMPLATE,
             &DOCUMENT_SCRIPT,
             words,
+            desk,
             &[0, 1, 0, 0, 2],
         ))
     };
-    assert_eq!(with(&[2, 1, 0, 1, 0]), "refused 65 3");
-    assert_eq!(with(&[2, 1, 0, 2, 2]), "refused 33 4");
-    assert_eq!(with(&[2, 1, 0, 3, 2]), "refused 32 3");
-    let unread = judge(&DOCUMENT_TEMPLATE, &[1025, 0], &[], &[2]);
+    assert_eq!(with(2, &[2, 0, 1, 0, 0, 2, 1]), "refused 66 0");
+    assert_eq!(with(2, &[2, 0, 1, 0, 0, 1, 0]), "refused 65 5");
+    assert_eq!(with(2, &[2, 0, 1, 0, 0, 2, 2]), "refused 33 6");
+    assert_eq!(with(2, &[2, 0, 1, 0, 0, 3, 2]), "refused 32 5");
+    assert_eq!(with(2, &[2, 0, 1, 0, 2, 3, 2]), "refused 66 4");
+    let unread = judge(&DOCUMENT_TEMPLATE, &[1025, 0], &[], 2, &[2]);
     assert_eq!(answer(unread), "refused 21 0");
-    assert_eq!(answer(judge(&[1], &[1025, 0], &[], &[2])), "refused 1 0");
+    assert_eq!(answer(judge(&[1], &[1025, 0], &[], 2, &[2])), "refused 1 0");
+}
+
+#[test]
+fn what_the_other_desk_books_does_not_matter() {
+    let files = document(&[3, 1, 0, 0, 0, 2, 1, 1, 2, 1]);
+    let said = |desk: u16, grid: &[u8]| answer(judged(&files, desk, grid));
+    assert_eq!(said(0, &[0, 0, 0, 0, 0, 1]), "accepted");
+    assert_eq!(said(1, &[0, 0, 0, 0, 0, 1]), "refused 63 2");
+    assert_eq!(said(0, &[0, 0, 0, 0, 0, 0]), "refused 63 5");
+    // The pair that isn't met comes before the booking that isn't held, for each desk.
+    assert_eq!(said(0, &[1, 0, 0, 0, 0, 0]), "refused 62 0 0");
+    assert_eq!(said(1, &[1, 0, 0, 0, 0, 0]), "refused 62 0 0");
 }
 
 /// A text with titles, one of whose links leads to a card that can't be what it must be.
@@ -308,19 +363,19 @@ book two Second
 ";
 
 /// A folder with a text, its words and a grid.
-struct Desk {
+struct Folder {
     folder: PathBuf,
 }
 
-impl Desk {
-    fn new(name: &str, text: &str) -> Desk {
+impl Folder {
+    fn new(name: &str, text: &str) -> Folder {
         let folder = std::env::temp_dir().join(format!("prep-tools-judge-{}-{name}", process::id()));
         fs::create_dir_all(&folder).expect("the folder can be made");
-        let desk = Desk { folder };
-        fs::write(desk.folder.join("sheet.txt"), text).expect("the file can be written");
-        let (_, _, code) = desk.run(&["words", "sheet.txt", "sheet.bin"]);
+        let folder = Folder { folder };
+        fs::write(folder.folder.join("sheet.txt"), text).expect("the file can be written");
+        let (_, _, code) = folder.run(&["words", "sheet.txt", "sheet.bin"]);
         assert!(code == Some(0) || code == Some(2));
-        desk
+        folder
     }
 
     /// What a command writes, what it complains about, and its exit code.
@@ -341,7 +396,7 @@ impl Desk {
     }
 }
 
-impl Drop for Desk {
+impl Drop for Folder {
     fn drop(&mut self) {
         fs::remove_dir_all(&self.folder).expect("the folder can be removed");
     }
@@ -352,13 +407,14 @@ const OUTCOMES: [(&[u8], i32, &str); 6] = [
     (
         &[0, 0, 0, 0, 0, 1],
         0,
-        "sheet.txt: the grid is accepted: a sound typing that holds the one booking\n  \
+        "sheet.txt: the grid is accepted: a sound typing that holds the one booking of radio\n  \
          it has 1 pair; the smallest typing has 1, the largest 1\n",
     ),
     (
         &[0, 0, 0, 0, 1],
         1,
-        "grid: refused 40 0: the grid isn't cards times shapes bytes, or the buffer isn't as long as the list\n  \
+        "grid: refused 40 0: the grid isn't cards times shapes bytes, or the buffer isn't three words a booking and \
+         one more\n  \
          it has 5 bytes; 3 cards times 2 shapes are 6\n",
     ),
     (
@@ -384,26 +440,26 @@ const OUTCOMES: [(&[u8], i32, &str); 6] = [
     (
         &[0, 0, 0, 0, 0, 0],
         1,
-        "sheet.txt:10:6: refused 63 1: a booking isn't held by the grid\n  \
-         two is booked as a Second and isn't one in the grid\n  \
-         word 1 of the bookings is 2: the card of the booking two Second\n",
+        "sheet.txt:10:6: refused 63 2: a booking isn't held by the grid\n  \
+         two is booked by radio as a Second and isn't one in the grid\n  \
+         word 2 of the bookings is 2: the card of the booking two Second\n",
     ),
 ];
 
 #[test]
 fn the_command_tells_the_outcome_in_words() {
-    let desk = Desk::new("words", TEXT);
+    let folder = Folder::new("words", TEXT);
     for (grid, code, told) in OUTCOMES {
-        let said = desk.judge("sheet.txt", grid);
+        let said = folder.judge("sheet.txt", grid);
         assert_eq!(said, (told.to_string(), String::new(), Some(code)));
-        let (_, _, of_words) = desk.judge("sheet.bin", grid);
+        let (_, _, of_words) = folder.judge("sheet.bin", grid);
         assert_eq!(of_words, Some(code));
     }
 }
 
 #[test]
 fn the_command_tells_words_without_lines_and_columns() {
-    let desk = Desk::new("numbers", TEXT);
+    let folder = Folder::new("numbers", TEXT);
     for (grid, told) in [
         (
             [0, 0, 0, 0, 3, 0],
@@ -417,12 +473,12 @@ fn the_command_tells_words_without_lines_and_columns() {
         ),
         (
             [0, 0, 0, 0, 0, 0],
-            "sheet.bin: refused 63 1: a booking isn't held by the grid\n  \
-             card2 is booked as a Shape1 and isn't one in the grid\n  \
-             word 1 of the bookings is 2: the card of booking 0, counted from 0\n",
+            "sheet.bin: refused 63 2: a booking isn't held by the grid\n  \
+             card2 is booked by radio as a Shape1 and isn't one in the grid\n  \
+             word 2 of the bookings is 2: the card of booking 0, counted from 0\n",
         ),
     ] {
-        let (said, _, code) = desk.judge("sheet.bin", &grid);
+        let (said, _, code) = folder.judge("sheet.bin", &grid);
         assert!(said.starts_with(told) && code == Some(1), "{said}");
     }
 }
@@ -433,19 +489,19 @@ fn the_command_counts_bookings_and_far_cards() {
     let names = ["p", "q", "r", "s", "t", "u"];
     let cards: String = names.iter().map(|name| format!("card {name}\n")).collect();
     let text = format!("{many}{cards}link h a {}\n", names.join(" "));
-    let desk = Desk::new("many", &text);
+    let folder = Folder::new("many", &text);
     let lone_hub = [vec![1, 0], vec![0; 12]].concat();
-    let (said, _, code) = desk.judge("sheet.txt", &lone_hub);
+    let (said, _, code) = folder.judge("sheet.txt", &lone_hub);
     let told = "sheet.txt:4:6: h isn't a Hub under the grid: its a p isn't a Leaf; its a q isn't a Leaf; \
                 its a r isn't a Leaf; its a s isn't a Leaf; so with 2 more of its links\n  \
                 refused 62 0 0: a pair of the grid isn't met under it\n";
     assert_eq!((said.as_str(), code), (told, Some(1)));
-    let (said, _, code) = desk.judge("sheet.txt", &[0; 14]);
-    assert!(said.starts_with("sheet.txt: the grid is accepted: a sound typing; nothing is booked\n"));
+    let (said, _, code) = folder.judge("sheet.txt", &[0; 14]);
+    assert!(said.starts_with("sheet.txt: the grid is accepted: a sound typing; nothing is booked by radio\n"));
     assert_eq!(code, Some(0));
-    let desk = Desk::new("two", &format!("{text}book h Hub\nbook p Leaf\n"));
-    let (said, _, _) = desk.judge("sheet.txt", &[vec![1, 0], [0, 1].repeat(6)].concat());
-    assert!(said.contains("a sound typing that holds all 2 bookings\n  it has 7 pairs; "));
+    let folder = Folder::new("two", &format!("{text}book h Hub\nbook p Leaf\n"));
+    let (said, _, _) = folder.judge("sheet.txt", &[vec![1, 0], [0, 1].repeat(6)].concat());
+    assert!(said.contains("a sound typing that holds all 2 bookings of radio\n  it has 7 pairs; "));
 }
 
 /// Two items that point at a guest, who asks for both.
@@ -463,7 +519,7 @@ book ann Guest
 
 #[test]
 fn the_command_tells_which_card_points_at_another() {
-    let desk = Desk::new("arriving", ARRIVING);
+    let folder = Folder::new("arriving", ARRIVING);
     for (grid, told) in [
         (
             [0, 0, 0, 0, 0, 1],
@@ -481,17 +537,17 @@ fn the_command_tells_which_card_points_at_another() {
         ),
         (
             [0, 0, 0, 0, 0, 0],
-            "sheet.txt:9:6: refused 63 1: a booking isn't held by the grid\n",
+            "sheet.txt:9:6: refused 63 2: a booking isn't held by the grid\n",
         ),
         (
             [1, 0, 1, 0, 0, 1],
-            "sheet.txt: the grid is accepted: a sound typing that holds the one booking\n",
+            "sheet.txt: the grid is accepted: a sound typing that holds the one booking of radio\n",
         ),
     ] {
-        let (said, _, _) = desk.judge("sheet.txt", &grid);
+        let (said, _, _) = folder.judge("sheet.txt", &grid);
         assert!(said.starts_with(told), "{said}");
     }
-    let (said, _, _) = desk.run(&["explain", "62", "2", "1", "sheet.txt"]);
+    let (said, _, _) = folder.run(&["explain", "62", "2", "1", "sheet.txt"]);
     assert!(
         said.contains(
             "  \"The quiz\", which points at it by guest, must be an Item; night, which points at it by guest, \
@@ -502,26 +558,60 @@ fn the_command_tells_which_card_points_at_another() {
 }
 
 #[test]
+fn the_command_judges_for_a_desk() {
+    let folder = Folder::new("desks", &format!("{TEXT}book 1 zero First\n"));
+    for (desk, code, told) in [
+        (
+            "0",
+            0,
+            "sheet.txt: the grid is accepted: a sound typing that holds the one booking of radio\n",
+        ),
+        (
+            "1",
+            1,
+            "sheet.txt:11:8: refused 63 5: a booking isn't held by the grid\n  \
+             The first card is booked by television as a First and isn't one in the grid\n  \
+             word 5 of the bookings is 0: the card of the booking 1 zero First\n",
+        ),
+        (
+            "2",
+            1,
+            "sheet.txt: refused 66 0: a desk is neither radio, 0, nor television, 1\n  \
+             the desk that is asked for is 2\n",
+        ),
+    ] {
+        fs::write(folder.folder.join("grid"), [0, 0, 0, 0, 0, 1]).expect("the file can be written");
+        let (said, _, ended) = folder.run(&["judge", "sheet.txt", "grid", desk]);
+        assert!(said.starts_with(told) && ended == Some(code), "{said}");
+    }
+    let (_, told, code) = folder.run(&["judge", "sheet.txt", "grid", "radio"]);
+    assert!(
+        told.contains("DESK isn't a number that fits: radio") && code == Some(2),
+        "{told}"
+    );
+}
+
+#[test]
 fn a_file_that_is_no_sheet_cannot_be_judged() {
-    let desk = Desk::new("no-sheet", &TEXT.replace("[1;1]", "[2;1]"));
-    let (said, told, code) = desk.judge("sheet.txt", &[0; 6]);
+    let folder = Folder::new("no-sheet", &TEXT.replace("[1;1]", "[2;1]"));
+    let (said, told, code) = folder.judge("sheet.txt", &[0; 6]);
     assert_eq!((said.as_str(), code), ("", Some(2)));
     assert!(
         told.starts_with("prep-tools: sheet.txt:2:21: refused 10 7: "),
         "{told}"
     );
-    let (_, told, code) = desk.run(&["judge", "sheet.txt", "nothing"]);
+    let (_, told, code) = folder.run(&["judge", "sheet.txt", "nothing"]);
     assert_eq!(code, Some(2), "{told}");
-    let (_, told, code) = desk.run(&["judge", "-", "-"]);
+    let (_, told, code) = folder.run(&["judge", "-", "-"]);
     assert_eq!(code, Some(2));
     assert!(told.contains("can't both be standard input"), "{told}");
 }
 
 #[test]
 fn a_refusal_of_a_grid_is_explained_without_it() {
-    let desk = Desk::new("explain", TEXT);
+    let folder = Folder::new("explain", TEXT);
     let explained = |words: &[&str]| {
-        let (said, _, code) = desk.run(&[&["explain"], words, &["sheet.txt"]].concat());
+        let (said, _, code) = folder.run(&[&["explain"], words, &["sheet.txt"]].concat());
         assert_eq!(code, Some(0), "{words:?}");
         said
     };
@@ -531,9 +621,9 @@ fn a_refusal_of_a_grid_is_explained_without_it() {
          0 or 1 there says whether two is a Second\n"
     );
     assert_eq!(
-        explained(&["63", "1"]),
-        "sheet.txt:10:6: refused 63 1: a booking isn't held by the grid\n  \
-         word 1 of the bookings is 2: the card of the booking two Second\n"
+        explained(&["63", "2"]),
+        "sheet.txt:10:6: refused 63 2: a booking isn't held by the grid\n  \
+         word 2 of the bookings is 2: the card of the booking two Second\n"
     );
     assert_eq!(
         explained(&["62", "2", "1"]),
@@ -551,7 +641,7 @@ fn a_refusal_of_a_grid_is_explained_without_it() {
         &["explain", "61", "6", "sheet.txt"][..],
         &["explain", "62", "3", "0", "sheet.txt"],
     ] {
-        let (_, told, code) = desk.run(words);
+        let (_, told, code) = folder.run(words);
         assert_eq!(code, Some(2), "{told}");
     }
 }

@@ -2,6 +2,7 @@
 //! that are stored.
 
 use prep_tools::cases;
+use prep_tools::desk::Desk;
 use prep_tools::generate::judging::{self, JudgeCase};
 use prep_tools::labels::{Label, Way};
 use prep_tools::numbers::{Card, Shape};
@@ -43,8 +44,11 @@ fn section<'a>(stream: &mut &'a [u8], size: usize) -> &'a [u8] {
     section
 }
 
-/// The cases of a stream.
-fn read(mut stream: &[u8]) -> Vec<(Files, Vec<u8>)> {
+/// The files, the desk and the grid of a case.
+type Read = (Files, u16, Vec<u8>);
+
+/// The cases of a stream. The desk is a section of one word.
+fn read(mut stream: &[u8]) -> Vec<Read> {
     let mut cases = Vec::new();
     while !stream.is_empty() {
         let mut words = || -> Vec<u16> {
@@ -58,14 +62,16 @@ fn read(mut stream: &[u8]) -> Vec<(Files, Vec<u8>)> {
             script: words(),
             bookings: words(),
         };
-        cases.push((files, section(&mut stream, 1).to_vec()));
+        let desk = words();
+        assert_eq!(desk.len(), 1);
+        cases.push((files, desk[0], section(&mut stream, 1).to_vec()));
     }
     cases
 }
 
 /// What the quick method says about a case.
-fn quick(files: &Files, grid: &[u8]) -> String {
-    answer(judge(&files.template, &files.script, &files.bookings, grid))
+fn quick(files: &Files, desk: u16, grid: &[u8]) -> String {
+    answer(judge(&files.template, &files.script, &files.bookings, desk, grid))
 }
 
 #[test]
@@ -87,8 +93,9 @@ fn a_stream_has_the_cases_that_are_not_long() {
     let read = read(&stream);
     assert_eq!((read.len(), lines.lines().count()), (stored.len(), stored.len()));
     assert!(lines.ends_with('\n'));
-    for ((case, (files, grid)), line) in stored.iter().zip(&read).zip(lines.lines()) {
-        assert_eq!((files, grid), (&case.files, &case.grid), "{}", case.name);
+    for ((case, (files, desk, grid)), line) in stored.iter().zip(&read).zip(lines.lines()) {
+        assert_eq!((files, *desk), (&case.files, case.desk), "{}", case.name);
+        assert_eq!(grid, &case.grid, "{}", case.name);
         assert_eq!(line, case.answer());
     }
 }
@@ -108,7 +115,7 @@ fn tally(cases: impl Iterator<Item = JudgeCase>) -> BTreeMap<u16, usize> {
     let mut tally = BTreeMap::new();
     for case in cases {
         let line = case.answer();
-        assert_eq!(line, quick(&case.files, &case.grid), "{}", case.name);
+        assert_eq!(line, quick(&case.files, case.desk, &case.grid), "{}", case.name);
         let number = match line.split(' ').nth(1) {
             None => 0,
             Some(number) => number.parse().expect("a refusal has a number"),
@@ -123,7 +130,7 @@ fn every_answer_is_frequent_among_the_random_cases() {
     let fixed = judging::fixed().len();
     let tally = tally(judging::cases(33, fixed + 3600).skip(fixed));
     let count = |numbers: &[u16]| -> usize { numbers.iter().filter_map(|number| tally.get(number)).sum() };
-    let of_files: Vec<u16> = (1..=12).chain(20..=25).chain(30..=33).chain([64, 65]).collect();
+    let of_files: Vec<u16> = (1..=12).chain(20..=25).chain(30..=33).chain(64..=66).collect();
     for number in &of_files {
         assert!(count(&[*number]) >= 5, "{number}: {tally:?}");
     }
@@ -137,7 +144,15 @@ fn every_answer_is_frequent_among_the_random_cases() {
 #[test]
 fn every_answer_is_frequent_among_the_fixed_cases() {
     let tally = tally(judging::fixed().into_iter());
-    for (number, least) in [(0, 60), (40, 25), (61, 20), (62, 80), (63, 25), (65, 25)] {
+    for (number, least) in [
+        (0, 60),
+        (40, 25),
+        (61, 20),
+        (62, 80),
+        (63, 25),
+        (65, 25),
+        (66, 60),
+    ] {
         assert!(tally[&number] >= least, "{number}: {tally:?}");
     }
 }
@@ -148,6 +163,7 @@ fn many_grids_are_accepted_that_are_neither_typing() {
     for case in judging::cases(34, 1500).filter(|case| case.answer() == "accepted") {
         let setting = Setting::read(&case.files.template, &case.files.script).expect("accepted");
         let booked = bookings::read(&setting, &case.files.bookings).expect("accepted");
+        let booked = bookings::of(Desk::numbered(case.desk).expect("accepted"), &booked);
         let (smallest, least) = closure::smallest(&setting, &booked);
         assert!(matches!(smallest, Smallest::Pairs(_)), "{}", case.name);
         let is_top = case.grid == links::largest(&setting).1;
@@ -161,7 +177,7 @@ fn many_grids_are_accepted_that_are_neither_typing() {
 }
 
 /// Cases at the limits, and what is said about them.
-const LIMITS: [(&str, &str); 26] = [
+const LIMITS: [(&str, &str); 30] = [
     ("full-accepted", "accepted"),
     ("full-last-pair", "refused 62 1023 31"),
     ("full-both-ways-accepted", "accepted"),
@@ -169,9 +185,9 @@ const LIMITS: [(&str, &str); 26] = [
     ("full-open-accepted", "accepted"),
     ("last-byte", "refused 61 32767"),
     ("last-byte-missing", "refused 40 0"),
-    ("booked-each-last-card", "refused 63 2047"),
-    ("booked-backwards-last-card", "refused 63 1"),
-    ("booked-same-last-card", "refused 65 3"),
+    ("booked-each-last-card", "refused 63 3071"),
+    ("booked-backwards-last-card", "refused 63 2"),
+    ("booked-same-last-card", "refused 65 5"),
     ("booked-each-held", "accepted"),
     ("booked-one-more-held", "refused 31 0"),
     ("ring-1024", "accepted"),
@@ -185,9 +201,13 @@ const LIMITS: [(&str, &str); 26] = [
     ("template-4096", "accepted"),
     ("template-4097", "refused 1 0"),
     ("repeat-most-cards-each", "accepted"),
-    ("repeat-most-cards-last-of-first", "refused 65 2047"),
+    ("repeat-most-cards-last-of-first", "refused 65 3071"),
     ("repeat-most-shapes-each", "accepted"),
-    ("repeat-most-shapes-last-of-next", "refused 65 2047"),
+    ("desks-most-in-turn", "accepted"),
+    ("desks-most-by-both", "accepted"),
+    ("desks-most-one-more", "refused 31 0"),
+    ("desks-most-stored", "refused 30 0"),
+    ("repeat-most-shapes-last-of-next", "refused 65 3071"),
 ];
 
 #[test]
@@ -275,14 +295,15 @@ fn links_that_arrive_come_up_in_every_answer() {
 }
 
 /// The number of the first fault of a case that is spoiled in several ways, by the name of its first stage.
-const STAGES: [(&str, [&str; 2]); 7] = [
+const STAGES: [(&str, [&str; 2]); 8] = [
     ("template", ["refused 2 0", "refused 12 15"]),
     ("script", ["refused 21 0", "refused 23 10"]),
-    ("bookings", ["refused 31 0", "refused 33 4"]),
+    ("bookings", ["refused 31 0", "refused 33 9"]),
+    ("desk", ["refused 66 0", "refused 66 0"]),
     ("size", ["refused 40 0", "refused 40 0"]),
     ("bytes", ["refused 61 1", "refused 61 5"]),
     ("pairs", ["refused 62 0 0", "refused 62 2 0"]),
-    ("held", ["refused 63 1", "refused 63 3"]),
+    ("held", ["refused 63 2", "refused 63 8"]),
 ];
 
 #[test]
@@ -315,9 +336,9 @@ fn a_repeat_comes_before_every_fault_of_the_grid() {
     let found = fixed.iter().filter(|case| case.name.starts_with("repeat-and-"));
     let mut faults = Vec::new();
     for case in found {
-        assert_eq!(case.answer(), "refused 65 3", "{}", case.name);
+        assert_eq!(case.answer(), "refused 65 5", "{}", case.name);
         let mut once = case.clone();
-        once.files.bookings = vec![1, 2, 1];
+        once.files.bookings = vec![1, 0, 2, 1];
         let line = once.answer();
         faults.push(line.split(' ').nth(1).expect("the grid has a fault").to_string());
     }
@@ -328,7 +349,7 @@ fn a_repeat_comes_before_every_fault_of_the_grid() {
 fn only_cases_about_repeats_or_faults_have_repeats() {
     let fixed = judging::fixed().len();
     let about = [
-        &["sample-", "booked-same-", "repeat-"][..],
+        &["sample-", "booked-same-", "repeat-", "desks-"][..],
         &["aimed-", "knot-", "several-"],
     ];
     for (number, case) in judging::cases(36, fixed + 900).enumerate() {
@@ -350,10 +371,10 @@ fn the_stored_cases_are_those_of_the_command() {
     let answers = String::from_utf8(answers).expect("the answers are a text");
     let cases = read(&inputs);
     assert_eq!(cases.len(), answers.lines().count());
-    for ((files, grid), line) in cases.iter().zip(answers.lines()) {
-        assert_eq!(quick(files, grid), line, "{files:?}");
+    for ((files, desk, grid), line) in cases.iter().zip(answers.lines()) {
+        assert_eq!(quick(files, *desk, grid), line, "{files:?}");
     }
     // tools/README.md names this seed and count.
-    let (again, lines) = written("stored", 7, 1003);
+    let (again, lines) = written("stored", 7, 1340);
     assert!(again == inputs && lines == answers, "the stored cases are older");
 }

@@ -1,6 +1,7 @@
 //! The generator's open shapes: how many there are, what they ignore and what becomes of their pairs, among the fixed
 //! inputs and the random ones, in sheets, in grids that are judged and in questions about counts.
 
+use prep_tools::desk::Desk;
 use prep_tools::generate::judging::{self, JudgeCase};
 use prep_tools::generate::{self, derived, SMALL, TINY};
 use prep_tools::labels::{Label, Way};
@@ -11,6 +12,7 @@ use prep_tools::script::End;
 use prep_tools::sheet::{self, Files};
 use prep_tools::template::{self, Definition, Template};
 use prep_tools::text::reasons::{asked_for, own_misfit};
+use prep_tools::typing::bookings::Booking;
 use prep_tools::typing::met::chosen_for;
 use prep_tools::typing::{bookings, closure, links, Grid, Pair, Setting, Smallest};
 use std::collections::BTreeMap;
@@ -97,7 +99,13 @@ fn templates_have_open_shapes_of_every_sort() {
     assert!(open > all / 5 && open < all / 2, "{open} of {all} are open");
 }
 
-/// A sheet that is read, its bookings, and its largest typing.
+/// What the desk books that books more.
+fn most_booked(booked: &[Booking]) -> Vec<Pair> {
+    let by_desk = Desk::BOTH.map(|desk| bookings::of(desk, booked));
+    by_desk.into_iter().max_by_key(Vec::len).unwrap_or_default()
+}
+
+/// A sheet that is read, what one desk books, and its largest typing.
 struct Read {
     setting: Setting,
     booked: Vec<Pair>,
@@ -108,7 +116,7 @@ impl Read {
     fn new(files: &Files) -> Option<Read> {
         let setting = Setting::read(&files.template, &files.script).ok()?;
         Some(Read {
-            booked: bookings::read(&setting, &files.bookings).ok()?,
+            booked: most_booked(&bookings::read(&setting, &files.bookings).ok()?),
             largest: links::largest(&setting).1,
             setting,
         })

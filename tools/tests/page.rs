@@ -51,7 +51,7 @@ fn the_page_has_an_example_of_every_refusal() {
         .chain(30..=33)
         .chain(40..=43)
         .chain([50])
-        .chain(60..=65);
+        .chain(60..=66);
     assert_eq!(shown, listed.map(|number: u16| number.to_string()).collect());
 }
 
@@ -176,14 +176,14 @@ fn a_page_with_the_wrong_order_is_noticed() {
 fn a_page_that_judges_a_grid_wrongly_is_noticed() {
     let head = "| number | template | script | bookings | grid | answer |\n|---|---|---|---|---|---|\n";
     let row = |grid: &str, number: u16, answer: &str| {
-        format!("| {number} | `1 1 1 0` | `12 1 3 0 4` | `1 3 0` | `{grid}` | `{answer}` |\n")
+        format!("| {number} | `1 1 1 0` | `12 1 3 0 4` | `1 0 3 0` | `{grid}` | `{answer}` |\n")
     };
     for (row, wrong) in [
         (row("1*12", 62, "refused 62 3 0"), 0),
         (row("1*12", 62, "refused 62 3"), 1),
         (row("1*12", 63, "refused 62 3 0"), 1),
         (row("1*11 255", 61, "refused 61 11"), 0),
-        (row("0*12", 63, "refused 63 1"), 0),
+        (row("0*12", 63, "refused 63 2"), 0),
         (row("-", 40, "refused 40 0"), 0),
         (row("0*12", 63, "accepted"), 1),
     ] {
@@ -191,6 +191,37 @@ fn a_page_that_judges_a_grid_wrongly_is_noticed() {
         let outcome = outcome.expect("the page can be read");
         assert_eq!((outcome.checked, outcome.differ), (1, wrong), "{row}{told}");
     }
+}
+
+#[test]
+fn a_column_for_the_desk_asks_for_it_and_a_printer_shows_it() {
+    let head = "| template | script | bookings | desk | bytes | answer |\n|---|---|---|---|---|---|\n";
+    let row = |desk: u16, bytes: usize, answer: &str| {
+        format!("{head}| `1 1 1 0` | `2 1 0 0 1` | `2 1 1 0 0 0 0` | {desk} | {bytes} | `{answer}` |\n")
+    };
+    let printer = format!("{PROGRAM} print -");
+    for (page, shown, wrong) in [
+        (row(0, 2, "smallest no 0 0"), 1, 0),
+        (row(1, 2, "smallest 1 / card 0: / card 1: 0"), 1, 0),
+        (row(1, 2, "smallest no 0 0"), 1, 1),
+        (row(2, 1, "refused 66 0"), 0, 0),
+        (row(1, 1, "refused 40 0"), 0, 0),
+    ] {
+        let mut told = Vec::new();
+        let outcome = page::check("page", &page, Some(&printer), &mut told).expect("the page can be read");
+        let told = String::from_utf8_lossy(&told);
+        assert_eq!((outcome.shown, outcome.differ), (shown, wrong), "{told}");
+    }
+    // Read a script asks for no desk.
+    let page =
+        "| template | script | desk | answer |\n|---|---|---|---|\n| `1` | `1` | 0 | `refused 1 0` |\n";
+    let error = "page:3: nothing is asked by the columns \"template script desk\"";
+    assert_eq!(checked(page).0, Err(error.to_string()));
+    // Without the column it is desk 0.
+    let head = "| template | script | bookings | grid | answer |\n|---|---|---|---|---|\n";
+    let row = "| `1 1 1 0` | `2 0` | `2 1 0 0 0 1 0` | `0 0` | `refused 63 5` |\n";
+    let (outcome, told) = checked(&format!("{head}{row}"));
+    assert_eq!(outcome.map(|outcome| outcome.differ), Ok(0), "{told}");
 }
 
 #[test]
@@ -202,8 +233,8 @@ fn a_page_that_tidies_a_list_wrongly_is_noticed() {
     };
     for (row, wrong) in [
         (row("2 1 0 1 0", 6, "refused 40 0"), 0),
-        (row("2 1 0 1 0", 4, "refused 40 0"), 0),
-        (row("2 1 0 1 0", 5, "refused 65 3"), 1),
+        (row("2 1 0 1 0", 5, "refused 40 0"), 0),
+        (row("2 1 0 1 0", 7, "refused 65 3"), 1),
         (row("2 1 0 2 0", 5, "refused 32 3"), 0),
         (row("-", 0, "refused 30 0"), 0),
         (row("-", 0, "refused 30 1"), 1),
@@ -214,13 +245,13 @@ fn a_page_that_tidies_a_list_wrongly_is_noticed() {
     }
     let head = "| template | script | bookings | words | answer |\n|---|---|---|---|---|\n";
     for (answer, wrong) in [
-        ("written 3 : 1 1 0 7 7", 0),
-        ("written 3 : 1 1 0 1 0", 1),
-        ("written 5 : 1 1 0 7 7", 1),
-        ("written 3", 1),
+        ("written 4 : 1 0 1 0 7 7 7", 0),
+        ("written 4 : 1 0 1 0 0 1 0", 1),
+        ("written 7 : 1 0 1 0 7 7 7", 1),
+        ("written 4", 1),
     ] {
         let (outcome, told) = checked(&format!(
-            "{head}| `1 1 1 0` | `2 0` | `2 1 0 1 0` | 5 | `{answer}` |\n"
+            "{head}| `1 1 1 0` | `2 0` | `2 1 0 1 0` | 7 | `{answer}` |\n"
         ));
         let outcome = outcome.expect("the page can be read");
         assert_eq!((outcome.checked, outcome.differ), (1, wrong), "{answer}: {told}");

@@ -3,6 +3,7 @@
 use prep_tools::fit::lines::answer;
 use prep_tools::generate::special::document;
 use prep_tools::samples::questions;
+use prep_tools::sheet;
 use std::env;
 use std::fs;
 use std::path::PathBuf;
@@ -32,11 +33,11 @@ fn folder(name: &str) -> PathBuf {
 fn print_prints_the_sheet() {
     let folder = folder("print");
     let file = folder.join("sheet");
-    fs::write(&file, document(&[1, 0, 0]).bytes()).expect("the file can be written");
+    fs::write(&file, document(&[1, 0, 0, 0]).bytes()).expect("the file can be written");
     let output = run(&["print", &file.to_string_lossy()]);
     assert_eq!(
         text(&output),
-        "largest 4 5 2\ncard 0:\ncard 1:\ncard 2: 1\nsmallest no 0 1\n"
+        "largest 4 5 2\ncard 0:\ncard 1:\ncard 2: 1\nsmallest no 0 1\nsmallest 0\ncard 0:\ncard 1:\ncard 2:\n"
     );
     assert!(output.status.success());
     fs::remove_dir_all(folder).expect("the folder can be removed");
@@ -136,7 +137,7 @@ fn compare_keeps_the_inputs_that_differ() {
         .expect("a file is named");
     assert_eq!(
         fs::read(first).expect("the input is kept"),
-        document(&[1, 2, 1]).bytes()
+        document(&[1, 0, 2, 1]).bytes()
     );
     for line in printed.lines().filter(|line| line.contains("prep-tools-")) {
         let file = line.split(": ").next().expect("a file is named");
@@ -324,10 +325,10 @@ fn bookings_that_stand_twice_are_told_and_dropped() {
     let twice = SHEET.replace("book quiz Item", "book quiz Item\nbook quiz Item # again");
     fs::write(&in_text, &twice).expect("the file can be written");
     fs::write(&in_words, document(&[3, 2, 1, 0, 0, 2, 1]).bytes()).expect("the file can be written");
-    assert!(error(&["check", &in_text]).contains(":9:6: refused 65 3: a pair is booked a second time"));
+    assert!(error(&["check", &in_text]).contains(":9:6: refused 65 5: a desk books a pair a second time"));
     assert!(error(&["words", &in_text, &out]).contains("it is booked at line 8, column 6 already"));
-    assert_eq!(text(&run(&["print", &in_words])), "refused 65 5\n");
-    assert!(text(&run(&["explain", "65", "3", &in_text])).contains(":9:6: refused 65 3: "));
+    assert_eq!(text(&run(&["print", &in_words])), "refused 30 0\n");
+    assert!(text(&run(&["explain", "65", "5", &in_text])).contains(":9:6: refused 65 5: "));
     let tidied = |file: &str, out: &str, told: &str| {
         let output = run(&["tidy", file, out]);
         assert_eq!(output.status.code(), Some(0));
@@ -341,7 +342,7 @@ fn bookings_that_stand_twice_are_told_and_dropped() {
     let left = SHEET.to_string() + "# again\n";
     assert_eq!(fs::read_to_string(&out).expect("a text is written"), left);
     assert_eq!(tidied(&out, "-", "0 of 1 booking"), left.as_bytes());
-    let words = document(&[2, 2, 1, 0, 0]).bytes();
+    let words = document(&[2, 0, 2, 1, 0, 0, 0]).bytes();
     assert_eq!(tidied(&in_words, "-", "1 of 3 bookings"), words);
     // In place.
     tidied(&in_words, &in_words, "1 of 3 bookings");
@@ -383,10 +384,27 @@ fn tidy_cases_writes_cases_and_a_line_for_each() {
         lines.starts_with("refused 4 2 : 7 7 7 7 7 7 7 7 7\nrefused 21 0 : 7 7"),
         "{lines}"
     );
-    assert!(lines.contains("\nwritten 5 : 2 2 1 0 0 7 7\n"), "{lines}");
+    assert!(lines.contains("\nwritten 7 : 2 0 2 1 0 0 0 7 7 7\n"), "{lines}");
     let bytes = fs::read(&inputs).expect("the cases are written");
     // The first case: a template of two words, a script of two, an empty list, and a buffer of nine words.
     assert!(bytes.starts_with(&[2, 0, 1, 0, 1, 0, 2, 0, 1, 4, 0, 0, 0, 0, 9, 0]));
+    fs::remove_dir_all(folder).expect("the folder can be removed");
+}
+
+#[test]
+fn desk_pairs_writes_two_sheets_for_each_pair() {
+    let folder = folder("desk-pairs");
+    let out = folder.join("out").to_string_lossy().into_owned();
+    assert!(run(&["desk-pairs", &out, "3", "4"]).status.success());
+    let bytes = fs::read(&out).expect("the sheets are written");
+    let (mut sheets, mut rest) = (0, &bytes[..]);
+    while let Some((length, after)) = rest.split_first_chunk::<4>() {
+        let (input, after) = after.split_at(u32::from_le_bytes(*length) as usize);
+        assert!(sheet::print(input).starts_with("largest "));
+        (sheets, rest) = (sheets + 1, after);
+    }
+    assert_eq!((sheets, rest.len()), (8, 0));
+    assert!(error(&["desk-pairs", &out, "3"]).contains("COUNT is missing"));
     fs::remove_dir_all(folder).expect("the folder can be removed");
 }
 

@@ -1,5 +1,6 @@
 //! Why a card can't have a shape: the nearest counts, the card that is to blame, and the sentences.
 
+use prep_tools::desk::Desk;
 use prep_tools::fit::intervals::fits;
 use prep_tools::generate::parts::{small_bounds, PartMaker};
 use prep_tools::generate::{self, TINY};
@@ -100,10 +101,12 @@ fn each_pair_that_is_struck_has_a_root() {
         let sheet = load_sheet("x", &files.bytes()).expect("a generated sheet is well-formed");
         let roots = Roots::new(&sheet.setting);
         let named = sheet.setting.template.named();
-        let not_met = all_not_met(&sheet, &roots);
-        assert_eq!(not_met.first().map(|reason| reason.pair), sheet.not_met());
+        for desk in Desk::BOTH {
+            let not_met = all_not_met(&sheet, &roots, desk);
+            assert_eq!(not_met.first().map(|reason| reason.pair), sheet.not_met(desk));
+        }
         for pair in sheet.setting.pairs() {
-            let struck = !sheet.has(&sheet.both.largest.1, pair);
+            let struck = !sheet.has(&sheet.typings.largest.1, pair);
             let reason = reason(&sheet, &roots, pair);
             assert_eq!(reason.is_some(), struck);
             let Some(reason) = reason else { continue };
@@ -117,7 +120,7 @@ fn each_pair_that_is_struck_has_a_root() {
                 let is_step = |link: &ScriptLink| (link.from, link.kind, link.to) == (from, label.kind, to);
                 assert!(sheet.setting.script.links.iter().any(is_step));
                 assert_eq!(named[at.1.index()][*label], Some(next.1));
-                assert!(!sheet.has(&sheet.both.largest.1, *next));
+                assert!(!sheet.has(&sheet.typings.largest.1, *next));
                 steps[label.way as usize] += 1;
                 at = *next;
             }
@@ -145,7 +148,7 @@ fn unfit(part: &str, links: &str) -> String {
         }
     }
     let sheet = run("x.txt", &source).expect("the text is a sheet");
-    let pair = sheet.not_met().expect("the booking isn't met");
+    let pair = sheet.not_met(Desk::Radio).expect("the booking isn't met");
     let reason = reason(&sheet, &Roots::new(&sheet.setting), pair).expect("the pair isn't met");
     cannot(&sheet.text, &reason)
 }
@@ -246,8 +249,8 @@ fn cards_that_point_at_others_are_told_as_such() {
     let report = sheet.report("x.txt");
     for told in [
         "x.txt:10:6: Late night can't be an Item: at most 1 film wanted, 2 there\n  \
-         refused 50 5 0: the bookings ask for night to have shape Item\n  \
-         booked: ann Guest <-guest- quiz Item -film-> f1 Film <-film- night Item\n",
+         refused 50 5 0 for radio: its bookings ask for night to have shape Item\n  \
+         booked by radio: ann Guest <-guest- quiz Item -film-> f1 Film <-film- night Item\n",
         "x.txt:6:6: quiz has no shape\n  \
          not an Item: \"Late night\" can't be an Item: at most 1 film wanted, 2 there; \
          it leads there by film \"A film\", film from \"Late night\"\n",
@@ -255,7 +258,7 @@ fn cards_that_point_at_others_are_told_as_such() {
         assert!(report.contains(told), "{report}");
     }
     let films = ARRIVING.replace("film[0;1]@Film, next", "film[0;2]@Film, next");
-    assert!(run("x.txt", &films).is_ok_and(|sheet| sheet.not_met().is_none()));
+    assert!(run("x.txt", &films).is_ok_and(|sheet| sheet.is_met()));
 }
 
 #[test]
@@ -272,11 +275,11 @@ fn a_card_asks_for_the_one_that_points_at_it() {
         )
     };
     assert_eq!(
-        told(sheet.booked[0]),
+        told(sheet.booked[0].1),
         "ann can't be a Guest: \"The quiz\", which points at it by guest, can't be an Item: 1 film wanted, 0 there"
     );
     assert_eq!(
-        told(sheet.not_met().expect("the booking isn't met")),
+        told(sheet.not_met(Desk::Radio).expect("the booking isn't met")),
         "The quiz can't be an Item: 1 film wanted, 0 there"
     );
 }
@@ -308,7 +311,7 @@ fn an_open_shape_is_told_by_the_kinds_that_it_names() {
     let roots = Roots::new(&sheet.setting);
     let told = cannot(
         &sheet.text,
-        &reason(&sheet, &roots, sheet.booked[0]).expect("the pair isn't met"),
+        &reason(&sheet, &roots, sheet.booked[0].1).expect("the pair isn't met"),
     );
     // The film has no shape either, but it isn't asked for.
     assert_eq!(
@@ -316,7 +319,7 @@ fn an_open_shape_is_told_by_the_kinds_that_it_names() {
         "quiz can't be an Item: its guest ann can't be a Guest: no film wanted, 1 there"
     );
     let met = run("x.txt", &source.replace("link ann film f1\n", "")).expect("the text is a sheet");
-    assert_eq!(met.not_met(), None);
+    assert!(met.is_met());
     assert!(met.bare(2) && !met.bare(0));
 }
 
@@ -330,11 +333,17 @@ fn the_card_to_blame_is_told_first() {
     let lines: Vec<&str> = report.lines().collect();
     assert_eq!(
         lines[1],
+        "smallest for radio: none, as not all that it books can be met"
+    );
+    assert_eq!(
+        lines[2],
         "draft.txt:41:6: Guest to be found can't be a Guest: 1 line wanted, 0 there"
     );
-    assert_eq!(lines[5], "draft.txt:31:6: Quiz has no shape");
+    assert!(lines[3].starts_with("  refused 50 20 4 for radio: its bookings ask for tbc"));
+    assert_eq!(lines[5], "smallest for television: 4 pairs, each of them met");
+    assert_eq!(lines[7], "draft.txt:31:6: Quiz has no shape");
     assert_eq!(
-        lines[6],
+        lines[8],
         "  not an Item: its guest \"Guest to be found\" can't be a Guest: 1 line wanted, 0 there"
     );
     assert!(report.contains(
@@ -364,8 +373,8 @@ fn all_that_bookings_ask_for_and_is_not_met_is_told() {
         .replace("link theme     source label\n", "")
         .replace("link mara      line  l-mara\n", "");
     let sheet = run("draft.txt", &source).expect("the draft is a sheet");
-    let told = all_not_met(&sheet, &Roots::new(&sheet.setting));
-    assert_eq!(Some(told[0].pair), sheet.not_met());
+    let told = all_not_met(&sheet, &Roots::new(&sheet.setting), Desk::Radio);
+    assert_eq!(Some(told[0].pair), sheet.not_met(Desk::Radio));
     let told: Vec<String> = told.iter().map(|reason| cannot(&sheet.text, reason)).collect();
     let expected = [
         "Mara Lindholm can't be a Host: 1 line wanted, 0 there",
@@ -377,7 +386,11 @@ fn all_that_bookings_ask_for_and_is_not_met_is_told() {
     for one in expected {
         assert!(report.contains(&format!(": {one}\n")), "{report}");
     }
-    assert_eq!(report.matches("refused 50").count(), 1);
+    assert_eq!(report.matches("refused 50").count(), 2);
+    assert!(
+        report.contains("refused 50 27 6 for television: its bookings ask for theme"),
+        "{report}"
+    );
 }
 
 #[test]

@@ -349,30 +349,54 @@ fn script_23_to_25_its_links() {
     assert_eq!(script::read(&[1], &[]).map(|_| ()), Err(Refusal::at(1, 0)));
 }
 
-/// The smallest typing of the worked sheet with these bookings, into a grid of this size.
-fn book(words: &[u16], size: usize) -> Result<Smallest, Refusal> {
+/// The smallest typing of the worked sheet with these bookings for a desk, into a grid of this size.
+fn book_for(desk: u16, words: &[u16], size: usize) -> Result<Smallest, Refusal> {
     let mut grid = vec![7; size];
-    let answer = smallest(&DOCUMENT_TEMPLATE, &DOCUMENT_SCRIPT, words, &mut grid);
+    let answer = smallest(&DOCUMENT_TEMPLATE, &DOCUMENT_SCRIPT, words, desk, &mut grid);
     if answer.is_err() {
         assert!(grid.iter().all(|byte| *byte == 7), "a refusal changed the grid");
     }
     answer
 }
 
+/// The same for the radio.
+fn book(words: &[u16], size: usize) -> Result<Smallest, Refusal> {
+    book_for(0, words, size)
+}
+
+/// Every call that takes bookings refuses this list, whichever desk it asks for and whatever else is wrong there.
+fn list_refused(words: &[u16], number: u16, place: usize) {
+    let refusal = Refusal::at(number, place);
+    for desk in [0, 1, 2, 65535] {
+        for size in [6, 5] {
+            assert_eq!(book_for(desk, words, size), Err(refusal), "{words:?}");
+            let judged = judge(&DOCUMENT_TEMPLATE, &DOCUMENT_SCRIPT, words, desk, &vec![2; size]);
+            assert_eq!(judged, Err(refusal), "{words:?}");
+        }
+        for method in [both, both_by_rounds] {
+            let answer = method(&DOCUMENT_TEMPLATE, &DOCUMENT_SCRIPT, words, desk);
+            assert_eq!(answer, Err(refusal), "{words:?}");
+        }
+    }
+    let printed = sheet::print(&document(words).bytes());
+    assert_eq!(printed, format!("refused {number} {place}\n"), "{words:?}");
+}
+
 #[test]
 fn bookings_30_to_33_and_the_grid_40() {
     assert_eq!(book(&[0], 6), Ok(Smallest::Pairs(0)));
-    assert_eq!(book(&[], 6), Err(Refusal::at(30, 0)));
-    assert_eq!(book(&[1025], 6), Err(Refusal::at(31, 0)));
-    assert_eq!(book(&[1024], 6), Err(Refusal::at(30, 0)));
-    assert_eq!(book(&[0, 0], 6), Err(Refusal::at(30, 0)));
-    assert_eq!(book(&[1, 2], 6), Err(Refusal::at(30, 0)));
-    assert_eq!(book(&[1, 3, 2], 5), Err(Refusal::at(32, 1)));
-    assert_eq!(book(&[1, 2, 2], 5), Err(Refusal::at(33, 2)));
-    assert_eq!(book(&[2, 2, 1, 2, 2], 5), Err(Refusal::at(33, 4)));
-    assert_eq!(book(&[2, 2, 2, 3, 1], 5), Err(Refusal::at(33, 2)));
-    for size in [5, 7] {
-        assert_eq!(book(&[1, 0, 0], size), Err(Refusal::at(40, 0)));
+    list_refused(&[], 30, 0);
+    list_refused(&[1025], 31, 0);
+    list_refused(&[1024], 30, 0);
+    list_refused(&[0, 0], 30, 0);
+    list_refused(&[1, 0, 2], 30, 0);
+    list_refused(&[1, 0, 2, 1, 0], 30, 0);
+    list_refused(&[1, 0, 3, 2], 32, 2);
+    list_refused(&[1, 1, 2, 2], 33, 3);
+    list_refused(&[2, 0, 2, 1, 0, 2, 2], 33, 6);
+    list_refused(&[2, 1, 2, 2, 0, 3, 1], 33, 3);
+    for (desk, size) in [(0, 5), (0, 7), (1, 5), (1, 7)] {
+        assert_eq!(book_for(desk, &[1, 0, 0, 0], size), Err(Refusal::at(40, 0)));
     }
     for method in [largest, largest_by_rounds] {
         let mut grid = [7; 5];
@@ -382,71 +406,110 @@ fn bookings_30_to_33_and_the_grid_40() {
 }
 
 #[test]
-fn bookings_65_a_pair_that_is_booked_earlier() {
-    let refused = |words: &[u16], number: u16, place: usize| {
-        // The same in every call that takes bookings; a grid of the wrong size comes after that.
-        let refusal = Refusal::at(number, place);
-        for size in [6, 5] {
-            assert_eq!(book(words, size), Err(refusal), "{words:?}");
-            let judged = judge(&DOCUMENT_TEMPLATE, &DOCUMENT_SCRIPT, words, &vec![2; size]);
-            assert_eq!(judged, Err(refusal), "{words:?}");
-        }
-        for method in [both, both_by_rounds] {
-            let answer = method(&DOCUMENT_TEMPLATE, &DOCUMENT_SCRIPT, words);
-            assert_eq!(answer, Err(refusal), "{words:?}");
-        }
-        let printed = sheet::print(&document(words).bytes());
-        assert_eq!(printed, format!("refused {number} {place}\n"), "{words:?}");
-    };
-    refused(&[2, 2, 1, 2, 1], 65, 3);
-    refused(&[3, 2, 1, 0, 0, 2, 1], 65, 5);
-    refused(&[2, 0, 0, 0, 0], 65, 3);
-    // The first of several repeats is told, whichever pair it repeats.
-    refused(&[4, 2, 1, 0, 0, 0, 0, 2, 1], 65, 5);
-    refused(&[4, 2, 1, 2, 1, 2, 1, 2, 1], 65, 3);
-    // After the 33 of the same booking, before the 32 of the next.
-    refused(&[3, 2, 1, 2, 1, 9, 9], 65, 3);
-    refused(&[2, 2, 1, 2, 2], 33, 4);
-    refused(&[3, 3, 1, 2, 1, 2, 1], 32, 1);
-    refused(&[3, 2, 1, 2, 2, 2, 1], 33, 4);
-    refused(&[2, 3, 0, 3, 0], 32, 1);
-    refused(&[2, 2, 2, 2, 2], 33, 2);
-    // The size of the list comes before its bookings.
-    refused(&[2, 2, 1, 2, 1, 0], 30, 0);
-    refused(&[3, 2, 1, 2, 1], 30, 0);
-    refused(&[1025, 2, 1, 2, 1], 31, 0);
-    refused(&[vec![1024], [2, 1].repeat(1024)].concat(), 65, 3);
-    refused(&[vec![1025], [2, 1].repeat(1025)].concat(), 31, 0);
+fn a_list_without_desks_is_30() {
+    list_refused(&[1, 2, 1], 30, 0);
+    list_refused(&[2, 2, 1, 0, 0], 30, 0);
+    list_refused(&[3, 2, 1, 0, 0, 2, 1], 30, 0);
+    list_refused(&[vec![1024], [2, 1].repeat(1024)].concat(), 30, 0);
 }
 
 #[test]
-fn a_pair_has_to_be_the_same_in_both_words() {
+fn bookings_65_a_pair_that_the_desk_books_earlier() {
+    for desk in [0, 1] {
+        list_refused(&[2, desk, 2, 1, desk, 2, 1], 65, 5);
+        list_refused(&[3, desk, 2, 1, 0, 0, 0, desk, 2, 1], 65, 8);
+        list_refused(&[2, desk, 0, 0, desk, 0, 0], 65, 5);
+        // The other desk's booking of the pair changes nothing.
+        list_refused(&[3, desk, 2, 1, 1 - desk, 2, 1, desk, 2, 1], 65, 8);
+        list_refused(&[3, 1 - desk, 2, 1, desk, 2, 1, desk, 2, 1], 65, 8);
+    }
+    // The first of several repeats is told, whichever pair it repeats.
+    list_refused(&[4, 0, 2, 1, 0, 0, 0, 0, 0, 0, 0, 2, 1], 65, 8);
+    list_refused(&[4, 0, 2, 1, 0, 2, 1, 0, 2, 1, 0, 2, 1], 65, 5);
+    // After the 33 of the same booking, before the 66 and the 32 of the next.
+    list_refused(&[3, 0, 2, 1, 0, 2, 1, 2, 9, 9], 65, 5);
+    list_refused(&[3, 0, 2, 1, 0, 2, 1, 0, 9, 9], 65, 5);
+    list_refused(&[2, 0, 2, 1, 0, 2, 2], 33, 6);
+    list_refused(&[3, 0, 3, 1, 0, 2, 1, 0, 2, 1], 32, 2);
+    list_refused(&[3, 0, 2, 1, 0, 2, 2, 0, 2, 1], 33, 6);
+    list_refused(&[2, 0, 3, 0, 0, 3, 0], 32, 2);
+    list_refused(&[2, 0, 2, 2, 0, 2, 2], 33, 3);
+    // The size of the list comes before its bookings.
+    list_refused(&[2, 0, 2, 1, 0, 2, 1, 0], 30, 0);
+    list_refused(&[3, 0, 2, 1, 0, 2, 1], 30, 0);
+    list_refused(&[1025, 0, 2, 1, 0, 2, 1], 31, 0);
+    list_refused(&[vec![1024], [0, 2, 1].repeat(1024)].concat(), 65, 5);
+    list_refused(&[vec![1025], [0, 2, 1].repeat(1025)].concat(), 31, 0);
+}
+
+#[test]
+fn bookings_66_a_desk_that_there_is_not() {
+    for desk in [2, 3, 255, 256, 257, 65534, 65535] {
+        list_refused(&[1, desk, 2, 1], 66, 1);
+        list_refused(&[1, desk, 9, 9], 66, 1);
+        list_refused(&[2, 0, 2, 1, desk, 2, 1], 66, 4);
+    }
+    // Within a booking: desk, card, shape, repeat. A fault of a booking comes before all of the next.
+    list_refused(&[2, 0, 2, 1, 2, 3, 2], 66, 4);
+    list_refused(&[2, 0, 2, 1, 0, 3, 2], 32, 5);
+    list_refused(&[2, 0, 2, 1, 1, 2, 2], 33, 6);
+    list_refused(&[3, 0, 2, 1, 0, 3, 1, 2, 2, 1], 32, 5);
+    list_refused(&[3, 0, 2, 1, 2, 2, 1, 0, 2, 1], 66, 4);
+}
+
+#[test]
+fn calls_66_a_desk_that_there_is_not() {
+    let refusal = Refusal::at(66, 0);
+    for desk in [2, 3, 256, 65535] {
+        for words in [&[0][..], &[1, 0, 2, 1], &[2, 0, 0, 0, 1, 2, 1]] {
+            for size in [5, 6] {
+                assert_eq!(book_for(desk, words, size), Err(refusal));
+                let judged = judge(&DOCUMENT_TEMPLATE, &DOCUMENT_SCRIPT, words, desk, &vec![2; size]);
+                assert_eq!(judged, Err(refusal));
+            }
+            for method in [both, both_by_rounds] {
+                let answer = method(&DOCUMENT_TEMPLATE, &DOCUMENT_SCRIPT, words, desk);
+                assert_eq!(answer, Err(refusal));
+            }
+        }
+        let unread = smallest(&DOCUMENT_TEMPLATE, &[1025, 0], &[], desk, &mut []);
+        assert_eq!(unread, Err(Refusal::at(21, 0)));
+    }
+}
+
+#[test]
+fn a_repeat_has_to_be_the_same_in_all_three_words() {
     let not_met = Ok(Smallest::NotMet(Card(0), Shape(1)));
-    assert_eq!(book(&[2, 0, 0, 0, 1], 6), not_met);
-    assert_eq!(book(&[2, 0, 1, 2, 1], 6), not_met);
-    assert_eq!(book(&[2, 0, 1, 1, 0], 6), not_met);
+    assert_eq!(book(&[2, 0, 0, 0, 0, 0, 1], 6), not_met);
+    assert_eq!(book(&[2, 0, 0, 1, 0, 2, 1], 6), not_met);
+    assert_eq!(book(&[2, 0, 0, 1, 0, 1, 0], 6), not_met);
+    assert_eq!(book(&[2, 0, 0, 0, 1, 0, 0], 6), not_met);
     // The words of the last booking stand across the first two.
-    assert_eq!(book(&[3, 0, 1, 1, 0, 1, 1], 6), not_met);
-    assert_eq!(book(&[6, 0, 0, 0, 1, 1, 0, 1, 1, 2, 0, 2, 1], 6), not_met);
+    assert_eq!(book(&[3, 0, 0, 1, 0, 1, 0, 1, 0, 1], 6), not_met);
+    let each = [6, 0, 0, 0, 0, 0, 1, 0, 1, 0, 0, 1, 1, 0, 2, 0, 0, 2, 1];
+    assert_eq!(book(&each, 6), not_met);
     let read = |cards: u16, words: &[u16]| {
         let setting = Setting::read(&template_of(1, &[&[0][..]; 32]), &[cards, 0]).expect("well-formed");
         bookings::read(&setting, words).map(|booked| booked.len())
     };
-    // As many bookings as can be, by cards and by shapes; then the last is a repeat of the first.
+    // As many bookings as can be, by cards and by shapes; then the last is a repeat of the first, and then the other
+    // desk's.
     for cards in [1024, 32] {
-        let pair = |number: u16| [number % cards, number / cards];
-        let mut words: Vec<u16> = [1024].into_iter().chain((0..1024).flat_map(pair)).collect();
+        let booking = |number: u16| [1, number % cards, number / cards];
+        let mut words: Vec<u16> = [1024].into_iter().chain((0..1024).flat_map(booking)).collect();
         assert_eq!(read(cards, &words), Ok(1024));
-        words[2047..].copy_from_slice(&[0, 0]);
-        assert_eq!(read(cards, &words), Err(Refusal::at(65, 2047)));
-        words[2048] = 32;
-        assert_eq!(read(cards, &words), Err(Refusal::at(33, 2048)));
+        words[3070..].copy_from_slice(&[1, 0, 0]);
+        assert_eq!(read(cards, &words), Err(Refusal::at(65, 3071)));
+        words[3070] = 0;
+        assert_eq!(read(cards, &words), Ok(1024));
+        words[3072] = 32;
+        assert_eq!(read(cards, &words), Err(Refusal::at(33, 3072)));
     }
 }
 
 #[test]
 fn sheet_60_the_length_of_the_input() {
-    let whole = document(&[1, 2, 1]).bytes();
+    let whole = document(&[1, 0, 2, 1]).bytes();
     for length in 0..whole.len() {
         assert_eq!(sheet::print(&whole[..length]), "refused 60 0\n", "{length} bytes");
     }
@@ -469,10 +532,12 @@ fn sheet_60_the_length_of_the_input() {
 
 #[test]
 fn sheet_order_of_the_files() {
-    let mut files = document(&[2, 2, 1, 2, 1]);
-    assert_eq!(sheet::print(&files.bytes()), "refused 65 3\n");
-    files.bookings[1] = 3;
-    assert_eq!(sheet::print(&files.bytes()), "refused 32 1\n");
+    let mut files = document(&[2, 0, 2, 1, 0, 2, 1]);
+    assert_eq!(sheet::print(&files.bytes()), "refused 65 5\n");
+    files.bookings[2] = 3;
+    assert_eq!(sheet::print(&files.bytes()), "refused 32 2\n");
+    files.bookings[1] = 2;
+    assert_eq!(sheet::print(&files.bytes()), "refused 66 1\n");
     files.script[0] = 2;
     assert_eq!(sheet::print(&files.bytes()), "refused 23 4\n");
     files.template[5] = 255;

@@ -43,7 +43,7 @@ fn fault(source: &str) -> String {
 
 #[test]
 fn the_documents_sheet_has_its_words() {
-    assert_eq!(bytes(DOCUMENT), document(&[1, 2, 1]).bytes());
+    assert_eq!(bytes(DOCUMENT), document(&[1, 0, 2, 1]).bytes());
 }
 
 #[test]
@@ -52,9 +52,48 @@ fn the_example_of_the_description_has_the_same_words() {
     let lines = description.lines().skip_while(|line| !line.starts_with("    # "));
     let example: Vec<&str> = lines.map_while(|line| line.strip_prefix("    ")).collect();
     let source = example.join("\n");
-    assert_eq!(bytes(&source), document(&[1, 2, 1]).bytes());
+    assert_eq!(bytes(&source), document(&[2, 0, 2, 1, 1, 2, 1]).bytes());
     let sheet = check::run("x.txt", &source).expect("the example is a sheet");
     assert_eq!(sheet.text.card_title(1), "The card \"one\"");
+}
+
+#[test]
+fn a_booking_may_have_a_desk() {
+    let with = |book: &str| DOCUMENT.replace("book two Second", book);
+    for (book, words) in [
+        ("book two Second", &[1, 0, 2, 1][..]),
+        ("book 0 two Second", &[1, 0, 2, 1]),
+        ("book 1 two Second", &[1, 1, 2, 1]),
+        ("book 1 two Second\nbook two Second", &[2, 1, 2, 1, 0, 2, 1]),
+        ("book 65535 two Second", &[1, 65535, 2, 1]),
+    ] {
+        assert_eq!(bytes(&with(book)), document(words).bytes(), "{book}");
+    }
+    let two = with("book 0 two Second\nbook 1 one First\n");
+    let written = write::sheet_text(&check::run("x.txt", &two).expect("the text is a sheet"));
+    assert!(
+        written.ends_with("\nbook two Second\nbook 1 one First\n"),
+        "{written}"
+    );
+    assert_eq!(bytes(&written), bytes(&two));
+    assert_eq!(
+        fault(&with("book 2 two Second")),
+        "x.txt:12:6: refused 66 1: a desk is neither radio, 0, nor television, 1\n  \
+         `book` takes 0 or no number for the radio, and 1 for the television\n  \
+         word 1 of the bookings is 2: the desk of the booking 2 two Second"
+    );
+    assert_eq!(
+        fault(&with("book 65536 two Second")),
+        "x.txt:12:6: no word can say the desk 65536"
+    );
+    assert_eq!(
+        fault(&with("book 1 0 Second")),
+        "x.txt:12:8: the name of a card is wanted here, not 0"
+    );
+    assert_eq!(
+        fault(&with("book 1 two")),
+        "x.txt:12:11: the name of a shape is wanted here, not the end of the line"
+    );
 }
 
 /// Items and guests, as docs/FORMAT.md has them, with one item and its guest.
@@ -73,7 +112,7 @@ fn what_arrives_has_its_words() {
     let files = Files {
         template: GUESTS.to_vec(),
         script: vec![2, 1, 0, 0, 1],
-        bookings: vec![1, 1, 1],
+        bookings: vec![1, 0, 1, 1],
     };
     assert_eq!(bytes(GUEST_SHEET), files.bytes());
     // Blanks and brackets change nothing, and a kind may stand in a shape once each way.
@@ -104,7 +143,7 @@ fn an_open_shape_has_its_words() {
     let files = Files {
         template: TOLERANT.to_vec(),
         script: ONE_MORE.to_vec(),
-        bookings: vec![1, 0, 0],
+        bookings: vec![1, 0, 0, 0],
     };
     assert_eq!(bytes(OPEN_SHEET), files.bytes());
     let written = write::text(&files.bytes()).expect("the words are a sheet");
@@ -117,10 +156,10 @@ fn an_open_shape_has_its_words() {
         .replace(" a", " open");
     assert_eq!(bytes(&names), files.bytes());
     let sheet = check::run("x.txt", OPEN_SHEET).expect("the text is a sheet");
-    assert_eq!(sheet.both.smallest.0, Smallest::Pairs(2));
+    assert_eq!(sheet.typings.smallest[0].0, Smallest::Pairs(2));
     let closed = OPEN_SHEET.replace("open shape", "shape");
     let sheet = check::run("x.txt", &closed).expect("the text is a sheet");
-    assert!(matches!(sheet.both.smallest.0, Smallest::NotMet(..)));
+    assert!(matches!(sheet.typings.smallest[0].0, Smallest::NotMet(..)));
 }
 
 #[test]
@@ -172,7 +211,7 @@ fn the_shapes_of_the_description_are_read() {
         shapes.join("\n")
     );
     let sheet = check::run("x.txt", &source).expect("the shapes are read");
-    assert_eq!(sheet.both.smallest.0, Smallest::Pairs(2));
+    assert_eq!(sheet.typings.smallest[0].0, Smallest::Pairs(2));
 }
 
 #[test]
@@ -186,7 +225,7 @@ fn the_open_shape_of_the_description_is_read() {
     let links = "link quiz guest ann\nlink quiz note memo\nlink memo note memo\nbook quiz Item\n";
     let source = format!("{}\ncard quiz\ncard ann\ncard memo\n{links}", shapes.join("\n"));
     let sheet = check::run("x.txt", &source).expect("the shapes are read");
-    assert_eq!(sheet.both.smallest.0, Smallest::Pairs(2));
+    assert_eq!(sheet.typings.smallest[0].0, Smallest::Pairs(2));
     assert!(sheet.bare(2));
 }
 
@@ -257,7 +296,8 @@ fn roles_name_the_words_of_a_template() {
         );
     }
     assert_eq!(roles::script_role(4), "the target of link 0, counted from 0");
-    assert_eq!(roles::booking_role(4), "the shape of booking 1, counted from 0");
+    assert_eq!(roles::booking_role(4), "the desk of booking 1, counted from 0");
+    assert_eq!(roles::booking_role(6), "the shape of booking 1, counted from 0");
 }
 
 /// A text with a fault, and what it is told with.
@@ -470,13 +510,13 @@ fn refusals_of_a_text_say_what_they_mean_there() {
 fn fifty_is_told_with_its_reason_and_its_booking() {
     let source = DOCUMENT.replace("book two Second", "book zero First");
     let sheet = check::run("x.txt", &source).expect("the sheet is read");
-    assert!(matches!(sheet.both.smallest.0, Smallest::NotMet(..)));
+    assert!(matches!(sheet.typings.smallest[0].0, Smallest::NotMet(..)));
     let report = sheet.report("x.txt");
     let told =
-        "x.txt:6:6: zero can't be a Second: no a wanted, 1 there; no b wanted, 1 there\n  refused 50 0 1: ";
+        "x.txt:6:6: zero can't be a Second: no a wanted, 1 there; no b wanted, 1 there\n  refused 50 0 1 for radio: ";
     assert!(report.contains(told), "{report}");
     assert!(
-        report.contains("\n  booked: zero First -b-> one First -a-> zero Second\n"),
+        report.contains("\n  booked by radio: zero First -b-> one First -a-> zero Second\n"),
         "{report}"
     );
 }
@@ -575,7 +615,7 @@ fn text_and_words_are_told_apart_by_what_they_are() {
             assert_eq!(form(text.as_bytes()), Form::Text, "{}", case.name);
             let sheet = load_sheet("x", text.as_bytes()).expect("the text is a sheet");
             let same = load_sheet("x", &case.bytes).expect("the words are a sheet");
-            assert_eq!(sheet.both, same.both, "{}", case.name);
+            assert_eq!(sheet.typings, same.typings, "{}", case.name);
             assert_eq!((sheet.form, same.form), (Form::Text, Form::Words));
         }
     }
@@ -624,7 +664,7 @@ fn every_number_has_words() {
         .chain(20..=25)
         .chain(30..=33)
         .chain(40..=43)
-        .chain(60..=64);
+        .chain(60..=66);
     for number in numbers {
         assert_ne!(Refusal::at(number, 0).meaning(), "a refusal that isn't known");
     }

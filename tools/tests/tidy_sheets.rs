@@ -1,4 +1,5 @@
-//! A pair that is booked twice in a sheet, be it text or words: where and how that is told, and how `tidy` drops it.
+//! A pair that a desk books twice in a sheet: where and how that is told, and how `tidy` drops it. Words whose bookings
+//! are a stored list: what `tidy` makes of them.
 
 use prep_tools::generate::special::document;
 use prep_tools::generate::tidying;
@@ -51,13 +52,13 @@ fn the_line_of_the_second_booking_is_told_with_that_of_the_first() {
     let message = check::run("x.txt", TEXT).expect_err("a pair is booked twice");
     assert_eq!(
         message,
-        "x.txt:10:8: refused 65 5: a pair is booked a second time\n  \
+        "x.txt:10:8: refused 65 8: a desk books a pair a second time\n  \
          it is booked at line 5, column 6 already\n  \
-         word 5 of the bookings is 2: the card of the booking two Second"
+         word 8 of the bookings is 2: the card of the booking two Second"
     );
     let once = TEXT.replace("  book\ttwo Second", "");
     let message = check::run("x.txt", &once).expect_err("another pair is booked twice");
-    assert!(message.starts_with("x.txt:13:6: refused 65 5: "), "{message}");
+    assert!(message.starts_with("x.txt:13:6: refused 65 8: "), "{message}");
     assert!(
         message.contains("\n  it is booked at line 9, column 6 already\n"),
         "{message}"
@@ -66,18 +67,18 @@ fn the_line_of_the_second_booking_is_told_with_that_of_the_first() {
         .replace("zero First", "one Second")
         .replace("two First", "one First");
     let message = check::run("x.txt", &cards).expect_err("a pair is booked twice");
-    assert!(message.starts_with("x.txt:10:8: refused 65 5: "), "{message}");
+    assert!(message.starts_with("x.txt:10:8: refused 65 8: "), "{message}");
 }
 
 #[test]
 fn words_tell_the_first_booking_by_its_number() {
-    let bytes = document(&[3, 2, 1, 0, 0, 2, 1]).bytes();
+    let bytes = document(&[3, 1, 2, 1, 0, 2, 1, 1, 2, 1]).bytes();
     let trouble = load_sheet("x.bin", &bytes).expect_err("a pair is booked twice");
     assert_eq!(
         trouble.to_string(),
-        "x.bin: refused 65 5: a pair is booked a second time\n  \
-         its pair is that of booking 0\n  \
-         word 5 of the bookings is 2: the card of booking 2, counted from 0"
+        "x.bin: refused 65 8: a desk books a pair a second time\n  \
+         its desk and its pair are those of booking 0\n  \
+         word 8 of the bookings is 2: the card of booking 2, counted from 0"
     );
 }
 
@@ -89,38 +90,84 @@ fn json_has_the_refusal_with_its_line() {
     };
     assert_eq!(
         told(TEXT.as_bytes()),
-        "{\"file\":\"x\",\"form\":\"text\",\"outcome\":\"refused\",\"refusal\":{\"number\":65,\"place\":5,\
-         \"message\":\"a pair is booked a second time\",\"section\":\"bookings\",\"word\":2,\
+        "{\"file\":\"x\",\"form\":\"text\",\"outcome\":\"refused\",\"refusal\":{\"number\":65,\"place\":8,\
+         \"message\":\"a desk books a pair a second time\",\"section\":\"bookings\",\"word\":2,\
          \"role\":\"the card of the booking two Second\",\
          \"note\":\"it is booked at line 5, column 6 already\",\"line\":10,\"column\":8}}"
     );
     assert_eq!(
-        told(&document(&[2, 2, 1, 2, 1]).bytes()),
-        "{\"file\":\"x\",\"form\":\"words\",\"outcome\":\"refused\",\"refusal\":{\"number\":65,\"place\":3,\
-         \"message\":\"a pair is booked a second time\",\"section\":\"bookings\",\"word\":2,\
+        told(&document(&[2, 0, 2, 1, 0, 2, 1]).bytes()),
+        "{\"file\":\"x\",\"form\":\"words\",\"outcome\":\"refused\",\"refusal\":{\"number\":65,\"place\":5,\
+         \"message\":\"a desk books a pair a second time\",\"section\":\"bookings\",\"word\":2,\
          \"role\":\"the card of booking 1, counted from 0\",\
-         \"note\":\"its pair is that of booking 0\",\"line\":null,\"column\":null}}"
+         \"note\":\"its desk and its pair are those of booking 0\",\"line\":null,\"column\":null}}"
     );
 }
 
 #[test]
 fn a_printed_65_is_explained_at_any_place() {
     let tell = |bytes: &[u8], place: usize| tell_refusal("x", bytes, Refusal::at(65, place)).to_string();
-    let (text, words) = (TEXT.as_bytes(), document(&[3, 2, 1, 0, 0, 2, 1]).bytes());
-    assert!(
-        tell(text, 5).starts_with("x:10:8: refused 65 5: a pair is booked a second time\n  it is booked at")
-    );
+    let (text, words) = (TEXT.as_bytes(), document(&[3, 0, 2, 1, 0, 0, 0, 0, 2, 1]).bytes());
+    assert!(tell(text, 8)
+        .starts_with("x:10:8: refused 65 8: a desk books a pair a second time\n  it is booked at"));
     // These are no repeats, whatever a program printed.
-    for place in [0, 1, 2, 3, 4, 6, 12, 100, usize::MAX] {
+    for place in [0, 1, 2, 3, 4, 5, 6, 7, 9, 20, 100, usize::MAX] {
         for bytes in [text, &words] {
             let told = tell(bytes, place);
             assert!(told.contains(&format!("refused 65 {place}: ")), "{told}");
             assert!(
-                !told.contains("it is booked at") && !told.contains("its pair"),
+                !told.contains("it is booked at") && !told.contains("its desk"),
                 "{told}"
             );
         }
     }
+}
+
+#[test]
+fn words_of_the_wrong_form_are_told_which_form_they_have() {
+    let stored = document(&[3, 2, 1, 0, 0, 2, 1]).bytes();
+    let trouble = load_sheet("x.bin", &stored).expect_err("the desks are missing");
+    assert_eq!(
+        trouble.to_string(),
+        "x.bin: refused 30 0: the bookings have the wrong count of words\n  \
+         it has two words for each booking, as a stored list has: `tidy` puts the desks in\n  \
+         word 0 of the bookings is 3: the count of bookings"
+    );
+    let tidied = tidy("x.bin", &stored).expect("the list is tidied");
+    assert_eq!(tidied.bytes, document(&[2, 0, 2, 1, 0, 0, 0]).bytes());
+    assert_eq!((tidied.bookings, tidied.dropped), (3, 1));
+    let trouble = tidy("x.bin", &tidied.bytes).expect_err("the desks are there");
+    assert_eq!(
+        trouble.to_string(),
+        "x.bin: refused 30 0: the bookings have the wrong count of words\n  \
+         it has three words for each booking: the desks are there already\n  \
+         word 0 of the bookings is 2: the count of bookings"
+    );
+    let wrong = tidy("x.bin", &document(&[2, 2, 1, 9, 9]).bytes()).expect_err("a card is wrong");
+    let told = wrong.to_string();
+    assert!(
+        told.ends_with("word 3 of the bookings is 9: the card of booking 1, counted from 0"),
+        "{told}"
+    );
+}
+
+#[test]
+fn each_desk_may_book_a_pair_once() {
+    let both = TIDY.to_string() + "\nbook 1 two Second\nbook 1 zero First\n";
+    let kept = tidy("x.txt", both.as_bytes()).expect("the text is tidied");
+    assert_eq!((kept.bookings, kept.dropped), (5, 0));
+    check::run("x.txt", &both).expect("each desk books a pair once");
+    let again = format!("{both}book 1 two Second # again\nbook 0 two First\n");
+    let message = check::run("x.txt", &again).expect_err("a desk books a pair twice");
+    assert_eq!(
+        message,
+        "x.txt:17:8: refused 65 17: a desk books a pair a second time\n  \
+         it is booked at line 15, column 8 already\n  \
+         word 17 of the bookings is 2: the card of the booking 1 two Second"
+    );
+    let tidied = tidy("x.txt", again.as_bytes()).expect("the text is tidied");
+    assert_eq!(String::from_utf8_lossy(&tidied.bytes), format!("{both}# again\n"));
+    assert_eq!((tidied.bookings, tidied.dropped), (7, 2));
 }
 
 #[test]
@@ -158,7 +205,7 @@ fn words_are_tidied_as_the_operation_does() {
             script,
             bookings,
         } = &case.files;
-        let mut buffer = bookings.clone();
+        let mut buffer = vec![7; tidying::room(bookings)];
         match (
             tidy("x", &case.files.bytes()),
             operation(template, script, bookings, &mut buffer),
@@ -170,7 +217,7 @@ fn words_are_tidied_as_the_operation_does() {
                     ..case.files.clone()
                 };
                 assert_eq!(tidied.bytes, owed.bytes(), "{}", case.name);
-                let gone = (bookings.len() - words) / 2;
+                let gone = bookings.len() / 2 - words / 3;
                 assert_eq!((tidied.bookings, tidied.dropped), (bookings.len() / 2, gone));
                 dropped += gone;
             }

@@ -1,6 +1,9 @@
 //! *Tidy bookings*: the worked examples, what is refused, and what a tidied list promises, against plain loops.
 
+use prep_tools::desk::Desk;
 use prep_tools::generate::special::{document, DOCUMENT_SCRIPT, DOCUMENT_TEMPLATE};
+use prep_tools::generate::stored::{with_desk, without_desks};
+use prep_tools::generate::tidying::room;
 use prep_tools::generate::{self, special, MIDDLE, SMALL, TINY};
 use prep_tools::numbers::{Card, Shape};
 use prep_tools::random::Random;
@@ -19,7 +22,7 @@ fn tidied(files: &Files, length: usize) -> (Result<usize, Refusal>, Vec<u16>) {
 
 /// The list that is written for the list of a sheet, which must not be refused.
 fn tidy_list(files: &Files) -> Vec<u16> {
-    let (answer, mut buffer) = tidied(files, files.bookings.len());
+    let (answer, mut buffer) = tidied(files, room(&files.bookings));
     let words = answer.expect("the list is tidied");
     assert!(buffer[words..].iter().all(|word| *word == 7), "{files:?}");
     buffer.truncate(words);
@@ -30,14 +33,17 @@ fn tidy_list(files: &Files) -> Vec<u16> {
 fn the_worked_sheet() {
     let of = |words: &[u16], length: usize| tidied(&document(words), length);
     let apart = &[3, 2, 1, 0, 0, 2, 1];
-    assert_eq!(of(apart, 7), (Ok(5), vec![2, 2, 1, 0, 0, 7, 7]));
-    assert_eq!(of(apart, 8), (Err(Refusal::at(40, 0)), vec![7; 8]));
-    assert_eq!(of(apart, 6), (Err(Refusal::at(40, 0)), vec![7; 6]));
+    assert_eq!(of(apart, 10), (Ok(7), vec![2, 0, 2, 1, 0, 0, 0, 7, 7, 7]));
+    for length in [0, 1, 7, 9, 11, 20] {
+        assert_eq!(of(apart, length), (Err(Refusal::at(40, 0)), vec![7; length]));
+    }
     assert_eq!(of(&[0], 1), (Ok(1), vec![0]));
     assert_eq!(of(&[1, 2, 2], 9), (Err(Refusal::at(33, 2)), vec![7; 9]));
-    assert_eq!(of(&[2, 2, 1, 2, 1], 5), (Ok(3), vec![1, 2, 1, 7, 7]));
-    assert_eq!(of(&[2, 0, 0, 0, 1], 5), (Ok(5), vec![2, 0, 0, 0, 1]));
-    assert_eq!(of(&[2, 2, 1, 2, 2], 5), (Err(Refusal::at(33, 4)), vec![7; 5]));
+    assert_eq!(of(&[2, 2, 1, 2, 1], 7), (Ok(4), vec![1, 0, 2, 1, 7, 7, 7]));
+    assert_eq!(of(&[2, 0, 0, 0, 1], 7), (Ok(7), vec![2, 0, 0, 0, 0, 0, 1]));
+    assert_eq!(of(&[2, 2, 1, 2, 2], 7), (Err(Refusal::at(33, 4)), vec![7; 7]));
+    // A list with desks is no stored one.
+    assert_eq!(of(&[1, 0, 2, 1], 4), (Err(Refusal::at(30, 0)), vec![7; 4]));
 }
 
 #[test]
@@ -54,8 +60,9 @@ fn a_repeat_is_never_refused_and_hides_no_fault() {
     assert_eq!(refused(&[1025, 2, 1, 2, 1], 5), Refusal::at(31, 0));
     assert_eq!(refused(&[], 0), Refusal::at(30, 0));
     assert_eq!(refused(&[2, 2, 1, 2, 1], 0), Refusal::at(40, 0));
-    assert_eq!(refused(&[2, 2, 1, 2, 1], 3), Refusal::at(40, 0));
-    let mut buffer = [7; 5];
+    assert_eq!(refused(&[2, 2, 1, 2, 1], 5), Refusal::at(40, 0));
+    assert_eq!(refused(&[2, 2, 1, 2, 1], 4), Refusal::at(40, 0));
+    let mut buffer = [7; 7];
     let list = [2, 2, 1, 2, 1];
     let mut with = |template: &[u16], script: &[u16]| tidy(template, script, &list, &mut buffer);
     assert_eq!(with(&DOCUMENT_TEMPLATE, &[1025, 0]), Err(Refusal::at(21, 0)));
@@ -63,8 +70,8 @@ fn a_repeat_is_never_refused_and_hides_no_fault() {
         with(&DOCUMENT_TEMPLATE[..14], &[1025, 0]),
         Err(Refusal::at(4, 14))
     );
-    assert_eq!(with(&DOCUMENT_TEMPLATE, &DOCUMENT_SCRIPT), Ok(3));
-    assert_eq!(buffer, [1, 2, 1, 7, 7]);
+    assert_eq!(with(&DOCUMENT_TEMPLATE, &DOCUMENT_SCRIPT), Ok(4));
+    assert_eq!(buffer, [1, 0, 2, 1, 7, 7, 7]);
 }
 
 #[test]
@@ -75,14 +82,15 @@ fn as_many_bookings_as_can_be() {
         bookings: [1024].into_iter().chain((0..1024).flat_map(pair)).collect(),
     };
     let alike = files(|_| [1023, 31]);
-    assert_eq!(tidy_list(&alike), [1, 1023, 31]);
+    assert_eq!(tidy_list(&alike), [1, 0, 1023, 31]);
     let by_cards = files(|number| [number, 7]);
-    assert_eq!(tidy_list(&by_cards), by_cards.bookings);
+    assert_eq!(tidy_list(&by_cards), with_desk(0, &by_cards.bookings));
     let by_shapes = files(|number| [number % 32, number / 32]);
-    assert_eq!(tidy_list(&by_shapes), by_shapes.bookings);
+    let owed = with_desk(0, &by_shapes.bookings);
+    assert_eq!(tidy_list(&by_shapes), owed);
     let mut last = by_shapes.clone();
     last.bookings[2047..].copy_from_slice(&[0, 0]);
-    let owed = [&[1023], &by_shapes.bookings[1..2047]].concat();
+    let owed = [&[1023], &owed[1..3070]].concat();
     assert_eq!(tidy_list(&last), owed);
 }
 
@@ -134,7 +142,7 @@ fn stored_sheet(random: &mut Random) -> Files {
 }
 
 #[test]
-fn both_rules_read_what_a_plain_loop_reads() {
+fn stored_lists_are_read_as_a_plain_loop_reads_them() {
     let mut random = Random::new(81);
     let (mut accepted, mut repeats, mut faults) = (0, 0, 0);
     for _ in 0..4000 {
@@ -143,17 +151,23 @@ fn both_rules_read_what_a_plain_loop_reads() {
             Setting::read(&files.template, &files.script).expect("a generated sheet is well-formed");
         let (booked, fault) = plainly_read(&files);
         let stored = bookings::read_stored(&setting, &files.bookings);
-        let strict = bookings::read(&setting, &files.bookings);
         assert_eq!(stored, fault.map_or(Ok(booked.clone()), Err), "{files:?}");
+        // The same list with a desk is refused for its first repeat, or for the same fault.
+        let desk = random.pick(&Desk::BOTH);
+        let strict = bookings::read(&setting, &with_desk(desk.number(), &files.bookings));
         match (first_repeat(&booked), fault) {
             (Some(number), _) => {
                 repeats += 1;
-                assert_eq!(strict, Err(Refusal::at(65, 1 + 2 * number)), "{files:?}");
+                assert_eq!(strict, Err(Refusal::at(65, 2 + 3 * number)), "{files:?}");
             }
-            (None, fault) => {
-                accepted += usize::from(fault.is_none());
-                faults += usize::from(fault.is_some());
-                assert_eq!(strict, stored, "{files:?}");
+            (None, Some(fault)) => {
+                faults += 1;
+                let place = fault.place + fault.place.div_ceil(2);
+                assert_eq!(strict, Err(Refusal::at(fault.number, place)), "{files:?}");
+            }
+            (None, None) => {
+                accepted += 1;
+                assert_eq!(strict, Ok(bookings::by(desk, &booked)), "{files:?}");
             }
         }
     }
@@ -174,19 +188,13 @@ fn a_tidied_list_has_the_first_of_each_pair() {
             continue;
         }
         let written = tidy_list(&files);
-        assert_eq!(written, bookings::words(&first_occurrences(&booked)), "{files:?}");
-        // A list without repeats is written unchanged, so tidying twice is tidying once.
+        let firsts = first_occurrences(&booked);
         assert_eq!(
-            written == files.bookings,
-            first_repeat(&booked).is_none(),
+            written,
+            with_desk(0, &bookings::stored_words(&firsts)),
             "{files:?}"
         );
-        let again = Files {
-            bookings: written.clone(),
-            ..files.clone()
-        };
-        assert_eq!(tidy_list(&again), written, "{files:?}");
-        match written.len() < files.bookings.len() {
+        match firsts.len() < booked.len() {
             true => shorter += 1,
             false => same += 1,
         }
@@ -199,17 +207,7 @@ fn a_tidied_list_means_what_the_stored_one_means() {
     let mut random = Random::new(83);
     let (mut met, mut not_met) = (0, 0);
     for number in 0..2000 {
-        let files = match number % 50 {
-            0 => {
-                let files = special::limits(&mut random);
-                repeated(&mut random, files)
-            }
-            1..=25 => {
-                let files = generate::any(&mut random, SMALL);
-                repeated(&mut random, files)
-            }
-            _ => stored_sheet(&mut random),
-        };
+        let files = any_stored_sheet(&mut random, number);
         let setting =
             Setting::read(&files.template, &files.script).expect("a generated sheet is well-formed");
         let Ok(booked) = bookings::read_stored(&setting, &files.bookings) else {
@@ -217,12 +215,22 @@ fn a_tidied_list_means_what_the_stored_one_means() {
         };
         let written = tidy_list(&files);
         let read = bookings::read(&setting, &written).expect("a tidied list is well-formed");
+        assert!(bookings::of(Desk::Television, &read).is_empty(), "{files:?}");
+        let read = bookings::of(Desk::Radio, &read);
         assert!(booked.iter().all(|pair| read.contains(pair)), "{files:?}");
         assert!(read.iter().all(|pair| booked.contains(pair)), "{files:?}");
-        let mut grid = vec![9; setting.size()];
-        let answer = smallest(&files.template, &files.script, &written, &mut grid);
+        let of_desk = |desk: u16| {
+            let mut grid = vec![9; setting.size()];
+            let answer = smallest(&files.template, &files.script, &written, desk, &mut grid);
+            (answer, grid)
+        };
         let (owed, owed_grid) = smallest_of(&setting, &booked);
-        assert_eq!((answer, grid), (Ok(owed), owed_grid), "{files:?}");
+        assert_eq!(of_desk(0), (Ok(owed), owed_grid), "{files:?}");
+        assert_eq!(
+            of_desk(1),
+            (Ok(Smallest::Pairs(0)), vec![0; setting.size()]),
+            "{files:?}"
+        );
         if read.len() < booked.len() {
             match owed {
                 Smallest::Pairs(_) => met += 1,
@@ -233,9 +241,20 @@ fn a_tidied_list_means_what_the_stored_one_means() {
     assert!(met > 300 && not_met > 300, "{met} met, {not_met} not");
 }
 
+/// A sheet with a stored list: at the limits, with bookings that are met or not, or of a few cards.
+fn any_stored_sheet(random: &mut Random, number: usize) -> Files {
+    let files = match number % 50 {
+        0 => special::limits(random),
+        1..=25 => generate::any(random, SMALL),
+        _ => return stored_sheet(random),
+    };
+    repeated(random, files)
+}
+
 /// A sheet with some of its bookings again and again, in any order.
 fn repeated(random: &mut Random, mut files: Files) -> Files {
-    let (all, _) = files.bookings[1..].as_chunks::<2>();
+    let stored = without_desks(&files.bookings);
+    let (all, _) = stored[1..].as_chunks::<2>();
     let some = &all[..all.len().min(random.between(1, 9))];
     let count = 1024.min(some.len() * random.between(2, 200));
     let mut list: Vec<[u16; 2]> = some.iter().copied().cycle().take(count).collect();

@@ -1,5 +1,6 @@
 //! Both typings: rounds against links, choices against the one choice that counts, and what both promise.
 
+use prep_tools::desk::Desk;
 use prep_tools::generate::arriving::{BOTH_ENDS, GUESTS};
 use prep_tools::generate::heavy::{densest, densest_both_ways, densest_open, hub, ring, wrapped::wrapped};
 use prep_tools::generate::open::{ONE_MORE, STRICT, TOLERANT};
@@ -33,6 +34,12 @@ fn sheets(seed: u64, count: usize) -> Vec<(Files, Setting)> {
         sheets.push((files, setting));
     }
     sheets
+}
+
+/// What a desk books on a sheet.
+fn booked(setting: &Setting, words: &[u16], desk: Desk) -> Vec<Pair> {
+    let booked = bookings::read(setting, words).expect("the bookings are well-formed");
+    bookings::of(desk, &booked)
 }
 
 fn setting(files: &Files) -> Setting {
@@ -97,27 +104,34 @@ fn the_largest_is_sound_and_the_smallest_lies_between() {
     for (files, setting) in sheets(22, 500) {
         let (_, top) = links::largest(&setting);
         assert!(sound(&setting, &top), "{files:?}");
-        let booked = bookings::read(&setting, &files.bookings).expect("generated bookings are well-formed");
-        let (answer, grid) = closure::smallest(&setting, &booked);
-        let reached = closure::closure(&setting, &booked);
-        let unmet = |pair: &Pair| reached[setting.place(*pair)] == 1 && !met(&setting, &reached, *pair);
-        let lowest = setting.pairs().find(unmet);
-        match answer {
-            Smallest::Pairs(pairs) => {
-                assert_eq!(lowest, None, "{files:?}");
-                assert_eq!(pairs, grid.iter().filter(|byte| **byte == 1).count());
-                assert!(
-                    sound(&setting, &grid) && holds(&setting, &grid, &booked),
-                    "{files:?}"
-                );
-                assert!(lies_below(&grid, &top), "{files:?}");
-            }
-            Smallest::NotMet(card, shape) => {
-                assert_eq!(lowest, Some((card, shape)), "{files:?}");
-                assert!(grid.iter().all(|byte| *byte == 0));
-                assert!(!holds(&setting, &top, &booked), "{files:?}");
-                assert_eq!(top[setting.place((card, shape))], 0, "{files:?}");
-            }
+        for desk in Desk::BOTH {
+            let booked = booked(&setting, &files.bookings, desk);
+            smallest_lies_below(&setting, &booked, &top);
+        }
+    }
+}
+
+/// Checks what the smallest typing of these bookings promises against the largest typing.
+fn smallest_lies_below(setting: &Setting, booked: &[Pair], top: &[u8]) {
+    let (answer, grid) = closure::smallest(setting, booked);
+    let reached = closure::closure(setting, booked);
+    let unmet = |pair: &Pair| reached[setting.place(*pair)] == 1 && !met(setting, &reached, *pair);
+    let lowest = setting.pairs().find(unmet);
+    match answer {
+        Smallest::Pairs(pairs) => {
+            assert_eq!(lowest, None, "{setting:?}");
+            assert_eq!(pairs, grid.iter().filter(|byte| **byte == 1).count());
+            assert!(
+                sound(setting, &grid) && holds(setting, &grid, booked),
+                "{setting:?}"
+            );
+            assert!(lies_below(&grid, top), "{setting:?}");
+        }
+        Smallest::NotMet(card, shape) => {
+            assert_eq!(lowest, Some((card, shape)), "{setting:?}");
+            assert!(grid.iter().all(|byte| *byte == 0));
+            assert!(!holds(setting, top, booked), "{setting:?}");
+            assert_eq!(top[setting.place((card, shape))], 0, "{setting:?}");
         }
     }
 }
@@ -175,12 +189,10 @@ fn answer(rounds: usize, struck: usize, bare: usize) -> Largest {
 fn a_guest_asks_for_the_item_that_points_at_it() {
     let setting = Setting::read(&GUESTS, &[2, 1, 0, 0, 1]).expect("well-formed");
     assert_eq!(largest(&setting), (answer(2, 2, 0), vec![1, 0, 0, 1]));
-    let booked = bookings::read(&setting, &[1, 1, 1]).expect("well-formed");
-    let smallest = closure::smallest(&setting, &booked);
+    let smallest = closure::smallest(&setting, &booked(&setting, &[1, 0, 1, 1], Desk::Radio));
     assert_eq!(smallest, (Smallest::Pairs(2), vec![1, 0, 0, 1]));
     let setting = Setting::read(&GUESTS, &[3, 1, 0, 0, 1]).expect("well-formed");
-    let booked = bookings::read(&setting, &[1, 2, 1]).expect("well-formed");
-    let smallest = closure::smallest(&setting, &booked);
+    let smallest = closure::smallest(&setting, &booked(&setting, &[1, 0, 2, 1], Desk::Radio));
     assert_eq!(smallest, (Smallest::NotMet(Card(2), Shape(1)), vec![0; 6]));
 }
 
@@ -206,7 +218,7 @@ fn a_link_to_itself_counts_at_both_ends_which_choose_apart() {
 fn an_open_shape_ignores_the_links_that_it_does_not_name() {
     let setting = Setting::read(&TOLERANT, &ONE_MORE).expect("well-formed");
     assert_eq!(largest(&setting), (answer(2, 3, 0), vec![1, 0, 0, 1, 0, 1]));
-    let booked = bookings::read(&setting, &[1, 0, 0]).expect("well-formed");
+    let booked = booked(&setting, &[1, 0, 0, 0], Desk::Radio);
     let smallest = closure::smallest(&setting, &booked);
     assert_eq!(smallest, (Smallest::Pairs(2), vec![1, 0, 0, 1, 0, 0]));
     // Card 2 need not have a shape, card 1 must.
@@ -228,15 +240,16 @@ fn an_open_sheet_is_printed_as_its_typings_are() {
         let files = Files {
             template: template.to_vec(),
             script: ONE_MORE.to_vec(),
-            bookings: vec![1, 0, 0],
+            bookings: vec![1, 0, 0, 0],
         };
         sheet::print(&files.bytes())
     };
     let largest = "largest 2 3 0\ncard 0: 0\ncard 1: 1\ncard 2: 1\n";
     let smallest = "smallest 2\ncard 0: 0\ncard 1: 1\ncard 2:\n";
-    assert_eq!(print(&TOLERANT), format!("{largest}{smallest}"));
+    let none = "smallest 0\ncard 0:\ncard 1:\ncard 2:\n";
+    assert_eq!(print(&TOLERANT), format!("{largest}{smallest}{none}"));
     let largest = "largest 2 4 1\ncard 0:\ncard 1: 1\ncard 2: 1\n";
-    assert_eq!(print(&STRICT), format!("{largest}smallest no 0 0\n"));
+    assert_eq!(print(&STRICT), format!("{largest}smallest no 0 0\n{none}"));
 }
 
 #[test]
@@ -268,7 +281,7 @@ fn a_zigzag_is_walked_and_struck_along_and_against_its_links() {
     for cards in [2, 9, 50] {
         let files = zigzag(cards, false);
         let setting = setting(&files);
-        let booked = bookings::read(&setting, &files.bookings).expect("well-formed");
+        let booked = booked(&setting, &files.bookings, Desk::Radio);
         let (smallest, grid) = closure::smallest(&setting, &booked);
         assert_eq!(smallest, Smallest::Pairs(cards.into()));
         assert_eq!(largest(&setting).1, grid);
@@ -278,7 +291,7 @@ fn a_zigzag_is_walked_and_struck_along_and_against_its_links() {
         let setting = setting(&files);
         let count = usize::from(cards);
         assert_eq!(largest(&setting).0, answer(count + 1, 2 * count, count));
-        let booked = bookings::read(&setting, &files.bookings).expect("well-formed");
+        let booked = booked(&setting, &files.bookings, Desk::Radio);
         let last = (Card(cards - 1), Shape((cards - 1) % 2));
         assert_eq!(
             closure::smallest(&setting, &booked).0,
@@ -356,7 +369,7 @@ fn the_ring_takes_the_most_rounds() {
 #[test]
 fn the_densest_sheets_are_at_every_limit() {
     for (files, arriving) in [(densest(), 0), (densest_both_ways(), 15)] {
-        assert_eq!((files.template.len(), files.bookings.len()), (4096, 2049));
+        assert_eq!((files.template.len(), files.bookings.len()), (4096, 3073));
         assert_eq!((files.template[0], files.template[1]), (64, 32));
         assert_eq!((files.script[0], files.script[1]), (1024, 8192));
         let setting = setting(&files);
@@ -413,7 +426,7 @@ fn wrappers(part: &Part) -> Option<usize> {
 #[test]
 fn the_wrapped_sheet_is_at_every_limit_but_that_of_words() {
     let files = wrapped();
-    assert_eq!((files.template.len(), files.bookings.len()), (3682, 2049));
+    assert_eq!((files.template.len(), files.bookings.len()), (3682, 3073));
     assert_eq!(
         (&files.template[..2], &files.script[..2]),
         (&[64, 32][..], &[1024, 8192][..])
@@ -441,12 +454,24 @@ fn the_wrapped_sheet_is_at_every_limit_but_that_of_words() {
 #[test]
 fn both_typings_are_those_of_the_calls_apart() {
     for (files, setting) in sheets(27, 200) {
-        let booked = bookings::read(&setting, &files.bookings).expect("generated bookings are well-formed");
-        let both = typing::both(&files.template, &files.script, &files.bookings).expect("a sheet is read");
-        assert_eq!(both.largest, links::largest(&setting), "{files:?}");
-        assert_eq!(both.smallest, closure::smallest(&setting, &booked), "{files:?}");
-        let by_rounds = typing::both_by_rounds(&files.template, &files.script, &files.bookings);
-        assert_eq!(by_rounds, Ok(both), "{files:?}");
+        let Files {
+            template,
+            script,
+            bookings,
+        } = &files;
+        let all = typing::typings(template, script, bookings).expect("a sheet is read");
+        for desk in Desk::BOTH {
+            let both = typing::both(template, script, bookings, desk.number()).expect("a sheet is read");
+            let smallest = closure::smallest(&setting, &booked(&setting, bookings, desk));
+            assert_eq!(both.largest, links::largest(&setting), "{files:?}");
+            assert_eq!(both.smallest, smallest, "{files:?}");
+            assert_eq!(
+                (&all.largest, &all.smallest[desk.index()]),
+                (&both.largest, &smallest)
+            );
+            let by_rounds = typing::both_by_rounds(template, script, bookings, desk.number());
+            assert_eq!(by_rounds, Ok(both), "{files:?}");
+        }
     }
 }
 
@@ -468,7 +493,7 @@ fn the_closure_follows_links_of_kinds_that_take_none() {
     // Shape 0 names kind 0 with shape 1, but no copies: the pair (1, 1) is in the closure all the same.
     let template = [1, 2, 4, 256, 1, 0, 0, 4, 256, 1, 1, 1];
     let setting = Setting::read(&template, &[2, 1, 1, 0, 0]).expect("well-formed");
-    let booked = bookings::read(&setting, &[1, 1, 0]).expect("well-formed");
+    let booked = booked(&setting, &[1, 0, 1, 0], Desk::Radio);
     assert_eq!(closure::closure(&setting, &booked), [0, 1, 1, 0]);
 }
 
@@ -477,7 +502,7 @@ fn the_closure_goes_against_links_of_kinds_that_may_not_arrive() {
     // Shape 0 names what arrives of kind 0 with shape 1, but none may: the pair (1, 1) is in the closure all the same.
     let template = [1, 2, 4, 320, 1, 0, 0, 4, 256, 1, 1, 1];
     let setting = Setting::read(&template, &[2, 1, 1, 0, 0]).expect("well-formed");
-    let booked = bookings::read(&setting, &[1, 0, 0]).expect("well-formed");
+    let booked = booked(&setting, &[1, 0, 0, 0], Desk::Radio);
     assert_eq!(closure::closure(&setting, &booked), [1, 1, 0, 1]);
     assert_eq!(
         closure::smallest(&setting, &booked).0,

@@ -1,7 +1,7 @@
 //! Cards, chips and their marks.
 
 use super::layout::{Block, Rect};
-use super::measure::{Chip, Mark, CHIP, CHIP_TEXT, LIST};
+use super::measure::{Chip, Desks, Mark, CHIP, CHIP_TEXT, LIST};
 use super::measure::{TITLE, TITLE_AFTER_WARNING, TITLE_LEFT, TITLE_STEP};
 use super::strokes::colour;
 use super::svg::{short, Anchor, Svg};
@@ -14,6 +14,8 @@ pub const PALE: &str = "#8a93a0";
 pub const FAULT: &str = "#c01f1f";
 /// The colour of a blank card.
 const BLANK: &str = "#f3f0e6";
+/// The colour of the half of a filled chip that is another desk's.
+const OTHER_DESK: &str = "#737d8a";
 /// The colour of the page.
 pub const PAPER: &str = "#fcfaf4";
 
@@ -24,9 +26,9 @@ pub struct CardMark {
     pub bare: bool,
     /// It is blank and has no shape.
     pub blank: bool,
-    /// It has the unmet pair of 50.
+    /// It has the unmet pair of some desk's 50.
     pub not_met: bool,
-    /// The smallest typing gives it a shape.
+    /// Some desk's smallest typing gives it a shape.
     pub needed: bool,
 }
 
@@ -108,20 +110,7 @@ fn edge(mark: CardMark) -> String {
 
 /// A chip.
 pub fn chip_at(svg: &mut Svg, chip: &Chip, (x, y): (f64, f64)) {
-    let outline = |colour: &str, more: &str| {
-        format!("fill=\"{PAPER}\" stroke=\"{colour}\" stroke-width=\"0.3\" {more}")
-    };
-    let (box_style, colour) = match chip.mark {
-        Mark::Smallest => (
-            format!("fill=\"{INK}\" stroke=\"{INK}\" stroke-width=\"0.3\""),
-            "#ffffff",
-        ),
-        Mark::Largest => (outline(INK, ""), INK),
-        Mark::Booked => (outline(FAULT, "stroke-dasharray=\"1 0.7\""), FAULT),
-        Mark::NotMet => (format!("fill=\"{FAULT}\""), "#ffffff"),
-        Mark::None => (outline(FAULT, "stroke-dasharray=\"1 0.7\""), FAULT),
-    };
-    svg.rect((x, y), (chip.width, CHIP), CHIP / 2.0, &box_style);
+    let colour = chip_box(svg, chip, (x, y));
     let middle = y + CHIP / 2.0;
     let mut start = x + 1.6;
     match chip.mark {
@@ -133,8 +122,8 @@ pub fn chip_at(svg: &mut Svg, chip: &Chip, (x, y): (f64, f64)) {
             empty(svg, (x + 2.9, middle), 1.15, colour);
             start += 3.2;
         }
-        _ if chip.booked => {
-            svg.circle((x + 2.4, middle), 0.8, &format!("fill=\"{colour}\""));
+        _ if chip.booked.contains(&true) => {
+            dot(svg, (x + 2.4, middle), chip.booked, colour);
             start += 2.3;
         }
         _ => {}
@@ -143,6 +132,62 @@ pub fn chip_at(svg: &mut Svg, chip: &Chip, (x, y): (f64, f64)) {
     let centre = (start + x + chip.width - 1.6) / 2.0;
     let style = format!("fill=\"{colour}\"");
     svg.text((centre, middle), CHIP_TEXT, Anchor::Middle, &style, &chip.text);
+}
+
+/// The box of a chip, filled for the desks for which it is marked: the left half for the radio, the right half for the
+/// television. Tells the colour of what stands in it.
+fn chip_box(svg: &mut Svg, chip: &Chip, place: (f64, f64)) -> &'static str {
+    let size = (chip.width, CHIP);
+    let mut outline = |colour: &str, more: &str| {
+        let style = format!("fill=\"{PAPER}\" stroke=\"{colour}\" stroke-width=\"0.3\" {more}");
+        svg.rect(place, size, CHIP / 2.0, &style);
+    };
+    let filled = match chip.mark {
+        Mark::Smallest => INK,
+        Mark::NotMet => FAULT,
+        Mark::Largest => {
+            outline(INK, "");
+            return INK;
+        }
+        Mark::Booked | Mark::None => {
+            outline(FAULT, "stroke-dasharray=\"1 0.7\"");
+            return FAULT;
+        }
+    };
+    let [left, right] = chip.desks.map(|marked| if marked { filled } else { OTHER_DESK });
+    let style = format!("fill=\"{right}\" stroke=\"{filled}\" stroke-width=\"0.3\"");
+    svg.rect(place, size, CHIP / 2.0, &style);
+    if left != right {
+        left_half(svg, place, size, left);
+    }
+    "#ffffff"
+}
+
+/// The left half of a box whose ends are round.
+fn left_half(svg: &mut Svg, (x, y): (f64, f64), (width, height): (f64, f64), colour: &str) {
+    let radius = height / 2.0;
+    let (middle, start, end) = (short(x + width / 2.0), short(x + radius), short(y + height));
+    let (top, round) = (short(y), short(radius));
+    svg.path(
+        &format!("M{middle} {top}H{start}A{round} {round} 0 0 0 {start} {end}H{middle}Z"),
+        &format!("fill=\"{colour}\""),
+    );
+}
+
+/// The sign of a booking: a dot, of which the left half is the radio's and the right half the television's.
+fn dot(svg: &mut Svg, (x, y): (f64, f64), desks: Desks, colour: &str) {
+    const RADIUS: f64 = 0.8;
+    if desks == [true; 2] {
+        return svg.circle((x, y), RADIUS, &format!("fill=\"{colour}\""));
+    }
+    let ring = format!("fill=\"none\" stroke=\"{colour}\" stroke-width=\"0.2\"");
+    svg.circle((x, y), RADIUS, &ring);
+    let (across, top, bottom) = (short(x), short(y - RADIUS), short(y + RADIUS));
+    let turn = if desks[0] { 0 } else { 1 };
+    svg.path(
+        &format!("M{across} {top}A{RADIUS} {RADIUS} 0 0 {turn} {across} {bottom}Z"),
+        &format!("fill=\"{colour}\""),
+    );
 }
 
 /// The sign of a pair that isn't met.

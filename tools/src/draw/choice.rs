@@ -4,6 +4,7 @@ use super::graph::Graph;
 use crate::numbers::Card;
 use crate::text::check::Sheet;
 use crate::typing::closure::closure;
+use crate::typing::Pair;
 
 /// Which cards are drawn.
 #[derive(Clone, Copy, PartialEq, Eq, Default, Debug)]
@@ -11,7 +12,7 @@ pub enum Choice {
     /// All cards.
     #[default]
     All,
-    /// Those that are booked, and those that have to have a shape because of that.
+    /// Those that some desk books, and those that have to have a shape because of that.
     Booked,
     /// One card, and those that so many links at most lie between, whichever way they lead.
     Around(usize, usize),
@@ -77,8 +78,9 @@ fn find(sheet: &Sheet, word: &str) -> Result<usize, String> {
 }
 
 fn booked(sheet: &Sheet) -> Vec<bool> {
-    let grid = closure(&sheet.setting, &sheet.booked);
-    let shapes = usize::from(sheet.both.shapes);
+    let pairs: Vec<Pair> = sheet.booked.iter().map(|(_, pair)| *pair).collect();
+    let grid = closure(&sheet.setting, &pairs);
+    let shapes = usize::from(sheet.typings.shapes);
     let has_any = |card: Card| {
         let start = card.index() * shapes;
         grid[start..start + shapes].contains(&1)

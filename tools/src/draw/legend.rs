@@ -49,7 +49,7 @@ pub struct Legend {
 }
 
 impl Legend {
-    /// The legend of a page. The links in `blamed` are those from a booking to the unmet pair.
+    /// The legend of a page. The links in `blamed` are those from a desk's booking to its unmet pair.
     pub fn new(sheet: &Sheet, plan: &Plan, contents: &[Content], blamed: &[Arrow]) -> Legend {
         let kinds: BTreeSet<usize> = plan.graph.arrows.iter().map(|arrow| arrow.kind).collect();
         let chips = contents.iter().flat_map(|content| &content.chips);

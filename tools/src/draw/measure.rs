@@ -4,8 +4,10 @@
 use super::lists::Line;
 use super::shapes::{is_open, shape_title};
 use super::wrap::{cut_off, wrap, Face};
+use crate::desk::Desk;
 use crate::numbers::{Card, Shape};
 use crate::text::check::Sheet;
+use crate::typing::Pair;
 
 /// The height of a card's title.
 pub const TITLE: f64 = 3.6;
@@ -61,11 +63,11 @@ const CHIP_FACE: Face = Face {
 /// How a shape of a card is marked.
 #[derive(Clone, Copy, PartialEq, Eq, PartialOrd, Ord, Debug)]
 pub enum Mark {
-    /// The unmet pair of 50.
+    /// The unmet pair of some desk's 50.
     NotMet,
-    /// The smallest typing has it.
+    /// Some desk's smallest typing has it.
     Smallest,
-    /// Booked, but in neither typing.
+    /// Booked, but in no typing.
     Booked,
     /// Only the largest typing has it.
     Largest,
@@ -73,13 +75,18 @@ pub enum Mark {
     None,
 }
 
+/// For each desk, whether something is so for it.
+pub type Desks = [bool; 2];
+
 /// A chip below a card, relative to the card's left end and the lower edge of its body.
 #[derive(Clone, PartialEq, Debug)]
 pub struct Chip {
     /// How it is marked.
     pub mark: Mark,
-    /// Whether the pair is booked.
-    pub booked: bool,
+    /// The desks for which it is so marked, if that is up to them.
+    pub desks: Desks,
+    /// The desks that book the pair.
+    pub booked: Desks,
     /// The shapes that it names.
     pub shapes: Vec<usize>,
     /// Whether it names one shape and that is open.
@@ -137,9 +144,9 @@ pub fn title_lines(sheet: &Sheet, card: usize, card_width: f64) -> Vec<String> {
 
 /// Where the title of a card starts.
 fn title_left(sheet: &Sheet, card: usize) -> f64 {
-    match sheet.not_met() {
-        Some((warned, _)) if warned.index() == card => TITLE_AFTER_WARNING,
-        _ => TITLE_LEFT,
+    match sheet.all_not_met().any(|(_, (warned, _))| warned.index() == card) {
+        true => TITLE_AFTER_WARNING,
+        false => TITLE_LEFT,
     }
 }
 
@@ -153,9 +160,12 @@ pub fn chips(sheet: &Sheet, card: usize, card_width: f64) -> Vec<Chip> {
     let mut chips = Vec::new();
     let (mut x, mut y) = (0.0, CHIP_GAP);
     let room = room_below(card_width);
-    for (mark, booked, shapes, text) in shapes(sheet, card) {
+    for shown in shapes(sheet, card) {
+        let Shown {
+            mark, desks, booked, ..
+        } = shown;
         let around = 3.2 + sign_width(mark, booked);
-        let text = cut_off(&text, room - around, CHIP_FACE);
+        let text = cut_off(&shown.text, room - around, CHIP_FACE);
         let width = CHIP_FACE.width(&text) + around;
         if x > 0.0 && x + width > room {
             x = 0.0;
@@ -163,9 +173,10 @@ pub fn chips(sheet: &Sheet, card: usize, card_width: f64) -> Vec<Chip> {
         }
         chips.push(Chip {
             mark,
+            desks,
             booked,
-            open: matches!(shapes[..], [shape] if is_open(sheet, shape)),
-            shapes,
+            open: matches!(shown.shapes[..], [shape] if is_open(sheet, shape)),
+            shapes: shown.shapes,
             text,
             x,
             y,
@@ -177,10 +188,10 @@ pub fn chips(sheet: &Sheet, card: usize, card_width: f64) -> Vec<Chip> {
 }
 
 /// The width of the sign before a chip's text.
-pub fn sign_width(mark: Mark, booked: bool) -> f64 {
+pub fn sign_width(mark: Mark, booked: Desks) -> f64 {
     match mark {
         Mark::NotMet | Mark::None => 3.6,
-        _ if booked => 2.6,
+        _ if booked.contains(&true) => 2.6,
         _ => 0.0,
     }
 }
@@ -194,46 +205,73 @@ pub fn height_below(chips: &[Chip], lines: &[Line]) -> f64 {
     chips + CHIP_GAP + LIST_STEP * lines.len() as f64
 }
 
-/// A chip's mark, whether it is booked, its shapes and its text.
-type Shown = (Mark, bool, Vec<usize>, String);
+/// What a chip shows: its marks, its shapes and its text.
+struct Shown {
+    mark: Mark,
+    desks: Desks,
+    booked: Desks,
+    shapes: Vec<usize>,
+    text: String,
+}
 
 /// The shapes to show beside a card: first the smallest's, then what only the largest has, then faults.
 fn shapes(sheet: &Sheet, card: usize) -> Vec<Shown> {
     let card = Card(card as u16);
-    let mut shown: Vec<Shown> = Vec::new();
-    for shape in (0..sheet.both.shapes).map(Shape) {
-        let pair = (card, shape);
-        let booked = sheet.booked.contains(&pair);
-        let mark = if sheet.not_met() == Some(pair) {
-            Mark::NotMet
-        } else if sheet.has(&sheet.both.smallest.1, pair) {
-            Mark::Smallest
-        } else if sheet.has(&sheet.both.largest.1, pair) {
-            Mark::Largest
-        } else if booked {
-            Mark::Booked
-        } else {
-            continue;
-        };
-        let title = shape_title(sheet, shape.index());
-        shown.push((mark, booked, vec![shape.index()], title));
-    }
+    let pairs = (0..sheet.typings.shapes).map(|shape| (card, Shape(shape)));
+    let mut shown: Vec<Shown> = pairs.filter_map(|pair| shape(sheet, pair)).collect();
     if sheet.bare(card.index()) {
-        shown.push((Mark::None, false, Vec::new(), "no shape".to_string()));
+        shown.push(Shown {
+            mark: Mark::None,
+            desks: [false; 2],
+            booked: [false; 2],
+            shapes: Vec::new(),
+            text: "no shape".to_string(),
+        });
     }
-    shown.sort_by_key(|(mark, _, _, _)| *mark);
+    shown.sort_by_key(|one| one.mark);
     together(shown, sheet.text.shapes.len())
+}
+
+/// How a pair is shown; none if it is in no typing and not booked.
+fn shape(sheet: &Sheet, pair: Pair) -> Option<Shown> {
+    let booked = Desk::BOTH.map(|desk| sheet.booked.contains(&(desk, pair)));
+    let needed = Desk::BOTH.map(|desk| sheet.needed_by(desk, pair));
+    let not_met = Desk::BOTH.map(|desk| sheet.not_met(desk) == Some(pair));
+    let (mark, desks) = if not_met.contains(&true) {
+        (Mark::NotMet, not_met)
+    } else if needed.contains(&true) {
+        (Mark::Smallest, needed)
+    } else if sheet.has(&sheet.typings.largest.1, pair) {
+        (Mark::Largest, [false; 2])
+    } else if booked.contains(&true) {
+        (Mark::Booked, [false; 2])
+    } else {
+        return None;
+    };
+    let shape = pair.1.index();
+    Some(Shown {
+        mark,
+        desks,
+        booked,
+        shapes: vec![shape],
+        text: shape_title(sheet, shape),
+    })
 }
 
 /// One chip for many that only say that the largest typing has all shapes.
 fn together(shown: Vec<Shown>, count: usize) -> Vec<Shown> {
-    let has = |(mark, _, _, _): &Shown| matches!(mark, Mark::Smallest | Mark::Largest);
-    if count < MANY_SHAPES || shown.iter().filter(|one| has(one)).count() < count {
+    let has = |one: &&Shown| matches!(one.mark, Mark::Smallest | Mark::Largest);
+    if count < MANY_SHAPES || shown.iter().filter(has).count() < count {
         return shown;
     }
-    let plain = |(mark, booked, _, _): &Shown| *mark == Mark::Largest && !booked;
+    let plain = |one: &Shown| one.mark == Mark::Largest && one.booked == [false; 2];
     let mut kept: Vec<Shown> = shown.into_iter().filter(|one| !plain(one)).collect();
-    let text = format!("all {count} shapes");
-    kept.push((Mark::Largest, false, (0..count).collect(), text));
+    kept.push(Shown {
+        mark: Mark::Largest,
+        desks: [false; 2],
+        booked: [false; 2],
+        shapes: (0..count).collect(),
+        text: format!("all {count} shapes"),
+    });
     kept
 }

@@ -7,6 +7,7 @@ use super::legend::Legend;
 use super::picture::picture;
 use super::svg::{escape, short, Anchor, Svg, Words};
 use super::wrap::{wrap, Face};
+use crate::desk::Desk;
 use crate::text::check::Sheet;
 use crate::typing::Smallest;
 
@@ -58,7 +59,7 @@ pub struct Around<'a> {
     pub number: (usize, usize),
     /// What is left out, in words.
     pub notes: Vec<String>,
-    /// The links from a booking to the unmet pair.
+    /// The links from a desk's booking to its unmet pair.
     pub blamed: &'a [Arrow],
 }
 
@@ -133,7 +134,7 @@ fn title(sheet: &Sheet) -> &str {
     sheet.text.title.as_deref().unwrap_or("Prep sheet")
 }
 
-/// The title, and below it both answers in words. Tells where the rule below them is.
+/// The title, and below it the answers in words. Tells where the rule below them is.
 pub fn heading(svg: &mut Svg, around: &Around) -> f64 {
     let (number, count) = around.number;
     let mut room = WIDTH - 2.0 * MARGIN;
@@ -160,13 +161,13 @@ pub fn heading(svg: &mut Svg, around: &Around) -> f64 {
     below + 4.4
 }
 
-/// Both answers, on two lines if they are long. Tells where the last line is.
+/// The answers, on several lines if they are long. Tells where the last line is.
 fn answers(svg: &mut Svg, sheet: &Sheet, y: f64) -> f64 {
     let face = |bold: bool| Face {
         height: ANSWERS,
         bold,
     };
-    let (left, (right, colour)) = (largest(sheet), smallest(sheet));
+    let (left, right) = (largest(sheet), Desk::BOTH.map(|desk| smallest(sheet, desk)));
     svg.text(
         (MARGIN, y),
         ANSWERS,
@@ -174,25 +175,31 @@ fn answers(svg: &mut Svg, sheet: &Sheet, y: f64) -> f64 {
         &format!("fill=\"{INK}\""),
         &left,
     );
-    let style = format!("font-weight=\"bold\" fill=\"{colour}\"");
+    let style = |colour: &str| format!("font-weight=\"bold\" fill=\"{colour}\"");
     let room = WIDTH - 2.0 * MARGIN;
-    if face(false).width(&left) + face(true).width(&right) + 6.0 <= room {
-        svg.text((WIDTH - MARGIN, y), ANSWERS, Anchor::End, &style, &right);
+    let widths = right.each_ref().map(|(text, _)| face(true).width(text) + 6.0);
+    if face(false).width(&left) + widths.iter().sum::<f64>() <= room {
+        let ends = [WIDTH - MARGIN - widths[1], WIDTH - MARGIN];
+        for ((text, colour), end) in right.iter().zip(ends) {
+            svg.text((end, y), ANSWERS, Anchor::End, &style(colour), text);
+        }
         return y;
     }
-    let lines = wrap(&right, room, face(true), 3);
-    for (row, line) in (1..).zip(&lines) {
-        let place = (MARGIN, y + 5.2 * f64::from(row));
-        svg.text(place, ANSWERS, Anchor::Start, &style, line);
+    let mut last = y;
+    for (text, colour) in &right {
+        for line in wrap(text, room, face(true), 3) {
+            last += 5.2;
+            svg.text((MARGIN, last), ANSWERS, Anchor::Start, &style(colour), &line);
+        }
     }
-    y + 5.2 * lines.len() as f64
+    last
 }
 
 /// The largest typing in words.
 fn largest(sheet: &Sheet) -> String {
-    let largest = sheet.both.largest.0;
+    let largest = sheet.typings.largest.0;
     format!(
-        "{}, {}.  Largest typing: {}, {} struck, {} with links and no shape.",
+        "{}, {}.  Largest: {}, {} struck, {} with links and no shape.",
         counted(sheet.text.cards.len(), "card"),
         counted(sheet.text.links.len(), "link"),
         counted(largest.rounds, "round"),
@@ -201,22 +208,21 @@ fn largest(sheet: &Sheet) -> String {
     )
 }
 
-/// The smallest typing in words, or why there is none; and the colour of that.
-fn smallest(sheet: &Sheet) -> (String, &'static str) {
-    match sheet.both.smallest.0 {
-        Smallest::Pairs(pairs) => {
-            let pairs = counted(pairs, "pair");
-            (format!("Smallest typing: {pairs}, each met."), INK)
-        }
+/// A desk's smallest typing in words, or why there is none; and the colour of that.
+fn smallest(sheet: &Sheet, desk: Desk) -> (String, &'static str) {
+    let name = match desk {
+        Desk::Radio => "Radio",
+        Desk::Television => "Television",
+    };
+    match sheet.typings.smallest[desk.index()].0 {
+        Smallest::Pairs(pairs) => (format!("{name}'s smallest: {}.", counted(pairs, "pair")), INK),
         Smallest::NotMet(card, shape) => {
             let (card, shape) = (
                 sheet.text.card_title(card.index()),
                 sheet.text.shape_name(shape.index()),
             );
-            (
-                format!("No smallest typing: “{card}” can't be {shape} (50)."),
-                FAULT,
-            )
+            let told = format!("{name}: “{card}” can't be {shape} (50).");
+            (told, FAULT)
         }
     }
 }

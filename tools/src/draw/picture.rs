@@ -7,10 +7,11 @@ use super::measure::{Mark, LABEL};
 use super::strokes::{colour, stroke};
 use super::svg::{head, round_path, towards, Anchor, Svg};
 
-/// The broad line that shows how a booking asks for the unmet pair.
+/// The broad line that shows how a desk's booking asks for its unmet pair.
 pub const BLAME: &str = "stroke=\"#c01f1f\" stroke-width=\"3.4\" fill=\"none\" opacity=\"0.22\"";
 
-/// Draws the arrows, the labels and the cards. The links in `blamed` are those from a booking to the unmet pair.
+/// Draws the arrows, the labels and the cards. The links in `blamed` are those from a
+/// desk's booking to its unmet pair.
 pub fn picture(svg: &mut Svg, layout: &Layout, blamed: &[Arrow]) {
     let nets = layout
         .routes
@@ -80,7 +81,7 @@ pub fn shortened(points: &[(f64, f64)]) -> Vec<(f64, f64)> {
     points
 }
 
-/// Whether a route leads from a booking to the unmet pair.
+/// Whether a route leads from a desk's booking to its unmet pair.
 fn is_blamed(layout: &Layout, route: &Route, blamed: &[Arrow]) -> bool {
     blamed.contains(&Arrow {
         from: layout.blocks[route.arrow.from].card,

@@ -4,7 +4,7 @@ use super::cards::{body, chip_at, warning, CardMark, INK};
 use super::contents::Content;
 use super::layout::Rect;
 use super::lists::Line;
-use super::measure::{sign_width, width, Chip, Mark, LIST};
+use super::measure::{sign_width, width, Chip, Desks, Mark, LIST};
 use super::page::SMALL;
 use super::picture::BLAME;
 use super::svg::{round_path, Anchor, Svg};
@@ -15,8 +15,10 @@ const MEANING: f64 = 34.0;
 /// A sign with its meaning.
 #[derive(Clone, PartialEq, Debug)]
 pub enum Sign {
-    /// A chip, and what a card with it looks like.
+    /// A chip, with a dot or without, and what a card with it looks like.
     Chip(Mark, bool, &'static str),
+    /// The halves of a chip and of a dot.
+    Desks,
     /// The end of an open shape's chip.
     Open,
     /// A blank card.
@@ -28,28 +30,42 @@ pub enum Sign {
 }
 
 /// What the chips mean.
-const CHIPS: [(Mark, bool, &str); 7] = [
+const CHIPS: [(Mark, bool, &str); 4] = [
     (Mark::Smallest, false, "in the smallest typing"),
     (Mark::Largest, false, "only in the largest typing"),
-    (Mark::Smallest, true, "booked"),
-    (Mark::Largest, true, "booked, only in the largest"),
-    (Mark::Booked, true, "booked, but in no typing"),
     (Mark::None, false, "with links and no shape"),
     (Mark::NotMet, false, "the unmet pair of 50"),
 ];
 
+/// What the dot means. It is told once, by the first of these chips that the page has.
+const DOTS: [(Mark, bool, &str); 3] = [
+    (Mark::Booked, true, "booked, but in no typing"),
+    (Mark::Smallest, true, "booked"),
+    (Mark::Largest, true, "booked, only in the largest"),
+];
+
+/// No desk, the radio, and both.
+const NONE: Desks = [false, false];
+const RADIO: Desks = [true, false];
+const BOTH: Desks = [true, true];
+
 /// The signs that a page has; also that of the way to the unmet pair, if an arrow belongs to it.
 pub fn signs(contents: &[Content], blames: bool) -> Vec<Sign> {
-    let has_chip = |mark: Mark, booked: bool| {
+    let any_chip = |has: &dyn Fn(&Chip) -> bool| {
         let mut chips = contents.iter().flat_map(|content| &content.chips);
-        chips.any(|chip| chip.mark == mark && (chip.booked || !booked))
+        chips.any(has)
     };
-    let chips = CHIPS.iter().filter(|(mark, booked, _)| has_chip(*mark, *booked));
+    let has = |(mark, booked, _): &&(Mark, bool, &str)| {
+        any_chip(&|chip| chip.mark == *mark && (chip.booked != NONE || !booked))
+    };
+    let chips = CHIPS.iter().filter(has).chain(DOTS.iter().find(has));
     let mut signs: Vec<Sign> = chips
         .map(|(mark, booked, meaning)| Sign::Chip(*mark, *booked, meaning))
         .collect();
-    let mut chips = contents.iter().flat_map(|content| &content.chips);
-    if chips.any(|chip| chip.open) {
+    if any_chip(&|chip| chip.desks != NONE || chip.booked != NONE) {
+        signs.push(Sign::Desks);
+    }
+    if any_chip(&|chip| chip.open) {
         signs.push(Sign::Open);
     }
     if contents.iter().any(|content| content.blank) {
@@ -92,6 +108,7 @@ impl Sign {
     fn meaning(&self) -> &'static str {
         match self {
             Sign::Chip(_, _, meaning) | Sign::Line(_, meaning) => meaning,
+            Sign::Desks => "left half radio, right television",
             Sign::Open => "an open shape ignores other links",
             Sign::Blank => "a blank card, no shape",
             Sign::Blame => "how a booking asks for it",
@@ -107,7 +124,8 @@ impl Sign {
     pub fn draw(&self, svg: &mut Svg, (x, y): (f64, f64)) {
         match self {
             Sign::Chip(mark, booked, _) => marked(svg, *mark, *booked, (x, y)),
-            Sign::Open => chip(svg, (Mark::Largest, false), ("Shape…", 14.8), (x, y)),
+            Sign::Desks => chip(svg, (Mark::Smallest, RADIO, RADIO), ("Shape", 12.2), (x, y)),
+            Sign::Open => chip(svg, (Mark::Largest, NONE, NONE), ("Shape…", 14.8), (x, y)),
             Sign::Blank => {
                 let mark = CardMark {
                     blank: true,
@@ -131,7 +149,7 @@ fn marked(svg: &mut Svg, mark: Mark, booked: bool, place: (f64, f64)) {
         Mark::None => ("no shape", 15.0),
         _ => ("Shape", 12.2),
     };
-    chip(svg, (mark, booked), text, place);
+    chip(svg, (mark, BOTH, [booked; 2]), text, place);
     let mark = CardMark {
         bare: mark == Mark::None,
         blank: false,
@@ -141,10 +159,16 @@ fn marked(svg: &mut Svg, mark: Mark, booked: bool, place: (f64, f64)) {
     small_card(svg, mark, place);
 }
 
-/// A chip with this text, which has this width.
-fn chip(svg: &mut Svg, (mark, booked): (Mark, bool), (text, letters): (&str, f64), (x, y): (f64, f64)) {
+/// A chip that is so marked for these desks and booked by those, with this text, which has this width.
+fn chip(
+    svg: &mut Svg,
+    (mark, desks, booked): (Mark, Desks, Desks),
+    (text, letters): (&str, f64),
+    (x, y): (f64, f64),
+) {
     let chip = Chip {
         mark,
+        desks,
         booked,
         shapes: Vec::new(),
         open: false,

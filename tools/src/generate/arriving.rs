@@ -50,7 +50,7 @@ fn guests() -> Vec<Case> {
         cases.push(case(format!("guests-{number}"), &GUESTS, script, &[0]));
         for place in 0..2 * script[0] {
             let name = format!("guests-{number}-{place}");
-            cases.push(case(name, &GUESTS, script, &[1, place / 2, place % 2]));
+            cases.push(case(name, &GUESTS, script, &[1, place % 2, place / 2, place % 2]));
         }
     }
     cases
@@ -82,7 +82,7 @@ fn itself() -> Vec<Case> {
     for template in templates {
         for script in scripts {
             let name = format!("itself-{}", cases.len());
-            cases.push(case(name, template, script, &[1, 0, 0]));
+            cases.push(case(name, template, script, &[1, 0, 0, 0]));
         }
     }
     cases
@@ -113,7 +113,7 @@ fn ignored() -> Vec<Case> {
     for template in templates {
         for script in scripts {
             let name = format!("ignored-{}", cases.len());
-            cases.push(case(name, template, script, &[1, 0, 0]));
+            cases.push(case(name, template, script, &[1, 0, 0, 0]));
         }
     }
     cases
@@ -171,7 +171,7 @@ pub fn all_labels(start: &str, shape: fn(Part) -> Definition) -> Vec<Case> {
         .iter()
         .map(|(name, links)| {
             let script = scripts::words(2, links);
-            case(format!("{start}-{name}"), &template, &script, &[1, 0, 0])
+            case(format!("{start}-{name}"), &template, &script, &[1, 0, 0, 0])
         })
         .collect()
 }

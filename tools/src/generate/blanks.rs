@@ -30,21 +30,22 @@ pub fn blanks() -> Vec<Case> {
             format!("blank-{name}-booked"),
             template,
             vec![3, 1, 1, 0, 2],
-            vec![1, 0, 0],
+            vec![1, 0, 0, 0],
         );
         cases.push(booked);
     }
     let last_card = MOST_CARDS - 1;
     let all_blank = vec![MOST_CARDS, 0];
     let one_link = vec![MOST_CARDS, 1, last_card, 0, 0];
+    let booked_twice = vec![2, 0, last_card, 0, 1, 0, 0];
     cases.extend([
         case(
             "blank-1024".to_string(),
             &WANTS_ONE,
             all_blank,
-            vec![1, last_card, 0],
+            booked_twice.clone(),
         ),
-        case("one-link-1024".to_string(), &WANTS_ONE, one_link, vec![0]),
+        case("one-link-1024".to_string(), &WANTS_ONE, one_link, booked_twice),
     ]);
     cases
 }

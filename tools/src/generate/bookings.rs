@@ -1,17 +1,51 @@
-//! Random bookings: from the pairs that the largest typing keeps, so that they are met, or from all pairs. No pair is
-//! booked twice.
+//! Random bookings of both desks: from the pairs that the largest typing keeps, so that they are met, or from all
+//! pairs. No desk books a pair twice.
 
+use crate::desk::Desk;
 use crate::numbers::{Card, Shape};
 use crate::random::Random;
+use crate::typing::bookings::{by, Booking, MOST_BOOKINGS};
 use crate::typing::tidying::tidied;
 use crate::typing::{links, Pair, Setting};
 
-/// Up to `most` bookings: half of the lists are met if there is any pair that can be.
-pub fn bookings(random: &mut Random, setting: &Setting, most: u16) -> Vec<Pair> {
-    tidied(setting, &picked(random, setting, most))
+/// Bookings of up to `most` pairs: half of the lists are met if there is any pair that can be.
+pub fn bookings(random: &mut Random, setting: &Setting, most: u16) -> Vec<Booking> {
+    let pairs = pairs(random, setting, most);
+    shared_out(random, &pairs)
 }
 
-/// The same before repeats are dropped.
+/// Up to `most` pairs, none of them twice.
+pub fn pairs(random: &mut Random, setting: &Setting, most: u16) -> Vec<Pair> {
+    let picked = picked(random, setting, most);
+    different(setting, &picked)
+}
+
+/// Each pair once, where it stands first.
+fn different(setting: &Setting, pairs: &[Pair]) -> Vec<Pair> {
+    let booked = tidied(setting, pairs).into_iter();
+    booked.map(|(_, pair)| pair).collect()
+}
+
+/// The bookings of these pairs: by the radio, by the television, by either, or by either and some by both.
+pub fn shared_out(random: &mut Random, pairs: &[Pair]) -> Vec<Booking> {
+    let sort = random.below(8);
+    if sort < 3 {
+        return by(random.pick(&Desk::BOTH), pairs);
+    }
+    let desks = pairs.iter().map(|pair| (random.pick(&Desk::BOTH), *pair));
+    let mut booked: Vec<Booking> = desks.collect();
+    if sort < 6 {
+        return booked;
+    }
+    for (desk, pair) in booked.clone() {
+        if booked.len() < usize::from(MOST_BOOKINGS) && random.chance(1, 2) {
+            booked.insert(random.below(booked.len() + 1), (desk.other(), pair));
+        }
+    }
+    booked
+}
+
+/// Up to `most` pairs, of which some may be the same.
 fn picked(random: &mut Random, setting: &Setting, most: u16) -> Vec<Pair> {
     let kept = pairs_with(setting, 1);
     match random.below(10) {
@@ -36,7 +70,7 @@ fn picked(random: &mut Random, setting: &Setting, most: u16) -> Vec<Pair> {
 }
 
 /// Bookings with at least one pair that can't be met, if there is such a pair.
-pub fn unmet(random: &mut Random, setting: &Setting) -> Vec<Pair> {
+pub fn unmet(random: &mut Random, setting: &Setting) -> Vec<Booking> {
     let kept = pairs_with(setting, 1);
     let struck = pairs_with(setting, 0);
     let mut booked = Vec::new();
@@ -48,7 +82,7 @@ pub fn unmet(random: &mut Random, setting: &Setting) -> Vec<Pair> {
             booked.push(random.pick(&struck));
         }
     }
-    tidied(setting, &booked)
+    shared_out(random, &different(setting, &booked))
 }
 
 /// The pairs at which the largest typing has this byte.

@@ -2,6 +2,7 @@
 
 use super::parts::any_outgoing;
 use super::scripts::{self, Links};
+use crate::desk::Desk;
 use crate::labels::{Labelled, Way};
 use crate::numbers::{Card, Shape};
 use crate::script::{MOST_CARDS, MOST_LINKS};
@@ -41,6 +42,6 @@ pub fn sheet(asked: &Definition, counts: &Labelled<u16>) -> Option<Files> {
     Some(Files {
         template: template::write(&template),
         script: scripts::words(1 + most, &links),
-        bookings: bookings::words(&[(Card(0), Shape(0))]),
+        bookings: bookings::words(&[(Desk::Radio, (Card(0), Shape(0)))]),
     })
 }

@@ -2,6 +2,7 @@
 //! comes first); what the right answer is, the implementation says.
 
 use super::layout::{layout, Layout, Spot};
+use super::stored::without_desks;
 use super::{bookings, repeats};
 use crate::labels::{Label, Way};
 use crate::numbers::Kind;
@@ -13,8 +14,8 @@ use crate::template::{
 use crate::typing::{self, Setting};
 
 /// The refusals that a sheet can be aimed at.
-pub const AIMS: [u16; 26] = [
-    1, 2, 3, 4, 5, 6, 7, 8, 9, 10, 11, 12, 20, 21, 22, 23, 24, 25, 30, 31, 32, 33, 50, 60, 64, 65,
+pub const AIMS: [u16; 27] = [
+    1, 2, 3, 4, 5, 6, 7, 8, 9, 10, 11, 12, 20, 21, 22, 23, 24, 25, 30, 31, 32, 33, 50, 60, 64, 65, 66,
 ];
 
 /// Puts one fault into a whole sheet, aimed at this refusal (any of `AIMS` but 60).
@@ -71,7 +72,7 @@ pub fn several(random: &mut Random, files: &mut Files, count: usize) {
                 of_script(random, words, kinds, number);
             }
             (_, Some(words)) => {
-                let number = random.pick(&[30, 31, 32, 33, 65]);
+                let number = random.pick(&[30, 31, 32, 33, 65, 66]);
                 of_bookings(random, words, cards, shapes, number);
             }
             (_, None) => {}
@@ -349,23 +350,26 @@ fn of_bookings(random: &mut Random, words: &mut Vec<u16>, cards: u16, shapes: u1
     if number == 65 {
         return repeats::put(random, words, cards, shapes);
     }
-    if number >= 32 && words.len() < 3 {
-        *words = vec![1, 0, 0];
+    if number >= 32 && words.len() < 4 {
+        *words = vec![1, random.word(0, 1), 0, 0];
     }
-    let booking = 1 + 2 * random.below((words.len().saturating_sub(1) / 2).max(1));
+    let booking = 1 + 3 * random.below((words.len().saturating_sub(1) / 3).max(1));
     match number {
+        // A stored list is one that lacks the desks.
+        30 if random.chance(1, 4) => *words = without_desks(words),
         30 => wrong_length(random, words, 1, 0),
         31 => put(words, 0, random.pick(&[1025, 1026, 65535])),
         32 => put(
             words,
-            booking,
+            booking + 1,
             random.pick(&[cards, cards.wrapping_add(1), 1024, 65535]),
         ),
-        _ => put(
+        33 => put(
             words,
-            booking + 1,
+            booking + 2,
             random.pick(&[shapes, shapes.wrapping_add(1), 32, 65535]),
         ),
+        _ => put(words, booking, random.pick(&[2, 2, 3, 255, 256, 257, 65535])),
     }
 }
 

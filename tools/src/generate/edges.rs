@@ -199,27 +199,27 @@ fn booking_lists() -> Vec<Vec<u16>> {
         vec![],
         vec![0],
         vec![0, 0],
-        vec![1, 2],
-        vec![1, 2, 1],
-        vec![1, 2, 1, 0],
-        [vec![1024], [2, 1].repeat(1024)].concat(),
-        [vec![1025], [2, 1].repeat(1025)].concat(),
+        vec![1, 0, 2],
+        vec![1, 0, 2, 1],
+        vec![1, 0, 2, 1, 0],
+        [vec![1024], [0, 2, 1].repeat(1024)].concat(),
+        [vec![1025], [0, 2, 1].repeat(1025)].concat(),
         vec![1025],
         vec![1024],
-        vec![1, 3, 1],
-        vec![1, 2, 2],
-        vec![1, 3, 2],
-        vec![2, 2, 1, 3, 2],
-        vec![2, 2, 2, 3, 1],
-        vec![2, 2, 1, 2, 1],
-        vec![2, 2, 0, 1, 1],
-        vec![2, 1, 1, 0, 0],
+        vec![1, 1, 3, 1],
+        vec![1, 1, 2, 2],
+        vec![1, 1, 3, 2],
+        vec![2, 0, 2, 1, 1, 3, 2],
+        vec![2, 1, 2, 2, 0, 3, 1],
+        vec![2, 0, 2, 1, 0, 2, 1],
+        vec![2, 0, 2, 0, 1, 1, 1],
+        vec![2, 1, 1, 1, 1, 0, 0],
     ]
 }
 
 /// Whole inputs: bytes that are missing or left over, and wrong files behind a wrong length.
 fn inputs() -> Vec<Vec<u8>> {
-    let whole = document(&[1, 2, 1]).bytes();
+    let whole = document(&[1, 0, 2, 1]).bytes();
     let wrong = Files {
         template: vec![0, 0],
         script: DOCUMENT_SCRIPT.to_vec(),

@@ -6,6 +6,7 @@ pub mod wrapped;
 
 use super::parts::{filler, outgoing};
 use super::scripts;
+use crate::desk::Desk;
 use crate::labels::{Label, Way};
 use crate::numbers::{Card, Kind, Shape};
 use crate::random::Random;
@@ -13,6 +14,7 @@ use crate::script::{MOST_CARDS, MOST_LINKS};
 use crate::sheet::Files;
 use crate::template::{self, Definition, Part, Template, MOST_KINDS, MOST_SHAPES, MOST_WORDS};
 use crate::typing::bookings::{self, MOST_BOOKINGS};
+use crate::typing::Pair;
 
 /// The labels that every shape of the densest sheet names.
 const COMMON: u16 = 24;
@@ -39,7 +41,7 @@ pub fn ring() -> Files {
     Files {
         template: template::write(&template),
         script: scripts::words(MOST_CARDS, &links),
-        bookings: bookings::words(&[(Card(0), Shape(0))]),
+        bookings: bookings::words(&[(Desk::Radio, (Card(0), Shape(0)))]),
     }
 }
 
@@ -97,15 +99,15 @@ fn dense(ways: &[Way], template: Template) -> Files {
     booked(&template, &links)
 }
 
-/// All cards with these links, and as many bookings as can be, one for each card.
+/// All cards with these links, and as many bookings as can be, all by the radio, one for each card.
 fn booked(template: &Template, links: &scripts::Links) -> Files {
-    let booked: Vec<(Card, Shape)> = (0..MOST_BOOKINGS)
+    let booked: Vec<Pair> = (0..MOST_BOOKINGS)
         .map(|card| (Card(card), Shape(card % MOST_SHAPES)))
         .collect();
     Files {
         template: template::write(template),
         script: scripts::words(MOST_CARDS, links),
-        bookings: bookings::words(&booked),
+        bookings: bookings::words(&bookings::by(Desk::Radio, &booked)),
     }
 }
 

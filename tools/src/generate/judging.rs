@@ -1,4 +1,4 @@
-//! Inputs for *Judge a grid*: sheets, each with a grid.
+//! Inputs for *Judge a grid*: sheets, each with a desk and a grid.
 //!
 //! | here       | what                                                                       |
 //! |------------|----------------------------------------------------------------------------|
@@ -10,10 +10,12 @@
 //! | `orders`   | several faults at once: which one is told                                  |
 //! | `typings`  | both typings of some sheets, typings between them, and what is a pair off  |
 //! | `limits`   | everything at its limit                                                    |
-//! | `repeats`  | booking lists in which a pair stands twice, or nearly so                   |
+//! | `repeats`  | booking lists in which a desk books a pair twice, or nearly so             |
+//! | `desks`    | whose the bookings are, and which desk is asked for                        |
 //! | `grids`    | random grids                                                               |
 
 pub mod arriving;
+pub mod desks;
 pub mod edges;
 pub mod grids;
 pub mod limits;
@@ -25,31 +27,34 @@ pub mod samples;
 pub mod typings;
 
 use super::{alike, counted, flat, in_turn, Scale};
+use crate::desk::Desk;
 use crate::random::Random;
 use crate::refusal::Refusal;
 use crate::samples::Counted;
 use crate::sheet::{self, Files};
 use crate::typing::judge::{self, judge_by_choices};
-use crate::typing::{bookings, Pair, Setting};
+use crate::typing::{self, bookings, Pair, Setting};
 
 /// The most words of a file of a case.
 pub const MOST_FILE_WORDS: usize = 32_767;
 /// The most bytes of a grid of a case.
 pub const MOST_GRID_BYTES: usize = 65_535;
 
-/// One sheet with a grid, and a name that says how they were made.
+/// One sheet with a desk and a grid, and a name that says how they were made.
 #[derive(Clone, PartialEq, Eq, Debug)]
 pub struct JudgeCase {
     /// How it was made.
     pub name: String,
     /// The template, the script and the bookings.
     pub files: Files,
+    /// The desk that is asked for.
+    pub desk: u16,
     /// The bytes of the grid.
     pub grid: Vec<u8>,
 }
 
 impl JudgeCase {
-    /// A case of these words and bytes.
+    /// A case of these words and bytes, which asks for the radio.
     pub fn new(
         name: impl Into<String>,
         template: &[u16],
@@ -64,8 +69,14 @@ impl JudgeCase {
                 script: script.to_vec(),
                 bookings: bookings.to_vec(),
             },
+            desk: Desk::Radio.number(),
             grid: grid.to_vec(),
         }
+    }
+
+    /// The same for another desk, whose number may be wrong.
+    pub fn asking_for(self, desk: u16) -> JudgeCase {
+        JudgeCase { desk, ..self }
     }
 
     /// The line that is owed, found by trying choices where these aren't too many.
@@ -75,17 +86,21 @@ impl JudgeCase {
             script,
             bookings,
         } = &self.files;
-        judge::answer(judge_by_choices(template, script, bookings, &self.grid))
+        judge::answer(judge_by_choices(
+            template, script, bookings, self.desk, &self.grid,
+        ))
     }
 
-    /// The three files and the grid, each after its length in two bytes, low byte first: a count of words for the
-    /// files, of bytes for the grid.
+    /// The three files, the desk, which is one word, and the grid, each after its length in two bytes, low byte first:
+    /// a count of words, and of bytes for the grid.
     pub fn bytes(&self) -> Result<Vec<u8>, String> {
         if self.files.longest() > MOST_FILE_WORDS || self.grid.len() > MOST_GRID_BYTES {
             return Err(format!("the case {} is too long", self.name));
         }
         let mut bytes = self.files.bytes();
-        bytes.extend((self.grid.len() as u16).to_le_bytes());
+        for word in [1, self.desk, self.grid.len() as u16] {
+            bytes.extend(word.to_le_bytes());
+        }
         bytes.extend(&self.grid);
         Ok(bytes)
     }
@@ -105,6 +120,7 @@ pub fn fixed() -> Vec<JudgeCase> {
         typings::typings(),
         limits::limits(),
         repeats::repeats(),
+        desks::desks(),
     ]
     .concat()
 }
@@ -128,7 +144,13 @@ fn counts_of(counted: Vec<Counted>) -> Vec<JudgeCase> {
         let mut grid = [0, 1].repeat(files.script[0].into());
         grid[..2].copy_from_slice(&[1, 0]);
         let name = format!("counts-{name}");
-        Some(JudgeCase { name, files, grid })
+        let desk = Desk::Radio.number();
+        Some(JudgeCase {
+            name,
+            files,
+            desk,
+            grid,
+        })
     };
     counted.into_iter().filter_map(case).collect()
 }
@@ -157,13 +179,15 @@ fn alike_case(random: &mut Random) -> JudgeCase {
 
 /// A whole sheet, made in this way and of this scale, with a random grid.
 fn whole_case(random: &mut Random, way: &str, scale: Scale, files: Files) -> JudgeCase {
-    let (name, grid) = match read(&files) {
+    let desk = desk(random);
+    let (name, grid) = match read(&files, desk) {
         Ok((setting, booked)) => grids::whole(random, &setting, &booked),
         Err(refusal) => panic!("a generated sheet has a fault, {refusal}"),
     };
     JudgeCase {
         name: format!("{way}-{}-{name}", scale.name),
         files,
+        desk,
         grid,
     }
 }
@@ -176,19 +200,33 @@ pub fn case(random: &mut Random) -> JudgeCase {
         let Ok(files) = sheet::split(&source.bytes) else {
             continue;
         };
-        let (name, grid) = match read(&files) {
+        let desk = desk(random);
+        let (name, grid) = match read(&files, desk) {
             Ok((setting, booked)) if is_whole => grids::grid(random, &setting, &booked),
             Err(_) if !is_whole => ("any", grids::any(random, &files)),
             _ => continue,
         };
         let name = format!("{}-{name}", source.name);
-        return JudgeCase { name, files, grid };
+        return JudgeCase {
+            name,
+            files,
+            desk,
+            grid,
+        };
     }
 }
 
-/// A sheet that is read, and its bookings.
-fn read(files: &Files) -> Result<(Setting, Vec<Pair>), Refusal> {
-    let setting = Setting::read(&files.template, &files.script)?;
-    let booked = bookings::read(&setting, &files.bookings)?;
-    Ok((setting, booked))
+/// A desk to ask for: one of the two, now and then another number.
+fn desk(random: &mut Random) -> u16 {
+    match random.chance(1, 16) {
+        true => random.pick(&[2, 2, 3, 256, 65535]),
+        false => random.word(0, 1),
+    }
+}
+
+/// A sheet that is read, and what a desk books; for a number that is no desk's, what the radio books.
+fn read(files: &Files, desk: u16) -> Result<(Setting, Vec<Pair>), Refusal> {
+    let (setting, booked) = typing::read(&files.template, &files.script, &files.bookings)?;
+    let desk = Desk::numbered(desk).unwrap_or(Desk::Radio);
+    Ok((setting, bookings::of(desk, &booked)))
 }

@@ -102,17 +102,17 @@ fn in_counts(random: &mut Random, files: &mut Files) {
     }
 }
 
-/// A booking whose card and shape are both wrong, or one of them. The second one may also repeat the first.
+/// A booking whose desk, card and shape are wrong, or some of them. The second one may also repeat the first.
 fn in_booking(random: &mut Random, files: &mut Files) {
-    if files.bookings.len() < 3 {
-        files.bookings = vec![2, 0, 0, 0, 0];
+    if files.bookings.len() < 4 {
+        files.bookings = vec![2, 0, 0, 0, 1, 0, 0];
     }
-    let wrong = [files.script[0], files.template[1]].repeat(2);
+    let wrong = [2, files.script[0], files.template[1]].repeat(2);
     if random.chance(1, 2) {
-        let first = [files.bookings[1], files.bookings[2]];
-        files.bookings.splice(3..3, first);
+        let first = [files.bookings[1], files.bookings[2], files.bookings[3]];
+        files.bookings.splice(4..4, first);
         files.bookings[0] += 1;
     }
-    let place = 1 + 2 * random.below(files.bookings.len() / 2);
+    let place = 1 + 3 * random.below(files.bookings.len() / 3);
     spoil(random, &mut files.bookings, place, &wrong);
 }

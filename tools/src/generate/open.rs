@@ -50,11 +50,11 @@ fn one_more() -> Vec<Case> {
     for (number, script) in scripts.into_iter().enumerate() {
         for card in 0..script[0] {
             let name = format!("open-{number}-{card}");
-            cases.push(case(name, &TOLERANT, script, &[1, card, 0]));
+            cases.push(case(name, &TOLERANT, script, &[1, 0, card, 0]));
         }
         let name = format!("open-{number}-last");
-        cases.push(case(name, &TOLERANT, script, &[1, script[0] - 1, 1]));
-        cases.push(case(format!("closed-{number}"), &STRICT, script, &[1, 0, 0]));
+        cases.push(case(name, &TOLERANT, script, &[1, 1, script[0] - 1, 1]));
+        cases.push(case(format!("closed-{number}"), &STRICT, script, &[1, 0, 0, 0]));
     }
     cases
 }
@@ -78,7 +78,7 @@ fn any() -> Vec<Case> {
         for script in scripts {
             let booked: &[u16] = match script[0] {
                 0 => &[0],
-                _ => &[1, 0, template[1] - 1],
+                _ => &[1, 0, 0, template[1] - 1],
             };
             cases.push(case(format!("any-{}", cases.len()), template, script, booked));
         }
@@ -107,7 +107,7 @@ fn each_other() -> Vec<Case> {
             let template = [vec![3, shapes], words].concat();
             for script in scripts {
                 let name = format!("each-other-{}", cases.len());
-                cases.push(case(name, &template, script, &[1, 0, 0]));
+                cases.push(case(name, &template, script, &[1, 0, 0, 0]));
             }
         }
     }
@@ -130,7 +130,12 @@ fn guests() -> Vec<Case> {
     for (number, script) in scripts.into_iter().enumerate() {
         for place in 0..2 * script[0] {
             let name = format!("open-guests-{number}-{place}");
-            cases.push(case(name, &OPEN_GUESTS, script, &[1, place / 2, place % 2]));
+            cases.push(case(
+                name,
+                &OPEN_GUESTS,
+                script,
+                &[1, place % 2, place / 2, place % 2],
+            ));
         }
     }
     cases

@@ -7,6 +7,7 @@ pub mod most;
 use super::parts::{incoming, outgoing};
 use super::scripts::{self, Links};
 use super::Case;
+use crate::desk::Desk;
 use crate::numbers::{Card, Shape};
 use crate::sheet::Files;
 use crate::template::{self, Definition, Link, Part, Template, MOST_COUNT, MOST_KINDS};
@@ -57,7 +58,7 @@ pub fn sheet(kinds: u16, shapes: Vec<Definition>, cards: &[Runs], booked: (u16, 
     Files {
         template: template::write(&Template { kinds, definitions }),
         script: scripts::words(number, &links),
-        bookings: bookings::words(&[(Card(booked.0), Shape(booked.1))]),
+        bookings: bookings::words(&[(Desk::Radio, (Card(booked.0), Shape(booked.1)))]),
     }
 }
 

@@ -3,15 +3,15 @@
 use super::bookings::bookings as any_bookings;
 use super::parts::{filler, outgoing, template as any_template};
 use super::{scripts, turns, Case, FULL};
+use crate::desk::Desk;
 use crate::labels::Label;
 use crate::numbers::{Card, Shape};
 use crate::random::Random;
 use crate::script::{MOST_CARDS, MOST_LINKS};
 use crate::sheet::{Files, MOST_BYTES};
 use crate::template::{self, Definition, Part, Template, MOST_KINDS, MOST_SHAPES, MOST_WORDS};
-use crate::typing::bookings::{self, MOST_BOOKINGS};
-use crate::typing::tidying::tidied;
-use crate::typing::{Pair, Setting};
+use crate::typing::bookings::{self, Booking, MOST_BOOKINGS};
+use crate::typing::Setting;
 
 /// The template of the worked sheet (docs/FORMAT.md).
 pub const DOCUMENT_TEMPLATE: [u16; 15] = [2, 2, 10, 17, 2, 256, 1, 1, 1, 257, 0, 0, 1, 1, 0];
@@ -47,15 +47,15 @@ pub fn fixed() -> Vec<Case> {
     let takes_none = Files {
         template: vec![1, 2, 4, 256, 1, 0, 0, 4, 256, 1, 1, 1],
         script: vec![2, 1, 1, 0, 0],
-        bookings: vec![1, 1, 0],
+        bookings: vec![1, 0, 1, 0],
     };
     let mut too_many_words = document(&[0]);
     too_many_words.bookings.resize(MOST_BYTES / 2 - 3 - 15 - 11, 0);
     let at_the_edge = too_many_words.bytes();
     too_many_words.bookings.push(0);
     vec![
-        named("document-met", document(&[1, 2, 1]).bytes()),
-        named("document-not-met", document(&[1, 0, 0]).bytes()),
+        named("document-met", document(&[1, 0, 2, 1]).bytes()),
+        named("document-not-met", document(&[1, 0, 0, 0]).bytes()),
         named("no-cards", empty.bytes()),
         named("link-that-takes-none", takes_none.bytes()),
         named("no-bytes", Vec::new()),
@@ -87,7 +87,7 @@ pub fn random(random: &mut Random) -> Case {
 }
 
 /// Each card leads to the next one, and must. If the chain isn't closed, each round strikes its last card, so
-/// there are as many rounds as cards and one more.
+/// there are as many rounds as cards and one more. Both desks book the card in the middle.
 pub fn chain(cards: u16, closed: bool) -> Files {
     let template = Template::closed(1, vec![outgoing(0, 0, 1, Some(1))]);
     let mut links: scripts::Links = (1..cards).map(|to| (to - 1, 0, to)).collect();
@@ -97,7 +97,7 @@ pub fn chain(cards: u16, closed: bool) -> Files {
     Files {
         template: template::write(&template),
         script: scripts::words(cards, &links),
-        bookings: bookings::words(&[(Card(cards / 2), Shape(0))]),
+        bookings: bookings::words(&Desk::BOTH.map(|desk| (desk, (Card(cards / 2), Shape(0))))),
     }
 }
 
@@ -120,7 +120,7 @@ pub fn longest(cards: u16, shapes: u16) -> Files {
     Files {
         template: template::write(&Template::closed(2, parts)),
         script: scripts::words(cards, &links),
-        bookings: bookings::words(&[(Card(1 % cards), Shape(0))]),
+        bookings: bookings::words(&[(Desk::Radio, (Card(1 % cards), Shape(0)))]),
     }
 }
 
@@ -178,10 +178,12 @@ fn fill_script(random: &mut Random, script: &[u16]) -> Vec<u16> {
     scripts::words(MOST_CARDS, &links)
 }
 
-/// The bookings and then one card after the other for the shape that takes any links, up to the limit.
-fn fill_bookings(setting: &Setting, booked: &[Pair]) -> Vec<u16> {
+/// The bookings and then one card after the other, by the radio and the television in turn, for the shape that takes
+/// any links, up to the limit.
+fn fill_bookings(setting: &Setting, booked: &[Booking]) -> Vec<u16> {
     let any_links = setting.cards().map(|card| (card, Shape(MOST_SHAPES - 2)));
-    let all: Vec<Pair> = booked.iter().copied().chain(any_links).collect();
-    let different = tidied(setting, &all);
+    let any_links = Desk::BOTH.into_iter().cycle().zip(any_links);
+    let all = booked.iter().copied().chain(any_links);
+    let different: Vec<Booking> = all.filter(bookings::firsts(setting)).collect();
     bookings::words(&different[..usize::from(MOST_BOOKINGS)])
 }

@@ -11,7 +11,8 @@ pub mod orders;
 pub mod samples;
 
 use super::judging::MOST_FILE_WORDS;
-use super::{edges, repeats, Case};
+use super::stored::without_desks;
+use super::{desks, edges, repeats, Case};
 use crate::random::Random;
 use crate::sheet::{self, Files};
 use crate::typing::bookings::{self, MOST_BOOKINGS};
@@ -33,11 +34,11 @@ pub struct TidyCase {
 }
 
 impl TidyCase {
-    /// A case whose buffer is as long as the list.
+    /// A case whose buffer has the length that the list asks for.
     pub fn new(name: impl Into<String>, files: Files) -> TidyCase {
         TidyCase {
             name: name.into(),
-            words: files.bookings.len(),
+            words: room(&files.bookings),
             files,
         }
     }
@@ -65,18 +66,36 @@ impl TidyCase {
     }
 }
 
+/// The length of a buffer for a list of this length: three words for each booking, and one.
+pub fn room(stored: &[u16]) -> usize {
+    1 + 3 * (stored.len().saturating_sub(1) / 2)
+}
+
 /// The cases that are the same for every seed.
 pub fn fixed() -> Vec<TidyCase> {
-    let split = |case: Case| Some(TidyCase::new(case.name, sheet::split(&case.bytes).ok()?));
-    let of_repeats = |(name, files): (String, Files)| TidyCase::new(name, files);
+    let split = |case: Case| Some(TidyCase::new(case.name, stored(sheet::split(&case.bytes).ok()?)));
+    let named = |(name, files): (String, Files)| TidyCase::new(name, files);
+    let with_desks = desks::sheets().into_iter().take(WITH_DESKS);
     let lists = [
         samples::samples(),
         edges::edges().into_iter().filter_map(split).collect(),
         orders::orders(),
-        repeats::fixed::sheets().into_iter().map(of_repeats).collect(),
+        repeats::fixed::stored().into_iter().map(named).collect(),
         lists::lists(),
+        with_desks.map(named).collect(),
     ];
     lists.concat()
+}
+
+/// How many booking lists are put to tidying as they are: with desks they are no stored lists.
+const WITH_DESKS: usize = 28;
+
+/// The sheet with its booking list as a stored one.
+fn stored(files: Files) -> Files {
+    Files {
+        bookings: without_desks(&files.bookings),
+        ..files
+    }
 }
 
 /// The cases of one seed: the fixed ones first, then as many random ones as are asked for.
@@ -91,18 +110,19 @@ pub fn case(random: &mut Random) -> TidyCase {
     let is_read = random.chance(5, 6);
     loop {
         let source = super::case(random);
-        let Ok(mut files) = sheet::split(&source.bytes) else {
+        let Ok(split) = sheet::split(&source.bytes) else {
             continue;
         };
+        let mut files = stored(split);
         let read = Setting::read(&files.template, &files.script)
             .and_then(|setting| bookings::read_stored(&setting, &files.bookings));
         match read {
-            Ok(booked) if is_read => files.bookings = bookings::words(&repeated(random, booked)),
+            Ok(booked) if is_read => files.bookings = bookings::stored_words(&repeated(random, booked)),
             Err(_) if !is_read => {}
             _ => continue,
         }
         let mut case = TidyCase::new(source.name, files);
-        case.words = buffer(random, case.words);
+        case.words = buffer(random, case.words, case.files.bookings.len());
         return case;
     }
 }
@@ -118,12 +138,13 @@ fn repeated(random: &mut Random, mut booked: Vec<Pair>) -> Vec<Pair> {
     booked
 }
 
-/// The length of a buffer for a list of this length, most often the same.
-fn buffer(random: &mut Random, length: usize) -> usize {
-    match random.below(12) {
-        0 => length + 1,
-        1 => length.saturating_sub(random.between(1, 2)),
+/// The length of a buffer: most often the right one, or that of the stored list.
+fn buffer(random: &mut Random, right: usize, stored: usize) -> usize {
+    match random.below(16) {
+        0 => right + 1,
+        1 => right.saturating_sub(random.between(1, 3)),
         2 => random.between(0, 20),
-        _ => length,
+        3 => stored,
+        _ => right,
     }
 }

@@ -2,6 +2,7 @@
 
 use super::parts::{any_outgoing, incoming, outgoing};
 use super::scripts;
+use crate::desk::Desk;
 use crate::numbers::{Card, Shape};
 use crate::sheet::Files;
 use crate::template::{self, Part, Template};
@@ -53,11 +54,11 @@ pub fn longest_back(cards: u16, shapes: u16) -> Files {
     sheet(2, parts, cards, &links, cards - 1)
 }
 
-/// A sheet with shape 0 booked for one card.
+/// A sheet with shape 0 booked for one card, by both desks.
 fn sheet(kinds: u16, parts: Vec<Part>, cards: u16, links: &scripts::Links, booked: u16) -> Files {
     Files {
         template: template::write(&Template::closed(kinds, parts)),
         script: scripts::words(cards, links),
-        bookings: bookings::words(&[(Card(booked), Shape(0))]),
+        bookings: bookings::words(&Desk::BOTH.map(|desk| (desk, (Card(booked), Shape(0))))),
     }
 }

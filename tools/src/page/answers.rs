@@ -11,7 +11,9 @@ use crate::script::{self, links_of_card};
 use crate::sheet::{self, Files};
 use crate::template;
 use crate::typing::judge::{self, judge_by_choices};
-use crate::typing::{self, bookings, largest_by_rounds, met, smallest, tidying, Setting, Smallest};
+use crate::typing::{
+    self, asked, bookings, largest_by_rounds, met, smallest, tidying, Pair, Setting, Smallest,
+};
 
 /// What a lent grid is filled with first.
 const FILLED: u8 = 9;
@@ -109,6 +111,7 @@ fn smallest_typing(question: &Question) -> Result<String, String> {
         &question.template,
         &question.script,
         &question.bookings,
+        question.desk,
         &mut grid,
     ) {
         Ok(Smallest::Pairs(pairs)) => {
@@ -180,10 +183,17 @@ fn round(question: &Question) -> Result<String, String> {
     Ok(cells::shown(&grid, setting.template.shapes()))
 }
 
-/// The closure of the bookings.
+/// What the desk of a question books.
+fn booked(question: &Question, setting: &Setting) -> Result<Vec<Pair>, String> {
+    let booked = bookings::read(setting, &question.bookings).map_err(refused)?;
+    let desk = asked(question.desk).map_err(refused)?;
+    Ok(bookings::of(desk, &booked))
+}
+
+/// The closure of a desk's bookings.
 fn closure(question: &Question) -> Result<String, String> {
     let setting = setting(question)?;
-    let booked = bookings::read(&setting, &question.bookings).map_err(refused)?;
+    let booked = booked(question, &setting)?;
     let grid = typing::closure::closure(&setting, &booked);
     Ok(cells::shown(&grid, setting.template.shapes()))
 }
@@ -205,13 +215,14 @@ fn judged(question: &Question) -> String {
         template,
         script,
         bookings,
+        desk,
         grid,
         ..
     } = question;
-    judge::answer(judge_by_choices(template, script, bookings, grid))
+    judge::answer(judge_by_choices(template, script, bookings, *desk, grid))
 }
 
-/// Whether the typing of a question is sound, holds the bookings, or lies between two others.
+/// Whether the typing of a question is sound, holds a desk's bookings, or lies between two others.
 fn about_typing(question: &Question) -> Result<String, String> {
     let setting = setting(question)?;
     let grid = sized(&setting, &question.typing)?;
@@ -221,7 +232,7 @@ fn about_typing(question: &Question) -> Result<String, String> {
             false => "not sound",
         },
         Operation::Holds => {
-            let booked = bookings::read(&setting, &question.bookings).map_err(refused)?;
+            let booked = booked(question, &setting)?;
             match met::holds(&setting, grid, &booked) {
                 true => "holds",
                 false => "does not hold",

@@ -27,13 +27,13 @@ pub enum Operation {
     Input,
     /// The grid after a round of the largest typing.
     Round,
-    /// The closure of bookings.
+    /// The closure of a desk's bookings.
     Closure,
     /// Whether a pair is met under a typing.
     Met,
     /// Whether a typing is sound.
     Sound,
-    /// Whether a typing holds bookings.
+    /// Whether a typing holds a desk's bookings.
     Holds,
     /// Whether a typing lies between two others.
     Between,
@@ -44,7 +44,7 @@ pub enum Operation {
 }
 
 /// The columns that ask, in the order of this list, and what they ask.
-const ASKED: [(&str, Operation); 17] = [
+const ASKED: [(&str, Operation); 21] = [
     ("template", Operation::Template),
     ("template counts", Operation::Fit),
     ("template shape counts", Operation::Fit),
@@ -52,21 +52,25 @@ const ASKED: [(&str, Operation); 17] = [
     ("template script card", Operation::Links),
     ("template script bytes", Operation::Largest),
     ("template script bookings bytes", Operation::Smallest),
+    ("template script bookings desk bytes", Operation::Smallest),
     ("template script bookings", Operation::Sheet),
     ("input", Operation::Input),
     ("template script round", Operation::Round),
     ("template script closure", Operation::Closure),
+    ("template script desk closure", Operation::Closure),
     ("template script shape card typing", Operation::Met),
     ("template script typing", Operation::Sound),
     ("template script bookings typing", Operation::Holds),
+    ("template script bookings desk typing", Operation::Holds),
     ("template script typing lower upper", Operation::Between),
     ("template script bookings grid", Operation::Judge),
+    ("template script bookings desk grid", Operation::Judge),
     ("template script bookings words", Operation::Tidy),
 ];
 
 /// The columns that ask, in the order in which `ASKED` names them.
-const COLUMNS: [&str; 15] = [
-    "input", "template", "script", "bookings", "shape", "counts", "card", "bytes", "round", "typing",
+const COLUMNS: [&str; 16] = [
+    "input", "template", "script", "bookings", "desk", "shape", "counts", "card", "bytes", "round", "typing",
     "lower", "upper", "closure", "grid", "words",
 ];
 
@@ -84,6 +88,8 @@ pub struct Question {
     pub script: Vec<u16>,
     /// The bookings' words.
     pub bookings: Vec<u16>,
+    /// The desk that is asked for; 0 if there is no column for it.
+    pub desk: u16,
     /// A count for each kind each way.
     pub counts: Vec<u16>,
     /// A shape.
@@ -200,6 +206,7 @@ impl Question {
             "template" => self.template = cells::words(names, cell)?,
             "script" => self.script = cells::words(names, cell)?,
             "bookings" | "closure" => self.bookings = cells::words(names, cell)?,
+            "desk" => self.desk = cells::number(cell)?,
             "counts" => self.counts = cells::words(names, cell)?,
             "shape" => self.shape = cells::number(cell)?,
             "card" => self.card = cells::number(cell)?,

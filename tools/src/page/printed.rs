@@ -7,7 +7,7 @@ use crate::labels::Labelled;
 use crate::numbers::Shape;
 use crate::sheet::Files;
 use crate::template;
-use crate::typing::{bookings, Setting};
+use crate::typing::{asked, bookings, Setting};
 
 /// The input whose sheet tells the answer, if there is one.
 pub fn input(question: &Question) -> Option<Vec<u8>> {
@@ -23,11 +23,11 @@ pub fn input(question: &Question) -> Option<Vec<u8>> {
             bookings: vec![0],
             ..files
         },
-        Operation::Largest if size_is_right(question) => Files {
+        Operation::Largest if is_asked_rightly(question) => Files {
             bookings: vec![0],
             ..files
         },
-        Operation::Smallest if size_is_right(question) => files,
+        Operation::Smallest if is_asked_rightly(question) => files,
         Operation::Sheet => files,
         Operation::Input => return Some(question.input.clone()),
         _ => return None,
@@ -48,13 +48,17 @@ pub fn said(question: &Question, text: &str) -> String {
     if is_refused(text) {
         return lines(text);
     }
-    let (largest, smallest) = text.split_at(text.find("smallest").unwrap_or(text.len()));
+    // The largest typing, and each desk's smallest.
+    let mut parts = text.split("smallest").map(lines);
+    let largest = parts.next().unwrap_or_default();
+    let smallest: Vec<String> = parts.map(|part| format!("smallest{part}")).collect();
+    let of_desk = |desk: u16| smallest.get(usize::from(desk)).cloned().unwrap_or_default();
     match question.operation {
         Operation::Template | Operation::Script => "accepted".to_string(),
-        Operation::Fit if smallest == "smallest no 0 0\n" => "no".to_string(),
-        Operation::Fit if !smallest.starts_with("smallest no") => "yes".to_string(),
-        Operation::Largest => lines(largest),
-        Operation::Smallest => lines(smallest),
+        Operation::Fit if of_desk(0) == "smallest no 0 0" => "no".to_string(),
+        Operation::Fit if !of_desk(0).starts_with("smallest no") => "yes".to_string(),
+        Operation::Largest => largest,
+        Operation::Smallest => of_desk(question.desk),
         _ => lines(text),
     }
 }
@@ -63,14 +67,15 @@ fn is_refused(text: &str) -> bool {
     text.starts_with("refused ")
 }
 
-/// Whether the lent grid has the right size, or something is refused before its size is: a printer lends its own.
-fn size_is_right(question: &Question) -> bool {
+/// Whether the desk and the size of the lent grid are right, or something is refused before them: a printer asks for
+/// both desks and lends its own grids.
+fn is_asked_rightly(question: &Question) -> bool {
     let Ok(setting) = Setting::read(&question.template, &question.script) else {
         return true;
     };
     let is_booked = question.operation == Operation::Smallest;
     let bookings_are_refused = is_booked && bookings::read(&setting, &question.bookings).is_err();
-    bookings_are_refused || question.bytes == setting.size()
+    bookings_are_refused || asked(question.desk).is_ok() && question.bytes == setting.size()
 }
 
 /// A sheet whose bookings are met exactly if the counts fit; none if something is refused or there are too many.

@@ -1,12 +1,14 @@
-//! A sheet that was loaded and run: its text, its words and both typings.
+//! A sheet that was loaded and run: its text, its words and its typings.
 
 use super::compile::Compiled;
 use super::form::Form;
 use super::load::load_text;
 use super::{report, Spot, Text};
-use crate::typing::{Both, Pair, Setting, Smallest};
+use crate::desk::Desk;
+use crate::typing::bookings::{self, Booking};
+use crate::typing::{Pair, Setting, Smallest, Typings};
 
-/// A sheet with its words and both typings.
+/// A sheet with its words and its typings.
 #[derive(Clone, Debug)]
 pub struct Sheet {
     /// Its text; a sheet of words has numbers for names.
@@ -15,10 +17,10 @@ pub struct Sheet {
     pub compiled: Compiled,
     /// Its template and script.
     pub setting: Setting,
-    /// Its bookings.
-    pub booked: Vec<Pair>,
+    /// Its bookings, those of both desks.
+    pub booked: Vec<Booking>,
     /// Its typings.
-    pub both: Both,
+    pub typings: Typings,
     /// For each card, whether it is blank: no link starts at it and none leads to it.
     pub blank: Vec<bool>,
     /// What it was loaded from.
@@ -36,9 +38,31 @@ impl Sheet {
         grid[self.setting.place(pair)] == 1
     }
 
-    /// The pair of refusal 50, if there is one.
-    pub fn not_met(&self) -> Option<Pair> {
-        match self.both.smallest.0 {
+    /// What a desk books.
+    pub fn booked_by(&self, desk: Desk) -> Vec<Pair> {
+        bookings::of(desk, &self.booked)
+    }
+
+    /// Whether a desk's smallest typing has the pair.
+    pub fn needed_by(&self, desk: Desk, pair: Pair) -> bool {
+        self.has(&self.typings.smallest[desk.index()].1, pair)
+    }
+
+    /// The desks whose bookings can't be met, each with the pair of refusal 50.
+    pub fn all_not_met(&self) -> impl Iterator<Item = (Desk, Pair)> + '_ {
+        Desk::BOTH
+            .into_iter()
+            .filter_map(|desk| Some((desk, self.not_met(desk)?)))
+    }
+
+    /// Whether all that both desks book is met.
+    pub fn is_met(&self) -> bool {
+        self.all_not_met().next().is_none()
+    }
+
+    /// A desk's pair of refusal 50, if there is one.
+    pub fn not_met(&self, desk: Desk) -> Option<Pair> {
+        match self.typings.smallest[desk.index()].0 {
             Smallest::NotMet(card, shape) => Some((card, shape)),
             Smallest::Pairs(_) => None,
         }
@@ -46,8 +70,8 @@ impl Sheet {
 
     /// Whether a card has no shape in the largest typing.
     fn shapeless(&self, card: usize) -> bool {
-        let shapes = usize::from(self.both.shapes);
-        let row = &self.both.largest.1[card * shapes..(card + 1) * shapes];
+        let shapes = usize::from(self.typings.shapes);
+        let row = &self.typings.largest.1[card * shapes..(card + 1) * shapes];
         row.iter().all(|byte| *byte == 0)
     }
 

@@ -3,7 +3,8 @@
 //! twice, files too long to be counted. All else is left to the readers of the words.
 
 use super::nearest::nearest;
-use super::{Expression, Fault, LinkExpression, Name, ShapeLine, Spot, Text};
+use super::{BookLine, Expression, Fault, LinkExpression, Name, ShapeLine, Spot, Text};
+use crate::desk::Desk;
 use crate::labels::Way;
 use crate::sheet::Files;
 use crate::template::{CHOICE, INCOMING, NOTHING, NO_LIMIT, OPEN, OUTGOING, PLUS, STAR};
@@ -223,10 +224,13 @@ impl Compiler<'_> {
 
     fn bookings(&self, text: &Text) -> Result<Section, Fault> {
         let mut section = Section::default();
-        let spot = overflow(text.bookings.iter().map(|names| &names[0]), 1024);
+        let spot = overflow(text.bookings.iter().map(|booking| &booking.card), 1024);
         section.push(count(text.bookings.len(), spot)?, spot, "the count of bookings");
-        for [card, shape] in &text.bookings {
-            let of = format!("the booking {} {}", card.text, shape.text);
+        for BookLine { desk, card, shape } in &text.bookings {
+            let written = desk.map_or(String::new(), |(number, _)| format!("{number} "));
+            let of = format!("the booking {written}{} {}", card.text, shape.text);
+            let (number, spot) = desk.unwrap_or((Desk::Radio.number(), card.spot));
+            section.push(number, spot, format!("the desk of {of}"));
             let number = find(&self.cards, "card", card)?;
             section.push(number, card.spot, format!("the card of {of}"));
             let number = find(&self.shapes, "shape", shape)?;

@@ -20,6 +20,7 @@ fn tell_word(compiled: &Compiled, refusal: Refusal) -> Told {
         1..=12 | 64 => ("template", &compiled.template),
         20..=25 => ("script", &compiled.script),
         30..=33 | 63 | 65 => ("bookings", &compiled.bookings),
+        66 if refusal.place > 0 => ("bookings", &compiled.bookings),
         _ => return Told::without_word(refusal, None),
     };
     let Some(origin) = section.origins.get(refusal.place) else {

@@ -40,11 +40,12 @@ pub fn hint(compiled: &Compiled, refusal: Refusal) -> Option<String> {
         // A text gives whole files, so its words can only be too many.
         60 => format!("its words take {} bytes", compiled.files().bytes().len()),
         65 => booked_before(compiled, place)?,
+        66 => "`book` takes 0 or no number for the radio, and 1 for the television".to_string(),
         _ => return None,
     })
 }
 
-/// Where the pair that is booked at a place is booked first.
+/// Where the desk that books a pair at a place books it first.
 fn booked_before(compiled: &Compiled, place: usize) -> Option<String> {
     let first = first_place(&compiled.bookings.words, place)?;
     let spot = compiled.bookings.origins[first].spot;

@@ -9,35 +9,45 @@ use super::sentences::{a_shape, because, called, far_cards, wrong};
 use super::told::Told;
 use super::trouble::place;
 use super::{explain, roles};
+use crate::desk::Desk;
 use crate::numbers::{Card, Shape};
 use crate::refusal::Refusal;
+use crate::typing::asked;
 use crate::typing::judge::{judged, Judged};
 use crate::typing::met::Need;
 use crate::typing::Pair;
 
-/// What is said about a grid of a sheet, and whether it is accepted.
-pub fn report(sheet: &Sheet, file: &str, grid_file: &str, grid: &[u8]) -> (String, bool) {
-    match judged(&sheet.setting, &sheet.booked, grid) {
-        Ok(Judged::Accepted) => (accepted(sheet, file, grid), true),
+/// What is said about a grid of a sheet and the bookings of the desk with this number, and whether it is accepted.
+pub fn report(sheet: &Sheet, file: &str, desk: u16, (grid_file, grid): (&str, &[u8])) -> (String, bool) {
+    let desk = match asked(desk) {
+        Ok(desk) => desk,
+        Err(refusal) => {
+            let note = format!("the desk that is asked for is {desk}");
+            return (line(file, Told::without_word(refusal, Some(note))), false);
+        }
+    };
+    match judged(&sheet.setting, (desk, &sheet.booked), grid) {
+        Ok(Judged::Accepted) => (accepted(sheet, file, desk, grid), true),
         Ok(Judged::NotMet(card, shape)) => (not_met(sheet, file, grid, (card, shape)), false),
         Err(refusal) => (refused(sheet, file, grid_file, grid, refusal), false),
     }
 }
 
 /// What it means that a grid is accepted, and how many pairs it and the two typings have.
-fn accepted(sheet: &Sheet, file: &str, grid: &[u8]) -> String {
-    let holds = match sheet.booked.len() {
-        0 => "; nothing is booked".to_string(),
-        1 => " that holds the one booking".to_string(),
-        count => format!(" that holds all {count} bookings"),
+fn accepted(sheet: &Sheet, file: &str, desk: Desk, grid: &[u8]) -> String {
+    let name = desk.name();
+    let holds = match sheet.booked_by(desk).len() {
+        0 => format!("; nothing is booked by {name}"),
+        1 => format!(" that holds the one booking of {name}"),
+        count => format!(" that holds all {count} bookings of {name}"),
     };
     let pairs = |grid: &[u8]| grid.iter().filter(|byte| **byte == 1).count();
     format!(
         "{file}: the grid is accepted: a sound typing{holds}\n  \
          it has {}; the smallest typing has {}, the largest {}\n",
         counted(pairs(grid), "pair"),
-        pairs(&sheet.both.smallest.1),
-        pairs(&sheet.both.largest.1)
+        pairs(&sheet.typings.smallest[desk.index()].1),
+        pairs(&sheet.typings.largest.1)
     )
 }
 
@@ -120,9 +130,12 @@ fn byte(sheet: &Sheet, refusal: Refusal, value: &str) -> Told {
 
 /// Refusal 63: the booking that isn't held.
 fn booking(sheet: &Sheet, refusal: Refusal) -> Told {
-    let (card, shape) = sheet.booked[(refusal.place - 1) / 2];
+    let (desk, (card, shape)) = sheet.booked[(refusal.place - 2) / 3];
     let (who, what) = (sheet.text.card_title(card.index()), a_shape(&sheet.text, shape));
-    let note = format!("{who} is booked as {what} and isn't one in the grid");
+    let note = format!(
+        "{who} is booked by {} as {what} and isn't one in the grid",
+        desk.name()
+    );
     let told = match sheet.form {
         Form::Text => explain::tell(&sheet.compiled, refusal),
         Form::Words => roles::tell(&sheet.compiled.files(), refusal),

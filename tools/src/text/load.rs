@@ -9,7 +9,8 @@ use super::trouble::{Trouble, Why};
 use super::{explain, roles, write, Fault, Spot, Text};
 use crate::refusal::Refusal;
 use crate::sheet::{self, Files};
-use crate::typing::{self, bookings, Setting};
+use crate::typing::bookings::Booking;
+use crate::typing::{self, Setting, Typings};
 
 /// The sheet in the bytes of a file, run; or why there is none.
 pub fn load_sheet(file: &str, bytes: &[u8]) -> Result<Sheet, Trouble> {
@@ -105,19 +106,18 @@ fn of_words(bytes: &[u8]) -> Result<Sheet, Told> {
 /// Files that were read and run.
 struct Read {
     setting: Setting,
-    booked: Vec<typing::Pair>,
-    both: typing::Both,
+    booked: Vec<Booking>,
+    typings: Typings,
 }
 
 impl Read {
     fn of(files: &Files) -> Result<Read, Refusal> {
-        let setting = Setting::read(&files.template, &files.script)?;
-        let booked = bookings::read(&setting, &files.bookings)?;
-        let both = typing::both(&files.template, &files.script, &files.bookings)?;
+        let (setting, booked) = typing::read(&files.template, &files.script, &files.bookings)?;
+        let typings = typing::typings(&files.template, &files.script, &files.bookings)?;
         Ok(Read {
             setting,
             booked,
-            both,
+            typings,
         })
     }
 
@@ -128,7 +128,7 @@ impl Read {
             blank: self.setting.script.blank(),
             setting: self.setting,
             booked: self.booked,
-            both: self.both,
+            typings: self.typings,
             form,
         }
     }

@@ -11,6 +11,7 @@ use super::sentences::{because, wrong};
 use super::told::Told;
 use super::trouble::{Trouble, Why};
 use super::Spot;
+use crate::desk::Desk;
 use crate::labels::{Label, Way};
 use crate::numbers::{Card, Shape};
 use crate::typing::{Pair, Smallest};
@@ -18,24 +19,19 @@ use crate::typing::{Pair, Smallest};
 /// The outcome of a sheet.
 pub fn outcome(sheet: &Sheet, file: &str) -> Json {
     let roots = Roots::new(&sheet.setting);
-    let not_met = all_not_met(sheet, &roots);
-    let outcome = if not_met.is_empty() { "met" } else { "unmet" };
-    let others = Json::list(not_met.iter().skip(1), |reason| {
-        Json::Fields(unmet_fields(sheet, reason))
-    });
+    let outcome = if sheet.is_met() { "met" } else { "unmet" };
     let mut fields = vec![
         ("file", Json::text(file)),
         ("form", form(sheet.form)),
         ("outcome", Json::text(outcome)),
     ];
     fields.extend(contents(sheet));
-    fields.extend(answers(sheet));
     fields.extend([
+        ("largest", largest(sheet)),
         (
-            "unmet",
-            Json::maybe(not_met.first(), |reason| unmet(sheet, reason)),
+            "desks",
+            Json::list(Desk::BOTH, |desk| of_desk(sheet, &roots, desk)),
         ),
-        ("also_unmet", others),
         (
             "bare",
             Json::list(bare(sheet, &roots), |card| bare_card(sheet, card)),
@@ -51,7 +47,11 @@ pub fn outcome(sheet: &Sheet, file: &str) -> Json {
 /// What is in the sheet, apart from its cards.
 fn contents(sheet: &Sheet) -> [(&'static str, Json); 5] {
     let text = &sheet.text;
-    let booked = Json::list(&sheet.booked, |pair| Json::Fields(pair_fields(sheet, *pair)));
+    let booked = Json::list(&sheet.booked, |(desk, pair)| {
+        let mut fields = desk_fields(*desk);
+        fields.extend(pair_fields(sheet, *pair));
+        Json::Fields(fields)
+    });
     [
         ("title", Json::maybe(text.title.as_deref(), Json::text)),
         ("kinds", Json::list(&text.kinds, |name| Json::text(&name.text))),
@@ -64,19 +64,44 @@ fn contents(sheet: &Sheet) -> [(&'static str, Json); 5] {
     ]
 }
 
-/// The answers for both typings; null for the smallest if the bookings aren't met.
-fn answers(sheet: &Sheet) -> [(&'static str, Json); 2] {
-    let (largest, _) = sheet.both.largest;
-    let smallest = match sheet.both.smallest.0 {
-        Smallest::Pairs(pairs) => Json::Fields(vec![("pairs", Json::count(pairs))]),
-        Smallest::NotMet(..) => Json::Null,
-    };
-    let largest = Json::Fields(vec![
+/// The answer for the largest typing.
+fn largest(sheet: &Sheet) -> Json {
+    let (largest, _) = sheet.typings.largest;
+    Json::Fields(vec![
         ("rounds", Json::count(largest.rounds)),
         ("struck", Json::count(largest.struck)),
         ("bare", Json::count(largest.bare)),
+    ])
+}
+
+/// A desk's smallest typing, null if what it books can't be met, and what can't.
+fn of_desk(sheet: &Sheet, roots: &Roots, desk: Desk) -> Json {
+    let smallest = match sheet.typings.smallest[desk.index()].0 {
+        Smallest::Pairs(pairs) => Json::Fields(vec![("pairs", Json::count(pairs))]),
+        Smallest::NotMet(..) => Json::Null,
+    };
+    let not_met = all_not_met(sheet, roots, desk);
+    let others = Json::list(not_met.iter().skip(1), |reason| {
+        Json::Fields(unmet_fields(sheet, reason))
+    });
+    let mut fields = desk_fields(desk);
+    fields.extend([
+        ("smallest", smallest),
+        (
+            "unmet",
+            Json::maybe(not_met.first(), |reason| unmet(sheet, desk, reason)),
+        ),
+        ("also_unmet", others),
     ]);
-    [("largest", largest), ("smallest", smallest)]
+    Json::Fields(fields)
+}
+
+/// A desk: its number and its name.
+fn desk_fields(desk: Desk) -> Vec<(&'static str, Json)> {
+    vec![
+        ("desk", Json::count(desk.index())),
+        ("desk_name", Json::text(desk.name())),
+    ]
 }
 
 /// Why a file isn't a sheet.
@@ -150,10 +175,10 @@ fn label_fields(sheet: &Sheet, label: Label) -> Vec<(&'static str, Json)> {
     ]
 }
 
-/// The pair of 50, and the path to it from a booking, which is the first pair of the path.
-fn unmet(sheet: &Sheet, reason: &Reason) -> Json {
+/// A desk's pair of 50, and the path to it from a booking of that desk, which is the first pair of the path.
+fn unmet(sheet: &Sheet, desk: Desk, reason: &Reason) -> Json {
     let mut fields = unmet_fields(sheet, reason);
-    let steps = path(&sheet.setting, &sheet.booked, reason.pair).unwrap_or_default();
+    let steps = path(&sheet.setting, &sheet.booked_by(desk), reason.pair).unwrap_or_default();
     let steps = Json::list(steps, |(asking, label)| {
         let mut step = pair_fields(sheet, asking);
         step.extend(label_fields(sheet, label));
@@ -210,11 +235,11 @@ fn lack(sheet: &Sheet, lack: &Lack) -> Json {
     Json::Fields(fields)
 }
 
-/// A card and its shapes in both typings.
+/// A card and its shapes in the largest typing and in each desk's smallest.
 fn card(sheet: &Sheet, number: usize) -> Json {
     let (name, title) = &sheet.text.cards[number];
     let shapes = |grid: &[u8]| {
-        let all = (0..sheet.both.shapes).map(Shape);
+        let all = (0..sheet.typings.shapes).map(Shape);
         let has = all.filter(|shape| sheet.has(grid, (Card(number as u16), *shape)));
         Json::list(has, |shape| Json::text(sheet.text.shape_name(shape.index())))
     };
@@ -223,7 +248,8 @@ fn card(sheet: &Sheet, number: usize) -> Json {
         ("title", Json::maybe(title.as_deref(), Json::text)),
     ];
     fields.extend(place(sheet.card_spot(number)));
-    fields.push(("largest", shapes(&sheet.both.largest.1)));
-    fields.push(("smallest", shapes(&sheet.both.smallest.1)));
+    fields.push(("largest", shapes(&sheet.typings.largest.1)));
+    let smallest = Json::list(&sheet.typings.smallest, |(_, grid)| shapes(grid));
+    fields.push(("smallest", smallest));
     Json::Fields(fields)
 }

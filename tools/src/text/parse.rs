@@ -2,7 +2,7 @@
 //! they are read, so that no text, however deep, is a danger to those who walk over its parts.
 
 use super::tokens::{tokens, Placed, Token};
-use super::{Expression, Fault, LinkExpression, Name, ShapeLine, Spot, Text};
+use super::{BookLine, Expression, Fault, LinkExpression, Name, ShapeLine, Spot, Text};
 use crate::labels::Way;
 use crate::template::{ALL, CHOICE, NO_LIMIT, OPTIONAL, PLUS, STAR};
 
@@ -140,11 +140,7 @@ impl Parser<'_> {
                 text.cards.push((name, title));
             }
             "link" => self.links(text)?,
-            "book" => {
-                let card = self.name("a card")?;
-                let shape = self.name("a shape")?;
-                text.bookings.push([card, shape]);
-            }
+            "book" => self.booking(text)?,
             other => {
                 let known = "title, kinds, shape, open shape, card, link or book";
                 let message = format!("a line starts with {known}, not with `{other}`");
@@ -184,6 +180,22 @@ impl Parser<'_> {
             }
             to = self.name("a card")?;
         }
+    }
+
+    /// A desk, if there is a number, a card and a shape. No name is only digits, so a number can't be a card.
+    fn booking(&mut self, text: &mut Text) -> Result<(), Fault> {
+        let desk = match self.peek().clone() {
+            (Token::Number(number), spot) => {
+                self.next += 1;
+                let too_high = |_| Fault::at(spot, format!("no word can say the desk {number}"));
+                Some((u16::try_from(number).map_err(too_high)?, spot))
+            }
+            _ => None,
+        };
+        let card = self.name("a card")?;
+        let shape = self.name("a shape")?;
+        text.bookings.push(BookLine { desk, card, shape });
+        Ok(())
     }
 
     /// A part: a simple one, then any of `*`, `+` and `?`.

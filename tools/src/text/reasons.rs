@@ -3,6 +3,7 @@
 use super::check::Sheet;
 use super::misfit::{misfit, Misfit};
 use super::roots::Roots;
+use crate::desk::Desk;
 use crate::labels::Label;
 use crate::numbers::{Card, Shape};
 use crate::typing::met::{chosen_for, needs, Need};
@@ -38,7 +39,7 @@ pub fn reason(sheet: &Sheet, roots: &Roots, pair: Pair) -> Option<Reason> {
     let own = own_misfit(&sheet.setting, pair);
     let distance = own.as_ref().map_or(0, Misfit::distance);
     let needed = asked_for(&sheet.setting, pair);
-    let is_missing = |need: &&Need| !sheet.has(&sheet.both.largest.1, need.1);
+    let is_missing = |need: &&Need| !sheet.has(&sheet.typings.largest.1, need.1);
     let far = needed.iter().filter(is_missing).count() as u64;
     Some(Reason {
         pair,
@@ -55,7 +56,7 @@ pub fn reason(sheet: &Sheet, roots: &Roots, pair: Pair) -> Option<Reason> {
 /// Why a card has none of the shapes, the nearest shape first.
 pub fn reasons(sheet: &Sheet, roots: &Roots, card: usize) -> Vec<Reason> {
     let card = Card(card as u16);
-    let shapes = (0..sheet.both.shapes).map(Shape);
+    let shapes = (0..sheet.typings.shapes).map(Shape);
     let mut reasons: Vec<Reason> = shapes
         .filter_map(|shape| reason(sheet, roots, (card, shape)))
         .collect();
@@ -63,10 +64,10 @@ pub fn reasons(sheet: &Sheet, roots: &Roots, card: usize) -> Vec<Reason> {
     reasons
 }
 
-/// Why pairs that bookings ask for aren't met, in the order of the pairs; the first is that of 50. Only those whose
-/// own links don't fit are told, because the others lead to one of them.
-pub fn all_not_met(sheet: &Sheet, roots: &Roots) -> Vec<Reason> {
-    let closure = closure::closure(&sheet.setting, &sheet.booked);
+/// Why pairs that a desk's bookings ask for aren't met, in the order of the pairs; the first is that of 50. Only those
+/// whose own links don't fit are told, because the others lead to one of them.
+pub fn all_not_met(sheet: &Sheet, roots: &Roots, desk: Desk) -> Vec<Reason> {
+    let closure = closure::closure(&sheet.setting, &sheet.booked_by(desk));
     let asked = sheet.setting.pairs().filter(|pair| sheet.has(&closure, *pair));
     asked
         .filter_map(|pair| reason(sheet, roots, pair))

@@ -6,24 +6,17 @@ use super::reasons::{all_not_met, path, reason, reasons, Reason};
 use super::roots::Roots;
 use super::sentences::{a_shape, because, booked_by, cannot};
 use super::trouble::place;
+use crate::desk::Desk;
 use crate::typing::{Pair, Smallest};
 
 /// The outcome in words.
 pub fn report(sheet: &Sheet, file: &str) -> String {
     let roots = Roots::new(&sheet.setting);
     let mut report = head(sheet, file);
-    if let Smallest::Pairs(pairs) = sheet.both.smallest.0 {
-        report += &format!("smallest: {}, each of them met\n", counted(pairs, "pair"));
+    for desk in Desk::BOTH {
+        report += &smallest(sheet, &roots, file, desk);
     }
-    for (order, reason) in all_not_met(sheet, &roots).iter().enumerate() {
-        if order == 0 {
-            report += &not_met(sheet, &roots, file, reason.pair);
-        } else {
-            let start = place(file, sheet.card_spot(reason.pair.0.index()));
-            report += &format!("{start}: {}\n", cannot(&sheet.text, reason));
-        }
-    }
-    let (largest, _) = &sheet.both.largest;
+    let (largest, _) = &sheet.typings.largest;
     let (rounds, struck) = (counted(largest.rounds, "round"), counted(largest.struck, "pair"));
     report += &format!("largest: {rounds}, {struck} struck\n");
     for (card, reasons) in bare(sheet, &roots) {
@@ -32,9 +25,27 @@ pub fn report(sheet: &Sheet, file: &str) -> String {
     report
 }
 
+/// A desk's smallest typing, or what its bookings ask for and can't be met.
+fn smallest(sheet: &Sheet, roots: &Roots, file: &str, desk: Desk) -> String {
+    let start = format!("smallest for {}", desk.name());
+    if let Smallest::Pairs(pairs) = sheet.typings.smallest[desk.index()].0 {
+        return format!("{start}: {}, each of them met\n", counted(pairs, "pair"));
+    }
+    let mut told = format!("{start}: none, as not all that it books can be met\n");
+    for (order, reason) in all_not_met(sheet, roots, desk).iter().enumerate() {
+        if order == 0 {
+            told += &not_met(sheet, roots, file, reason.pair, &[desk]);
+        } else {
+            let start = place(file, sheet.card_spot(reason.pair.0.index()));
+            told += &format!("{start}: {}\n", cannot(&sheet.text, reason));
+        }
+    }
+    told
+}
+
 /// What there is, and how many of the cards that aren't blank have no shape.
 fn head(sheet: &Sheet, file: &str) -> String {
-    let bare = sheet.both.largest.0.bare;
+    let bare = sheet.typings.largest.0.bare;
     let linked = sheet.blank.iter().filter(|blank| !**blank).count();
     format!(
         "{file}: {}, {}, {}; of the cards with links, {bare} of {linked} {} no shape\n",
@@ -59,25 +70,42 @@ pub fn bare(sheet: &Sheet, roots: &Roots) -> Vec<(usize, Vec<Reason>)> {
     bare
 }
 
-/// A pair that bookings may ask for, and why it isn't met: 50, or why it can't be 50.
-pub fn not_met(sheet: &Sheet, roots: &Roots, file: &str, pair: Pair) -> String {
+/// A pair that bookings of these desks may ask for, and why it isn't met: 50, or why it can't be 50.
+pub fn not_met(sheet: &Sheet, roots: &Roots, file: &str, pair: Pair, desks: &[Desk]) -> String {
     let (text, (card, shape)) = (&sheet.text, pair);
     let start = place(file, sheet.card_spot(card.index()));
     let Some(reason) = reason(sheet, roots, pair) else {
         let who = text.card_title(card.index());
         return format!("{start}: {who} can be {}\n", a_shape(text, shape));
     };
-    let mut told = format!("{start}: {}\n", cannot(text, &reason));
-    if sheet.not_met() == Some(pair) {
-        let name = &text.cards[card.index()].0.text;
-        let shape_name = text.shape_name(shape.index());
+    let asked: Vec<String> = desks
+        .iter()
+        .filter_map(|desk| asked_by(sheet, *desk, pair))
+        .collect();
+    let cannot = cannot(text, &reason);
+    match &asked[..] {
+        [] => format!("{start}: {cannot}\n  no booking asks for this\n"),
+        asked => format!("{start}: {cannot}\n{}", asked.concat()),
+    }
+}
+
+/// How a desk's bookings ask for a pair, and whether it is the pair of that desk's 50; none if they don't.
+fn asked_by(sheet: &Sheet, desk: Desk, pair: Pair) -> Option<String> {
+    let (text, (card, shape)) = (&sheet.text, pair);
+    let steps = path(&sheet.setting, &sheet.booked_by(desk), pair)?;
+    let mut told = String::new();
+    if sheet.not_met(desk) == Some(pair) {
         told += &format!(
-            "  refused 50 {} {}: the bookings ask for {name} to have shape {shape_name}\n",
-            card.0, shape.0
+            "  refused 50 {} {} for {}: its bookings ask for {} to have shape {}\n",
+            card.0,
+            shape.0,
+            desk.name(),
+            text.cards[card.index()].0.text,
+            text.shape_name(shape.index())
         );
     }
-    let steps = path(&sheet.setting, &sheet.booked, pair);
-    told + &format!("  {}\n", booked_by(text, steps.as_deref(), pair))
+    told += &format!("  {}\n", booked_by(text, desk, &steps, pair));
+    Some(told)
 }
 
 /// A card with no shape, and why it hasn't any of them, the nearest first. Shapes with the same reason share a line;

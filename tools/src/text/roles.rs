@@ -6,18 +6,34 @@ use crate::refusal::Refusal;
 use crate::sheet::{Files, MOST_BYTES};
 use crate::template::{label_of, CHOICE, MOST_DEPTH, NOTHING, OPEN, OPTIONAL, PLUS, STAR};
 
-/// The file that a refusal's place is counted in: its name and its words. None for 40 to 43, 60 and 61.
+/// The file that a refusal's place is counted in: its name and its words. None for 40 to 43, 60 and 61. The place of a
+/// call's own desk, 66 at 0, isn't counted in a file.
 pub fn file_of(files: &Files, refusal: Refusal) -> Option<(&'static str, &[u16])> {
     match refusal.number {
         1..=12 | 64 => Some(("template", &files.template)),
         20..=25 => Some(("script", &files.script)),
         30..=33 | 63 | 65 => Some(("bookings", &files.bookings)),
+        66 if refusal.place > 0 => Some(("bookings", &files.bookings)),
         _ => None,
     }
 }
 
 /// A refusal of these files, with what the word at fault is for.
 pub fn tell(files: &Files, refusal: Refusal) -> Told {
+    tell_with(files, refusal, booking_role, note)
+}
+
+/// The same if the bookings are a stored list.
+pub fn tell_stored(files: &Files, refusal: Refusal) -> Told {
+    tell_with(files, refusal, stored_role, stored_note)
+}
+
+fn tell_with(
+    files: &Files,
+    refusal: Refusal,
+    booking_role: fn(usize) -> String,
+    note: fn(&[u16], Refusal) -> Option<String>,
+) -> Told {
     let Some((file, words)) = file_of(files, refusal) else {
         return Told::without_word(refusal, None);
     };
@@ -34,11 +50,34 @@ pub fn tell(files: &Files, refusal: Refusal) -> Told {
     }
 }
 
-/// What there is to say about 65 beyond the word at fault.
+/// What there is to say about 30 and 65 beyond the word at fault.
 fn note(words: &[u16], refusal: Refusal) -> Option<String> {
-    let place = (refusal.number == 65).then_some(refusal.place)?;
-    let first = first_place(words, place)?;
-    Some(format!("its pair is that of booking {}", (first - 1) / 2))
+    match refusal.number {
+        30 if has_words_each(words, 2) => {
+            let told = "it has two words for each booking, as a stored list has: `tidy` puts the desks in";
+            Some(told.to_string())
+        }
+        65 => {
+            let first = first_place(words, refusal.place)?;
+            Some(format!(
+                "its desk and its pair are those of booking {}",
+                (first - 2) / 3
+            ))
+        }
+        _ => None,
+    }
+}
+
+/// The same for a stored list, which has only 30.
+fn stored_note(words: &[u16], refusal: Refusal) -> Option<String> {
+    let has_desks = refusal.number == 30 && has_words_each(words, 3);
+    has_desks.then(|| "it has three words for each booking: the desks are there already".to_string())
+}
+
+/// Whether a list has bookings, and so many words for each.
+fn has_words_each(words: &[u16], size: usize) -> bool {
+    let count = words.first().map_or(0, |count| usize::from(*count));
+    count > 0 && words.len() == 1 + size * count
 }
 
 /// Refusal 60 of an input that can't be cut into three files, and why it can't.
@@ -197,20 +236,29 @@ pub fn script_role(place: usize) -> String {
     }
 }
 
-/// The place of the first booking of the pair that is booked at a place; none if there is no earlier one.
+/// The place of the card of the first booking with the desk and the pair of the one at a place; none if there is no
+/// earlier one.
 pub fn first_place(bookings: &[u16], place: usize) -> Option<usize> {
-    let pair = bookings.get(place..)?.first_chunk::<2>()?;
-    let mut places = (1..place).step_by(2);
-    places.find(|earlier| place % 2 == 1 && bookings[*earlier..].starts_with(pair))
+    let booking = bookings.get(place.checked_sub(1)?..)?.first_chunk::<3>()?;
+    let mut places = (2..place).step_by(3);
+    places.find(|earlier| place % 3 == 2 && bookings[earlier - 1..].starts_with(booking))
 }
 
 /// What the word at this place of the bookings is for.
 pub fn booking_role(place: usize) -> String {
-    match place {
-        0 => "the count of bookings".to_string(),
-        _ => {
-            let word = ["card", "shape"][(place - 1) % 2];
-            format!("the {word} of booking {}, counted from 0", (place - 1) / 2)
-        }
-    }
+    list_role(place, &["desk", "card", "shape"])
+}
+
+/// What the word at this place of a stored list is for.
+fn stored_role(place: usize) -> String {
+    list_role(place, &["card", "shape"])
+}
+
+/// What a word is for in a list that has these words for each booking.
+fn list_role(place: usize, words: &[&str]) -> String {
+    let Some(place) = place.checked_sub(1) else {
+        return "the count of bookings".to_string();
+    };
+    let (word, booking) = (words[place % words.len()], place / words.len());
+    format!("the {word} of booking {booking}, counted from 0")
 }

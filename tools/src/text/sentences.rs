@@ -4,6 +4,7 @@ use super::misfit::{Lack, Misfit, Taken};
 use super::reasons::{Reason, Step};
 use super::write::part_in;
 use super::{quotations, Text};
+use crate::desk::Desk;
 use crate::labels::{Label, Way};
 use crate::numbers::{Card, Shape};
 use crate::typing::met::Need;
@@ -125,18 +126,16 @@ fn taken(text: &Text, taken: &Taken) -> String {
     }
 }
 
-/// The path from a booking to a pair; arrows point where the links do.
-pub fn booked_by(text: &Text, steps: Option<&[Step]>, goal: Pair) -> String {
-    let steps = match steps {
-        None => return "no booking asks for this".to_string(),
-        Some([]) => return "this is booked".to_string(),
-        Some(steps) => steps,
-    };
+/// The path from a desk's booking to a pair; arrows point where the links do.
+pub fn booked_by(text: &Text, desk: Desk, steps: &[Step], goal: Pair) -> String {
+    if steps.is_empty() {
+        return format!("this is booked by {}", desk.name());
+    }
     let pair = |(card, shape): Pair| {
         let card = &text.cards[card.index()].0;
         format!("{} {}", card.text, text.shape_name(shape.index()))
     };
-    let mut line = "booked: ".to_string();
+    let mut line = format!("booked by {}: ", desk.name());
     for (asking, label) in steps {
         let (asking, kind) = (pair(*asking), kind(text, *label));
         line += &match label.way {

@@ -1,4 +1,5 @@
-//! A sheet with its bookings tidied. Words stay words; a text stays as it is, but for the bookings that go.
+//! A sheet with its bookings tidied. Words with a stored list become words with a booking list of desk 0. A text stays
+//! as it is, but for the bookings that go: those that repeat one of the same desk.
 
 use super::form::{form, Form};
 use super::load::compiled;
@@ -37,15 +38,15 @@ pub fn tidy(file: &str, bytes: &[u8]) -> Result<Tidied, Trouble> {
 
 fn of_words(bytes: &[u8]) -> Result<Tidied, Told> {
     let mut files = sheet::split(bytes).map_err(|_| roles::tell_input(bytes))?;
-    let stored = files.bookings.clone();
-    let written = tidying::tidy(&files.template, &files.script, &stored, &mut files.bookings);
-    files
-        .bookings
-        .truncate(written.map_err(|refusal| roles::tell(&files, refusal))?);
+    let stored = Setting::read(&files.template, &files.script)
+        .and_then(|setting| Ok((bookings::read_stored(&setting, &files.bookings)?, setting)));
+    let (stored, setting) = stored.map_err(|refusal| roles::tell_stored(&files, refusal))?;
+    let tidied = tidying::tidied(&setting, &stored);
+    files.bookings = bookings::words(&tidied);
     Ok(Tidied {
         bytes: files.bytes(),
-        bookings: stored.len() / 2,
-        dropped: (stored.len() - files.bookings.len()) / 2,
+        bookings: stored.len(),
+        dropped: stored.len() - tidied.len(),
     })
 }
 
@@ -55,7 +56,7 @@ fn of_text(bytes: &[u8]) -> Result<Tidied, Why> {
     let files = sheet::split(&compiled.files().bytes()).map_err(told)?;
     let first = firsts(&files).map_err(told)?;
     let repeats = text.bookings.iter().zip(first).filter(|(_, first)| !first);
-    let lines: BTreeSet<usize> = repeats.map(|([card, _], _)| card.spot.line).collect();
+    let lines: BTreeSet<usize> = repeats.map(|(booking, _)| booking.card.spot.line).collect();
     Ok(Tidied {
         bytes: without(bytes, &lines),
         bookings: text.bookings.len(),
@@ -63,10 +64,10 @@ fn of_text(bytes: &[u8]) -> Result<Tidied, Why> {
     })
 }
 
-/// For each booking, whether it is the first of its pair.
+/// For each booking, whether it is its desk's first of the pair.
 fn firsts(files: &Files) -> Result<Vec<bool>, Refusal> {
     let setting = Setting::read(&files.template, &files.script)?;
-    let booked = bookings::read_stored(&setting, &files.bookings)?;
+    let booked = bookings::read_with_repeats(&setting, &files.bookings)?;
     Ok(booked.iter().map(bookings::firsts(&setting)).collect())
 }
 

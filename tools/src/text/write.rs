@@ -4,9 +4,11 @@
 use super::check::Sheet;
 use super::load::load_sheet;
 use super::{quotations, Text};
+use crate::desk::Desk;
 use crate::labels::Way;
 use crate::template::{Link, Part};
-use crate::typing::{Pair, Setting};
+use crate::typing::bookings::Booking;
+use crate::typing::Setting;
 use std::fmt::Write;
 
 /// The text of an input, or the refusal in words.
@@ -42,7 +44,7 @@ pub fn sheet_text(sheet: &Sheet) -> String {
 }
 
 /// The text of a template, script and bookings that have no names.
-pub fn numbered(setting: &Setting, booked: &[Pair]) -> String {
+pub fn numbered(setting: &Setting, booked: &[Booking]) -> String {
     let named = |start: &str, count: u16| (0..count).map(|number| format!("{start}{number}")).collect();
     let names = Names {
         kinds: named("kind", setting.template.kinds),
@@ -52,7 +54,7 @@ pub fn numbered(setting: &Setting, booked: &[Pair]) -> String {
     lines(setting, booked, &names, &[])
 }
 
-fn lines(setting: &Setting, booked: &[Pair], names: &Names, titles: &[Option<&str>]) -> String {
+fn lines(setting: &Setting, booked: &[Booking], names: &Names, titles: &[Option<&str>]) -> String {
     let Names { kinds, shapes, cards } = names;
     let mut text = format!("kinds: {}\n\n", kinds.join(" "));
     for (shape, definition) in shapes.iter().zip(&setting.template.definitions) {
@@ -73,8 +75,12 @@ fn lines(setting: &Setting, booked: &[Pair], names: &Names, titles: &[Option<&st
         let _ = writeln!(text, "link {from} {} {to}", kinds[link.kind.index()]);
     }
     text.push('\n');
-    for (card, shape) in booked {
-        let _ = writeln!(text, "book {} {}", cards[card.index()], shapes[shape.index()]);
+    for (desk, (card, shape)) in booked {
+        let (card, shape) = (&cards[card.index()], &shapes[shape.index()]);
+        let _ = match desk {
+            Desk::Radio => writeln!(text, "book {card} {shape}"),
+            Desk::Television => writeln!(text, "book {} {card} {shape}", desk.number()),
+        };
     }
     text
 }

@@ -1,13 +1,15 @@
-//! *Judge a grid*: is a grid that some program made a sound typing that holds the bookings? Refusals 40 and 61 to 63,
-//! after those of the three files.
+//! *Judge a grid*: is a grid that some program made a sound typing that holds a desk's bookings? Refusals 66 for the
+//! call's desk, 40 and 61 to 63, after those of the three files.
 //!
 //! There are two methods. `judge` tests a pair by its card's counts and by the shape that is named for each link.
 //! `judge_by_choices` takes the definition at its word: every choice of shapes for the far cards is tried, and the bag
 //! is looked up among the bags of the shape's part. That is for pairs that have at most `TRIED_LINKS` links to choose
 //! for and leave at most `TRIED_CHOICES` choices; pairs beyond this line are tested as `judge` tests them.
 
+use super::bookings::Booking;
 use super::counting::Counting;
-use super::{bookings, met, Pair, Setting};
+use super::{asked, met, read, Pair, Setting};
+use crate::desk::Desk;
 use crate::numbers::{Card, Shape};
 use crate::refusal::Refusal;
 
@@ -19,7 +21,7 @@ pub const TRIED_CHOICES: usize = 729;
 /// The answer for a grid of the right size whose bytes are 0 and 1.
 #[derive(Clone, Copy, PartialEq, Eq, Debug)]
 pub enum Judged {
-    /// The grid is a sound typing that holds the bookings.
+    /// The grid is a sound typing that holds the desk's bookings.
     Accepted,
     /// Refusal 62: the lowest card, and then the lowest shape, of the pairs of the grid that aren't met under it.
     NotMet(Card, Shape),
@@ -42,9 +44,10 @@ pub fn judge(
     template: &[u16],
     script: &[u16],
     booking_words: &[u16],
+    desk: u16,
     grid: &[u8],
 ) -> Result<Judged, Refusal> {
-    judge_by(not_met, template, script, booking_words, grid)
+    judge_by(not_met, template, script, booking_words, desk, grid)
 }
 
 /// The same by trying every choice of shapes, as far as `can_be_tried` says.
@@ -52,9 +55,10 @@ pub fn judge_by_choices(
     template: &[u16],
     script: &[u16],
     booking_words: &[u16],
+    desk: u16,
     grid: &[u8],
 ) -> Result<Judged, Refusal> {
-    judge_by(not_met_by_choices, template, script, booking_words, grid)
+    judge_by(not_met_by_choices, template, script, booking_words, desk, grid)
 }
 
 fn judge_by(
@@ -62,20 +66,28 @@ fn judge_by(
     template: &[u16],
     script: &[u16],
     booking_words: &[u16],
+    desk: u16,
     grid: &[u8],
 ) -> Result<Judged, Refusal> {
-    let setting = Setting::read(template, script)?;
-    let booked = bookings::read(&setting, booking_words)?;
-    judged_by(method, &setting, &booked, grid)
+    let (setting, booked) = read(template, script, booking_words)?;
+    judged_by(method, &setting, (asked(desk)?, &booked), grid)
 }
+
+/// A desk, and the bookings of both desks.
+type Bookings<'a> = (Desk, &'a [Booking]);
 
 /// Judges a grid of a sheet that is read, by the first of the two methods.
-pub fn judged(setting: &Setting, booked: &[Pair], grid: &[u8]) -> Result<Judged, Refusal> {
-    judged_by(not_met, setting, booked, grid)
+pub fn judged(setting: &Setting, bookings: Bookings, grid: &[u8]) -> Result<Judged, Refusal> {
+    judged_by(not_met, setting, bookings, grid)
 }
 
-/// Every byte is looked at before any pair, and every pair before any booking.
-fn judged_by(method: Method, setting: &Setting, booked: &[Pair], grid: &[u8]) -> Result<Judged, Refusal> {
+/// Every byte is looked at before any pair, and every pair before any booking of the desk.
+fn judged_by(
+    method: Method,
+    setting: &Setting,
+    (desk, booked): Bookings,
+    grid: &[u8],
+) -> Result<Judged, Refusal> {
     if grid.len() != setting.size() {
         return Err(Refusal::at(40, 0));
     }
@@ -85,8 +97,9 @@ fn judged_by(method: Method, setting: &Setting, booked: &[Pair], grid: &[u8]) ->
     if let Some((card, shape)) = method(setting, grid) {
         return Ok(Judged::NotMet(card, shape));
     }
-    match booked.iter().position(|pair| grid[setting.place(*pair)] == 0) {
-        Some(booking) => Err(Refusal::at(63, 1 + 2 * booking)),
+    let is_lacking = |(whose, pair): &Booking| *whose == desk && grid[setting.place(*pair)] == 0;
+    match booked.iter().position(is_lacking) {
+        Some(booking) => Err(Refusal::at(63, 2 + 3 * booking)),
         None => Ok(Judged::Accepted),
     }
 }

@@ -1,19 +1,17 @@
-//! *Tidy bookings*: the first booking of each pair of a stored list, in the list's order. The refusals of such a list,
-//! which never has 65, and 40.
+//! *Tidy bookings*: the first booking of each pair of a stored list, in the list's order, as bookings of desk 0. The
+//! refusals of a stored list, which has neither 65 nor 66, and 40.
 
+use super::bookings::Booking;
 use super::{bookings, Pair, Setting};
+use crate::desk::Desk;
 use crate::refusal::Refusal;
 
-/// Tidies a stored list into a buffer of the same length. The answer is how many words are written; the others stay.
-pub fn tidy(
-    template: &[u16],
-    script: &[u16],
-    booking_words: &[u16],
-    buffer: &mut [u16],
-) -> Result<usize, Refusal> {
+/// Tidies a stored list into a buffer that has room for three words a booking and the count. The answer is how many
+/// words are written; the others stay.
+pub fn tidy(template: &[u16], script: &[u16], stored: &[u16], buffer: &mut [u16]) -> Result<usize, Refusal> {
     let setting = Setting::read(template, script)?;
-    let booked = bookings::read_stored(&setting, booking_words)?;
-    if buffer.len() != booking_words.len() {
+    let booked = bookings::read_stored(&setting, stored)?;
+    if buffer.len() != 1 + 3 * booked.len() {
         return Err(Refusal::at(40, 0));
     }
     let words = bookings::words(&tidied(&setting, &booked));
@@ -21,9 +19,10 @@ pub fn tidy(
     Ok(words.len())
 }
 
-/// The first booking of each pair, in the list's order.
-pub fn tidied(setting: &Setting, booked: &[Pair]) -> Vec<Pair> {
-    booked.iter().copied().filter(bookings::firsts(setting)).collect()
+/// The first booking of each pair, in the list's order, by the radio.
+pub fn tidied(setting: &Setting, stored: &[Pair]) -> Vec<Booking> {
+    let booked = bookings::by(Desk::Radio, stored).into_iter();
+    booked.filter(bookings::firsts(setting)).collect()
 }
 
 /// An answer and, behind a colon, every word of the buffer after the call.

@@ -24,10 +24,10 @@ const ONE_ARRIVES: [u16; 17] = [2, 1, 14, 17, 3, 256, 0, 0, 65535, 257, 0, 0, 65
 pub fn arriving() -> Vec<JudgeCase> {
     let two_items: &[u16] = &[3, 2, 0, 0, 1, 2, 0, 1];
     [
-        every_grid("guest", &GUESTS, &[2, 1, 0, 0, 1], &[1, 1, 1]),
+        every_grid("guest", &GUESTS, &[2, 1, 0, 0, 1], &[1, 0, 1, 1]),
         every_grid("items", &GUESTS, two_items, &[0]),
         every_grid("itself", &BOTH_ENDS, &[1, 1, 0, 0, 0], &[0]),
-        every_grid("itself-two", &TWO_SHAPES, &[1, 1, 0, 0, 0], &[1, 0, 0]),
+        every_grid("itself-two", &TWO_SHAPES, &[1, 1, 0, 0, 0], &[1, 0, 0, 0]),
         every_grid("ignored", &ONE_ARRIVES, &[3, 3, 0, 0, 0, 1, 1, 0, 2, 1, 0], &[0]),
         starts(),
         rings(),
@@ -69,6 +69,7 @@ fn rings() -> Vec<JudgeCase> {
             cases.push(JudgeCase {
                 name: format!("{name}-{}", cases.len()),
                 files: files.clone(),
+                desk: cases.len() as u16 % 2,
                 grid: has.iter().flat_map(|byte| [*byte, 1]).collect(),
             });
         }
@@ -92,7 +93,7 @@ fn hubs() -> Vec<JudgeCase> {
             format!("hub-back-{lacking}"),
             &template,
             &script,
-            &[1, 0, 0],
+            &[1, 0, 0, 0],
             &grid,
         )
     };

@@ -55,7 +55,7 @@ fn sizes() -> Vec<JudgeCase> {
         JudgeCase::new("size-of-one-2", &SMALL, &[1, 0], &[0], &[1, 1]),
         JudgeCase::new("no-cards-1", &SMALL, &[0, 0], &[0], &[0]),
         JudgeCase::new("no-cards-over", &SMALL, &[0, 0], &[0], &[2]),
-        JudgeCase::new("no-cards-booked", &SMALL, &[0, 0], &[1, 0, 0], &[]),
+        JudgeCase::new("no-cards-booked", &SMALL, &[0, 0], &[1, 0, 0, 0], &[]),
         JudgeCase::new("no-cards-wide", &wide, &[0, 0], &[0], &[]),
         JudgeCase::new("no-cards-wide-32", &wide, &[0, 0], &[0], &[0; 32]),
     ]);
@@ -79,7 +79,7 @@ fn bytes() -> Vec<JudgeCase> {
     for byte in [1, 2] {
         let grid = [vec![1; 299], vec![byte]].concat();
         let name = format!("byte-{byte}-299");
-        cases.push(JudgeCase::new(name, &SMALL, &[300, 0], &[1, 0, 0], &grid));
+        cases.push(JudgeCase::new(name, &SMALL, &[300, 0], &[1, 0, 0, 0], &grid));
     }
     cases
 }
@@ -170,16 +170,16 @@ fn hubs() -> Vec<JudgeCase> {
         if lacking > 0 {
             grid[2 * lacking + 1] = 0;
         }
-        JudgeCase::new(format!("hub-{lacking}"), &HUB, &script, &[1, 0, 0], &grid)
+        JudgeCase::new(format!("hub-{lacking}"), &HUB, &script, &[1, 0, 0, 0], &grid)
     };
     [0, 1, 40].map(case).into()
 }
 
 /// Bookings that are held, and the first, one in the middle, the last or several that aren't, 63.
 fn held() -> Vec<JudgeCase> {
-    let three: &[u16] = &[3, 0, 0, 1, 0, 3, 0];
-    let two: &[u16] = &[2, 1, 0, 2, 0];
-    let not_ascending: &[u16] = &[3, 1, 0, 0, 0, 2, 0];
+    let three: &[u16] = &[3, 0, 0, 0, 0, 1, 0, 0, 3, 0];
+    let two: &[u16] = &[2, 0, 1, 0, 0, 2, 0];
+    let not_ascending: &[u16] = &[3, 0, 1, 0, 0, 0, 0, 0, 2, 0];
     let on_cards: [(&[u16], [u8; 4]); 12] = [
         (three, [1, 1, 1, 1]),
         (three, [1, 1, 0, 1]),
@@ -196,11 +196,11 @@ fn held() -> Vec<JudgeCase> {
     ];
     // The card has another shape than the one that it is booked for, or one of the two.
     let on_shapes: [(&[u16], [u8; 2]); 5] = [
-        (&[1, 0, 1], [1, 0]),
-        (&[1, 0, 1], [0, 1]),
-        (&[2, 0, 1, 0, 0], [1, 0]),
-        (&[2, 0, 0, 0, 1], [1, 0]),
-        (&[2, 0, 0, 0, 1], [1, 1]),
+        (&[1, 0, 0, 1], [1, 0]),
+        (&[1, 0, 0, 1], [0, 1]),
+        (&[2, 0, 0, 1, 0, 0, 0], [1, 0]),
+        (&[2, 0, 0, 0, 0, 0, 1], [1, 0]),
+        (&[2, 0, 0, 0, 0, 0, 1], [1, 1]),
     ];
     let mut cases = Vec::new();
     for (bookings, grid) in on_cards {

@@ -2,6 +2,7 @@
 
 use super::samples::SMALL;
 use super::{JudgeCase, MOST_FILE_WORDS, MOST_GRID_BYTES};
+use crate::desk::Desk;
 use crate::generate::heavy::{common_kinds, dense_template, densest_open};
 use crate::generate::parts::filler;
 use crate::generate::scripts;
@@ -13,7 +14,7 @@ use crate::random::Random;
 use crate::script::{MOST_CARDS, MOST_LINKS};
 use crate::sheet::Files;
 use crate::template::{self, Link, MOST_SHAPES, MOST_WORDS};
-use crate::typing::bookings::{self, MOST_BOOKINGS};
+use crate::typing::bookings::{self, by, MOST_BOOKINGS};
 use crate::typing::Pair;
 
 /// All cases at the limits.
@@ -22,6 +23,7 @@ pub fn limits() -> Vec<JudgeCase> {
     let full = |name, way, most| JudgeCase {
         name: format!("full-{name}"),
         files: full_sheet(way, most),
+        desk: 0,
         grid: vec![1; pairs],
     };
     [
@@ -33,6 +35,7 @@ pub fn limits() -> Vec<JudgeCase> {
             JudgeCase {
                 name: "full-open-accepted".to_string(),
                 files: densest_open(),
+                desk: 0,
                 grid: vec![1; pairs],
             },
         ],
@@ -78,6 +81,7 @@ fn full_sheet(way: Way, most: u16) -> Files {
     let booked: Vec<Pair> = (0..MOST_BOOKINGS)
         .map(|card| (Card(card), Shape(card % MOST_SHAPES)))
         .collect();
+    let booked = by(Desk::Radio, &booked);
     Files {
         template: template::write(&template),
         script: scripts::words(MOST_CARDS, &links),
@@ -98,7 +102,8 @@ fn grids(pairs: usize) -> Vec<JudgeCase> {
     ]
 }
 
-/// As many cards and bookings as can be: all held, all but the first or the last; and one that is repeated.
+/// As many cards and bookings as can be, those of the television: all held, all but the first or the last; and one that
+/// is repeated.
 fn booked() -> Vec<JudgeCase> {
     let cards = [MOST_CARDS, 0];
     let last = usize::from(MOST_CARDS) - 1;
@@ -115,18 +120,13 @@ fn booked() -> Vec<JudgeCase> {
     ];
     let mut cases = Vec::new();
     for (name, list) in lists {
-        let words = bookings::words(&list);
+        let words = bookings::words(&by(Desk::Television, &list));
         let whole = vec![1; usize::from(MOST_CARDS)];
         let mut lacking = whole.clone();
         lacking[last] = 0;
         for (end, grid) in [("held", whole), ("last-card", lacking)] {
-            cases.push(JudgeCase::new(
-                format!("booked-{name}-{end}"),
-                &SMALL,
-                &cards,
-                &words,
-                &grid,
-            ));
+            let name = format!("booked-{name}-{end}");
+            cases.push(JudgeCase::new(name, &SMALL, &cards, &words, &grid).asking_for(1));
         }
     }
     cases
@@ -150,6 +150,7 @@ fn chains() -> Vec<JudgeCase> {
             cases.push(JudgeCase {
                 name: format!("{name}{end}"),
                 files: make(MOST_CARDS, closed),
+                desk: 0,
                 grid: grid.clone(),
             });
         }

@@ -9,15 +9,15 @@ use crate::samples::opened;
 /// All of these grids.
 pub fn open() -> Vec<JudgeCase> {
     [
-        every_grid("open", &TOLERANT, &ONE_MORE, &[1, 0, 0]),
+        every_grid("open", &TOLERANT, &ONE_MORE, &[1, 0, 0, 0]),
         every_grid("open-itself", &TOLERANT, &[2, 2, 0, 0, 1, 0, 1, 0], &[0]),
         every_grid("closed-itself", &STRICT, &[2, 2, 0, 0, 1, 0, 1, 0], &[0]),
-        every_grid("open-any", &ANY, &[3, 2, 0, 0, 1, 1, 0, 1], &[1, 1, 0]),
+        every_grid("open-any", &ANY, &[3, 2, 0, 0, 1, 1, 0, 1], &[1, 0, 1, 0]),
         every_grid(
             "open-guests",
             &OPEN_GUESTS,
             &[2, 3, 0, 0, 1, 0, 1, 0, 1, 1, 0],
-            &[1, 1, 1],
+            &[1, 0, 1, 1],
         ),
         hubs(),
         counts_of(opened()),
@@ -33,7 +33,7 @@ fn hubs() -> Vec<JudgeCase> {
     let script = scripts::words(42, &links);
     let grid = |target: u8| [vec![1], vec![0; 82], vec![target]].concat();
     let case = |name: &str, template: &[u16], target: u8| {
-        JudgeCase::new(name, template, &script, &[1, 0, 0], &grid(target))
+        JudgeCase::new(name, template, &script, &[1, 0, 0, 0], &grid(target))
     };
     vec![
         case("open-hub", &TOLERANT, 1),

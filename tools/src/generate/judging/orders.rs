@@ -1,4 +1,4 @@
-//! Several faults at once, so that the order of the refusals shows. Each of the seven stages has a fault that stands
+//! Several faults at once, so that the order of the refusals shows. Each of the eight stages has a fault that stands
 //! early in what it spoils and one that stands late.
 
 use super::JudgeCase;
@@ -12,16 +12,18 @@ enum Stage {
     Template,
     Script,
     Bookings,
+    Desk,
     Size,
     Bytes,
     Pairs,
     Held,
 }
 
-const STAGES: [Stage; 7] = [
+const STAGES: [Stage; 8] = [
     Stage::Template,
     Stage::Script,
     Stage::Bookings,
+    Stage::Desk,
     Stage::Size,
     Stage::Bytes,
     Stage::Pairs,
@@ -50,11 +52,12 @@ pub fn orders() -> Vec<JudgeCase> {
     cases
 }
 
-/// The worked sheet with one blank card more and a sound grid that holds both bookings, and then these faults, which
-/// stand in the order of the stages. The later ones are made first.
+/// The worked sheet with one blank card more and a sound grid that holds both bookings of the radio, between which
+/// there is one of the television that it doesn't hold; and then these faults, which stand in the order of the stages.
+/// The later ones are made first.
 fn spoiled(faults: &[Fault]) -> JudgeCase {
     let grid = [0, 0, 0, 0, 0, 1, 0, 1];
-    let bookings = [2, 2, 1, 3, 1];
+    let bookings = [3, 0, 2, 1, 1, 0, 0, 0, 3, 1];
     let mut case = JudgeCase::new("", &DOCUMENT_TEMPLATE, &DOCUMENT_SCRIPT, &bookings, &grid);
     case.files.script[0] = 4;
     for fault in faults.iter().rev() {
@@ -76,7 +79,9 @@ fn spoil(case: &mut JudgeCase, (stage, late): Fault) {
         (Stage::Script, false) => files.script[0] = MOST_CARDS + 1,
         (Stage::Script, true) => files.script[10] = 4,
         (Stage::Bookings, false) => files.bookings[0] = MOST_BOOKINGS + 1,
-        (Stage::Bookings, true) => files.bookings[4] = 2,
+        (Stage::Bookings, true) => files.bookings[9] = 2,
+        (Stage::Desk, false) => case.desk = 2,
+        (Stage::Desk, true) => case.desk = 65535,
         (Stage::Size, false) => {
             grid.remove(0);
         }
@@ -86,7 +91,7 @@ fn spoil(case: &mut JudgeCase, (stage, late): Fault) {
         // Card 1 hasn't the shape that card 0's second link asks for; card 2 has no links at all.
         (Stage::Pairs, false) => grid[0] = 1,
         (Stage::Pairs, true) => grid[4] = 1,
-        (Stage::Held, false) => files.bookings[1..3].copy_from_slice(&[1, 0]),
-        (Stage::Held, true) => files.bookings[3..5].copy_from_slice(&[1, 0]),
+        (Stage::Held, false) => files.bookings[2..4].copy_from_slice(&[1, 0]),
+        (Stage::Held, true) => files.bookings[8..10].copy_from_slice(&[1, 0]),
     }
 }

@@ -1,4 +1,4 @@
-//! Grids of sheets whose booking lists have a pair twice, or nearly so: a repeat is told before anything is said about
+//! Grids of sheets on which a desk books a pair twice, or nearly so: a repeat is told before anything is said about
 //! the grid.
 
 use super::JudgeCase;
@@ -12,13 +12,20 @@ pub fn repeats() -> Vec<JudgeCase> {
     [sheets().into_iter().map(largest).collect(), faults()].concat()
 }
 
-/// The largest typing of a sheet; an empty grid if its template or its script is refused.
+/// The largest typing of a sheet, for the desk that books there; an empty grid if its template or its script is
+/// refused.
 fn largest((name, files): (String, Files)) -> JudgeCase {
     let grid = match Setting::read(&files.template, &files.script) {
         Ok(setting) => links::largest(&setting).1,
         Err(_) => Vec::new(),
     };
-    JudgeCase { name, files, grid }
+    let desk = u16::from(name.contains("television"));
+    JudgeCase {
+        name,
+        files,
+        desk,
+        grid,
+    }
 }
 
 /// A repeat, and a grid that has each of the other faults: its size, a byte, a pair, and a booking that isn't held.
@@ -36,7 +43,7 @@ fn faults() -> Vec<JudgeCase> {
             format!("repeat-and-{name}"),
             &DOCUMENT_TEMPLATE,
             &DOCUMENT_SCRIPT,
-            &[2, 2, 1, 2, 1],
+            &[2, 0, 2, 1, 0, 2, 1],
             grid,
         )
     };

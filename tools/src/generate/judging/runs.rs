@@ -22,13 +22,19 @@ fn largest(sheets: Vec<(String, Files)>) -> Vec<JudgeCase> {
     let mut cases = Vec::new();
     for (number, (name, mut files)) in sheets.into_iter().enumerate() {
         files.bookings = vec![0];
-        if let Ok((setting, _)) = read(&files) {
+        let desk = number as u16 % 2;
+        if let Ok((setting, _)) = read(&files, desk) {
             let (_, mut grid) = links::largest(&setting);
             let lacking = grid.iter().rposition(|byte| *byte == 0);
             if let Some(place) = lacking.filter(|_| number % 2 == 1) {
                 grid[place] = 1;
             }
-            cases.push(JudgeCase { name, files, grid });
+            cases.push(JudgeCase {
+                name,
+                files,
+                desk,
+                grid,
+            });
         }
     }
     cases

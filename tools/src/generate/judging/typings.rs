@@ -2,6 +2,7 @@
 
 use super::grids::between;
 use super::{read, JudgeCase};
+use crate::desk::Desk;
 use crate::generate::arriving::GUESTS;
 use crate::generate::open::OPEN_GUESTS;
 use crate::generate::special::{chain, document};
@@ -20,34 +21,35 @@ const RANDOM_SHEETS: [usize; 2] = [4, 10];
 pub fn typings() -> Vec<JudgeCase> {
     let mut random = Random::new(11);
     let mut sheets = vec![
-        ("document", document(&[1, 2, 1])),
-        ("ring", chain(9, true)),
-        ("rings", rings()),
-        ("ring-back", chain_back(5, true)),
-        ("zigzag", zigzag(6, false)),
-        ("guests", guests(&GUESTS, false)),
-        ("open-guests", guests(&OPEN_GUESTS, true)),
+        ("document", (document(&[1, 0, 2, 1]), Desk::Radio)),
+        ("ring", (chain(9, true), Desk::Radio)),
+        ("rings", (rings(), Desk::Radio)),
+        ("ring-back", (chain_back(5, true), Desk::Radio)),
+        ("zigzag", (zigzag(6, false), Desk::Radio)),
+        ("guests", (guests(&GUESTS, false), Desk::Television)),
+        ("open-guests", (guests(&OPEN_GUESTS, true), Desk::Television)),
     ];
     let [some, more] = RANDOM_SHEETS;
     sheets.extend((0..some).map(|_| ("random", random_sheet(&mut random))));
     let mut cases = Vec::new();
-    for (number, (name, files)) in sheets.into_iter().enumerate() {
-        cases.extend(of_sheet(&mut random, &format!("{name}-{number}"), &files));
+    for (number, (name, (files, desk))) in sheets.into_iter().enumerate() {
+        cases.extend(of_sheet(&mut random, &format!("{name}-{number}"), &files, desk));
     }
     for number in 0..more {
-        let files = random_sheet(&mut random);
-        cases.extend(of_sheet(&mut random, &format!("own-{number}"), &files).drain(..2));
+        let (files, desk) = random_sheet(&mut random);
+        cases.extend(of_sheet(&mut random, &format!("own-{number}"), &files, desk).drain(..2));
     }
     cases
 }
 
-/// A sheet that is found by trying.
-fn random_sheet(random: &mut Random) -> Files {
+/// A sheet that is found by trying, and a desk that books there.
+fn random_sheet(random: &mut Random) -> (Files, Desk) {
     loop {
         let scale = random.pick(&[TINY, SMALL]);
+        let desk = random.pick(&Desk::BOTH);
         let files = derived(random, scale);
-        if has_between(random, &files) {
-            return files;
+        if has_between(random, &files, desk) {
+            return (files, desk);
         }
     }
 }
@@ -62,7 +64,7 @@ fn rings() -> Files {
     Files {
         template: vec![1, 1, 4, 256, 0, 1, 1],
         script: scripts::words(6, &links),
-        bookings: vec![1, 4, 0],
+        bookings: vec![1, 0, 4, 0],
     }
 }
 
@@ -76,7 +78,7 @@ fn guests(template: &[u16], open: bool) -> Files {
     Files {
         template: template.to_vec(),
         script: scripts::words(6, &links),
-        bookings: vec![1, 4, 1],
+        bookings: vec![1, 1, 4, 1],
     }
 }
 
@@ -88,9 +90,10 @@ fn strictly_between(random: &mut Random, setting: &Setting, booked: &[Pair]) -> 
     tries.into_iter().find(|grid| *grid != top && *grid != bottom)
 }
 
-/// Whether a sheet is small, some pair is booked, all bookings are met, and a typing lies strictly between the two.
-fn has_between(random: &mut Random, files: &Files) -> bool {
-    let Ok((setting, booked)) = read(files) else {
+/// Whether a sheet is small, the desk books some pair, all that it books is met, and a typing lies strictly between the
+/// two.
+fn has_between(random: &mut Random, files: &Files, desk: Desk) -> bool {
+    let Ok((setting, booked)) = read(files, desk.number()) else {
         return false;
     };
     let is_met = matches!(closure::smallest(&setting, &booked).0, Smallest::Pairs(1..));
@@ -98,9 +101,9 @@ fn has_between(random: &mut Random, files: &Files) -> bool {
 }
 
 /// Both typings of a sheet, then one between them, two grids that are a pair off each, and the grids with all pairs and
-/// with none.
-fn of_sheet(random: &mut Random, name: &str, files: &Files) -> Vec<JudgeCase> {
-    let Ok((setting, booked)) = read(files) else {
+/// with none, all for one desk.
+fn of_sheet(random: &mut Random, name: &str, files: &Files, desk: Desk) -> Vec<JudgeCase> {
+    let Ok((setting, booked)) = read(files, desk.number()) else {
         return Vec::new();
     };
     let mut grids = vec![
@@ -118,6 +121,7 @@ fn of_sheet(random: &mut Random, name: &str, files: &Files) -> Vec<JudgeCase> {
     let case = |(number, (word, grid)): (usize, (&str, Grid))| JudgeCase {
         name: format!("{name}-{word}-{number}"),
         files: files.clone(),
+        desk: desk.number(),
         grid,
     };
     let mut cases: Vec<JudgeCase> = grids.into_iter().enumerate().map(case).collect();

@@ -1,7 +1,8 @@
-//! Booking lists in which a pair stands twice, or nearly so, the same in every run: next to each other and far apart,
-//! at the limit, and beside other faults.
+//! Booking lists in which a desk books a pair twice, or nearly so, the same in every run: next to each other and far
+//! apart, at the limit, and beside other faults.
 
 use crate::generate::special::{document, nothings};
+use crate::generate::stored::with_desk;
 use crate::generate::Case;
 use crate::numbers::{Card, Shape};
 use crate::script::MOST_CARDS;
@@ -10,7 +11,7 @@ use crate::template::MOST_SHAPES;
 use crate::typing::bookings::{self, MOST_BOOKINGS};
 use crate::typing::Pair;
 
-/// The name and the words of a list for the worked sheet.
+/// The name and the words of a stored list for the worked sheet; each becomes a booking list of one desk.
 type List = (&'static str, &'static [u16]);
 
 /// A pair stands twice, and nothing else is wrong.
@@ -67,19 +68,48 @@ pub fn fixed() -> Vec<Case> {
     sheets().into_iter().map(case).collect()
 }
 
-/// The sheets with these lists.
+/// The sheets with these lists, for the radio; those with nothing else wrong for the television too.
 pub fn sheets() -> Vec<(String, Files)> {
-    let lists = TWICE.into_iter().chain(NEARLY).chain(FAULTS).chain(SIZES);
-    lists
+    let booked = |desk: u16| {
+        move |(name, words): List| {
+            let name = format!("repeat-{}-{name}", ["radio", "television"][usize::from(desk)]);
+            (name, document(&with_desk(desk, words)))
+        }
+    };
+    let television = TWICE.into_iter().chain(NEARLY).map(booked(1));
+    let radio = lists().map(booked(0));
+    radio
+        .chain(television)
+        .chain(refused(&with_desk(0, &[2, 2, 1, 2, 1])))
+        .chain(most().into_iter().map(|(name, files)| (name, desked(files))))
+        .collect()
+}
+
+/// The sheets with these lists as stored ones.
+pub fn stored() -> Vec<(String, Files)> {
+    lists()
         .map(|(name, words)| (format!("repeat-{name}"), document(words)))
-        .chain(refused())
+        .chain(refused(&[2, 2, 1, 2, 1]))
         .chain(most())
         .collect()
 }
 
-/// A repeat in a list whose template or script is refused, for its first word or at its end.
-fn refused() -> [(String, Files); 4] {
-    let sheet = document(&[2, 2, 1, 2, 1]);
+fn lists() -> impl Iterator<Item = List> {
+    TWICE.into_iter().chain(NEARLY).chain(FAULTS).chain(SIZES)
+}
+
+/// The sheet with its stored list for a desk: the radio if it has two shapes, the television if it has more.
+fn desked(files: Files) -> Files {
+    let desk = u16::from(files.template[1] > 2);
+    Files {
+        bookings: with_desk(desk, &files.bookings),
+        ..files
+    }
+}
+
+/// This list with a repeat, where the template or the script is refused, for its first word or at its end.
+fn refused(list: &[u16]) -> [(String, Files); 4] {
+    let sheet = document(list);
     let with_template = |template| Files {
         template,
         ..sheet.clone()
@@ -100,11 +130,11 @@ fn refused() -> [(String, Files); 4] {
     .map(|(name, files)| (format!("repeat-refused-{name}"), files))
 }
 
-/// As many bookings as can be, on as many cards with one shape and on a few cards with as many shapes as can be: all
-/// different, with the last or the second one a repeat, all alike, and one more.
+/// Stored lists of as many bookings as can be, on many cards with two shapes and on a few cards with as many shapes as
+/// can be: all different, with the last or the second one a repeat, all alike, and one more.
 fn most() -> Vec<(String, Files)> {
     let mut sheets = Vec::new();
-    for (what, shapes) in [("cards", 1), ("shapes", MOST_SHAPES)] {
+    for (what, shapes) in [("cards", 2), ("shapes", MOST_SHAPES)] {
         let pair = |number: u16| (Card(number / shapes), Shape(number % shapes));
         let each: Vec<Pair> = (0..MOST_BOOKINGS).map(pair).collect();
         let (first, last) = (each[0], each.len() - 1);
@@ -125,7 +155,7 @@ fn most() -> Vec<(String, Files)> {
             let files = Files {
                 template: nothings(shapes),
                 script: vec![MOST_BOOKINGS / shapes, 0],
-                bookings: bookings::words(&list),
+                bookings: bookings::stored_words(&list),
             };
             (format!("repeat-most-{what}-{name}"), files)
         }));

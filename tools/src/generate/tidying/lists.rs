@@ -1,7 +1,7 @@
 //! How often pairs stand in a stored list and where: on sheets whose bookings are met and not met, with buffers that
 //! fit or don't, and at the limit.
 
-use super::TidyCase;
+use super::{room, TidyCase};
 use crate::generate::arriving::GUESTS;
 use crate::generate::open::{ONE_MORE, TOLERANT};
 use crate::generate::special::{chain, document, nothings};
@@ -15,7 +15,8 @@ pub fn lists() -> Vec<TidyCase> {
     [buffers(), small(), sheets(), most()].concat()
 }
 
-/// Buffers around the right length: of a list without bookings, of a tidy one, and of ones that get shorter.
+/// Buffers around the right length, and of the stored and the tidied list's length: of a list without bookings, of one
+/// without repeats, and of ones that lose bookings.
 fn buffers() -> Vec<TidyCase> {
     let lists: [&[u16]; 4] = [
         &[0],
@@ -25,9 +26,9 @@ fn buffers() -> Vec<TidyCase> {
     ];
     let mut cases = Vec::new();
     for (number, list) in lists.into_iter().enumerate() {
-        let length = list.len();
-        // The tidied list may have three words: they aren't enough if the stored one has more.
-        for words in BTreeSet::from([0, 1, 3, length - 1, length, length + 1, 2 * length]) {
+        let (length, right) = (list.len(), room(list));
+        // The tidied list may have four words or seven: they aren't enough if the buffer has to have more.
+        for words in BTreeSet::from([0, 1, 4, 7, length, right - 1, right, right + 1, 2 * right]) {
             cases.push(TidyCase {
                 name: format!("buffer-{number}-{words}"),
                 files: document(list),

@@ -22,7 +22,8 @@ const OF_FILES: [Fault; 9] = [
 ];
 
 /// The faults of the buffer, which come last.
-const OF_BUFFER: [Fault; 3] = [
+const OF_BUFFER: [Fault; 4] = [
+    ("stored", |case| case.words = 9),
     ("short", |case| case.words -= 1),
     ("long", |case| case.words += 1),
     ("none", |case| case.words = 0),
