@@ -11,6 +11,11 @@
  * point to that many elements. Arrays that a call only reads (const) may overlap each other; an
  * array that a call writes may overlap no other array of the call, and need not be set before.
  *
+ * Desks. Two desks, those of enum prep_desk, book in one list: each booking says whose it is, and
+ * each call that reads such a list says for which desk it asks. The whole list is read whichever
+ * desk that is, so a fault of any booking is told. Then only the bookings of this desk count: what
+ * the other one books changes no typing.
+ *
  * Answers and refusals. No input is forbidden: what is wrong with it is answered by a refusal.
  * `number` is 0 where nothing is refused. Otherwise `number` is a constant of enum prep_refusal and
  * `place` is the index of the word at fault in its own array, in a grid that of the byte;
@@ -42,7 +47,7 @@
 #include <stdint.h>
 
 /* The version of this header; prep_version gives the library's. */
-#define PREP_VERSION_MAJOR 4
+#define PREP_VERSION_MAJOR 5
 #define PREP_VERSION_MINOR 0
 #define PREP_VERSION_PATCH 0
 #define PREP_VERSION (PREP_VERSION_MAJOR * 10000 + PREP_VERSION_MINOR * 100 + PREP_VERSION_PATCH)
@@ -55,10 +60,11 @@ enum {
     PREP_MAX_CARDS = 1024,
     PREP_MAX_LINKS = 8192,
     PREP_MAX_SCRIPT_WORDS = 2 + 3 * 8192,
-    PREP_MAX_BOOKINGS = 1024,
-    PREP_MAX_BOOKING_WORDS = 1 + 2 * 1024,
-    PREP_MAX_COUNTS = 2 * 64, /* how many counts */
-    PREP_MAX_COUNT = 8192,    /* how large each is */
+    PREP_MAX_BOOKINGS = 1024, /* of both desks together */
+    PREP_MAX_BOOKING_WORDS = 1 + 3 * 1024,
+    PREP_MAX_STORED_WORDS = 1 + 2 * 1024, /* of a list that prep_tidy_bookings reads */
+    PREP_MAX_COUNTS = 2 * 64,             /* how many counts */
+    PREP_MAX_COUNT = 8192,                /* how large each is */
     PREP_MAX_GRID_BYTES = 1024 * 32
 };
 
@@ -69,10 +75,14 @@ enum {
  */
 enum { PREP_STACK_BYTES = 160 * 1024 };
 
+/* The desks that book, as a booking and a call number them. */
+enum prep_desk { PREP_DESK_RADIO = 0, PREP_DESK_TELEVISION = 1 };
+
 /*
- * A constant for each refusal, PREP_TEMPLATE_SIZE to PREP_BOOKINGS_TWICE; prep_refusals.def lists
+ * A constant for each refusal, PREP_TEMPLATE_SIZE to PREP_BOOKINGS_DESK; prep_refusals.def lists
  * them with their numbers and words. PREP_NOT_MET and PREP_GRID_NOT_MET have a card and a shape
- * instead of a place. PREP_INPUT is the sheet printer's; no function here answers it. Later versions
+ * instead of a place. PREP_BOOKINGS_DESK at place 0, where no booking stands, is for the desk that
+ * the call takes. PREP_INPUT is the sheet printer's; no function here answers it. Later versions
  * may have more, so test `number != 0` for "refused".
  */
 enum prep_refusal {
@@ -211,49 +221,54 @@ struct prep_largest_answer prep_largest(const uint16_t *template_words, size_t t
                                         size_t largest_length);
 
 /*
- * Writes the smallest typing that holds the bookings to `smallest_grid`, which has cards x shapes
- * bytes. Refusals: the template's, the script's, the bookings' (30 to 33, and 65 at the card of a
- * booking whose pair is booked earlier in the list), then 40 at place 0. Last 50, with the lowest
- * card and then lowest shape of the bookings' closure that is not met: then the grid is all 0.
+ * Writes the smallest typing that holds the desk's bookings to `smallest_grid`, which has cards x
+ * shapes bytes. The list is a count and then the desk, the card and the shape of each booking.
+ * Refusals: the template's, the script's, the list's (30 and 31 at place 0; for each booking 66 at
+ * its desk, 32 at its card, 33 at its shape, and 65 at its card if the same desk books the pair
+ * earlier in the list), then 66 at place 0 for `desk_number`, and 40 at place 0. Last 50, with the
+ * lowest card and then lowest shape of the closure of the desk's bookings that is not met: then the
+ * grid is all 0.
  */
 struct prep_smallest_answer prep_smallest(const uint16_t *template_words, size_t template_length,
                                           const uint16_t *script_words, size_t script_length,
                                           const uint16_t *booking_words, size_t bookings_length,
-                                          uint8_t *smallest_grid, size_t smallest_length);
+                                          uint16_t desk_number, uint8_t *smallest_grid, size_t smallest_length);
 
 /*
- * Both typings in one call, each as its own call gives it. Refusals: those of prep_smallest, 40 for
- * either grid. With 50 `smallest_grid` is all 0 and `largest_grid` has the largest typing.
+ * Both typings in one call, each as its own call gives it: the largest is the same for either desk.
+ * Refusals: those of prep_smallest, 40 for either grid. With 50 `smallest_grid` is all 0 and
+ * `largest_grid` has the largest typing.
  */
 struct prep_both_answer prep_both_typings(const uint16_t *template_words, size_t template_length,
                                           const uint16_t *script_words, size_t script_length,
                                           const uint16_t *booking_words, size_t bookings_length,
-                                          uint8_t *smallest_grid, size_t smallest_length, uint8_t *largest_grid,
-                                          size_t largest_length);
+                                          uint16_t desk_number, uint8_t *smallest_grid, size_t smallest_length,
+                                          uint8_t *largest_grid, size_t largest_length);
 
 /*
  * Judges a grid of cards x shapes bytes, which is only read: nothing is refused exactly if it is a
- * sound typing that holds the bookings. Refusals: the template's, the script's, the bookings' as for
- * prep_smallest, then 40 at place 0 and 61 at the first byte over 1. Then 62, with the lowest card
- * and then lowest shape of the grid that is not met under it. Last 63, at the card of the first
- * booking that is not in the grid.
+ * sound typing that holds the desk's bookings. Refusals: the template's, the script's, the list's
+ * and the desk's as for prep_smallest, then 40 at place 0 and 61 at the first byte over 1. Then 62,
+ * with the lowest card and then lowest shape of the grid that is not met under it. Last 63, at the
+ * card of the first booking of the desk that is not in the grid.
  */
 struct prep_judge_answer prep_judge(const uint16_t *template_words, size_t template_length,
                                     const uint16_t *script_words, size_t script_length,
                                     const uint16_t *booking_words, size_t bookings_length,
-                                    const uint8_t *judged_grid, size_t judged_length);
+                                    uint16_t desk_number, const uint8_t *judged_grid, size_t judged_length);
 
 /*
- * Tidies a booking list in which pairs may stand several times, such as one that was stored with a
- * version before 4. Writes to `tidied_words`, which is as long as the list, the new count and then
- * the first booking of each pair, in the list's order; leaves the rest of it as it was, and answers
- * how many words were written. The list that is written has the same smallest typing, or the same
- * 50, and is not refused with 65; a list without repeats is written as it is. Refusals: the
- * template's, the script's, 30 to 33, then 40 at place 0 if `tidied_words` has another length.
+ * Tidies a list that was stored with a version before 5: a count and then the card and the shape of
+ * each booking, two words each, where a pair may stand several times. Writes to `tidied_words`,
+ * which has 1 + 3 x count words, the new count and then the first booking of each pair, in the
+ * list's order, with the radio desk before it; leaves the rest as it was, and answers how many words
+ * were written. The list that is written has no fault: for the radio desk it books what the stored
+ * list books, for the television desk nothing. Refusals: the template's, the script's, 30 to 33 at
+ * places of the stored list, then 40 at place 0 if `tidied_words` has another length.
  */
 struct prep_tidy_answer prep_tidy_bookings(const uint16_t *template_words, size_t template_length,
                                            const uint16_t *script_words, size_t script_length,
-                                           const uint16_t *booking_words, size_t bookings_length,
+                                           const uint16_t *stored_words, size_t stored_length,
                                            uint16_t *tidied_words, size_t tidied_length);
 
 /* The version of the library that is linked, as PREP_VERSION is made. */

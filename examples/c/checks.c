@@ -1,7 +1,8 @@
 /*
  * Checks of the library as a C caller sees it: an answer and a refusal of each function, links that
- * arrive, open shapes, bookings that stand twice, arrays that a refusal leaves alone, empty arrays
- * given as NULL, refusals in words, and the layout of answers. Builds as C and as C++.
+ * arrive, open shapes, bookings of two desks and bookings that stand twice, arrays that a refusal
+ * leaves alone, empty arrays given as NULL, refusals in words, and the layout of answers. Builds as C
+ * and as C++.
  */
 #include "prep.h"
 
@@ -13,10 +14,13 @@
 /* An array as the two parameters that lend it. */
 #define LENT(array) (array), LENGTH(array)
 
+/* The desks, and a number that is none. */
+enum { RADIO = PREP_DESK_RADIO, TELEVISION = PREP_DESK_TELEVISION, NO_DESK = 2 };
+
 static const uint16_t sheet_template[] = {2, 2, 10, 17, 2, 256, 1, 1, 1, 257, 0, 0, 1, 1, 0};
 static const uint16_t sheet_script[] = {3, 3, 0, 0, 2, 0, 1, 1, 1, 0, 0};
-static const uint16_t sheet_bookings[] = {1, 2, 1};
-static const uint16_t unmet_bookings[] = {1, 0, 0};
+static const uint16_t sheet_bookings[] = {1, RADIO, 2, 1};
+static const uint16_t unmet_bookings[] = {1, RADIO, 0, 0};
 static const uint8_t sheet_grid[] = {0, 0, 0, 0, 0, 1};
 static const uint16_t small_template[] = {1, 1, 1, 0};
 static const uint16_t guests_template[] = {1, 2, 4, 256, 1, 1, 65535, 4, 320, 0, 1, 65535};
@@ -240,16 +244,20 @@ static void check_smallest(void)
     uint8_t grid[6];
     struct prep_smallest_answer s;
     memset(grid, 9, sizeof grid);
-    s = prep_smallest(LENT(sheet_template), LENT(sheet_script), NULL, 0, LENT(grid));
+    s = prep_smallest(LENT(sheet_template), LENT(sheet_script), NULL, 0, RADIO, LENT(grid));
     CHECK(s.number == PREP_BOOKINGS_SIZE && s.place == 0 && all_are(LENT(grid), 9));
-    s = prep_smallest(LENT(sheet_template), LENT(sheet_script), LENT(unmet_bookings), LENT(grid));
+    s = prep_smallest(LENT(sheet_template), LENT(sheet_script), LENT(unmet_bookings), RADIO, LENT(grid));
     CHECK(s.number == PREP_NOT_MET && s.card == 0 && s.shape == 1 && s.place == 0 && s.pairs == 0);
     CHECK(all_are(LENT(grid), 0));
-    s = prep_smallest(LENT(sheet_template), LENT(sheet_script), LENT(sheet_bookings), LENT(grid));
+    s = prep_smallest(LENT(sheet_template), LENT(sheet_script), LENT(sheet_bookings), RADIO, LENT(grid));
     CHECK(s.number == 0 && s.pairs == 1 && memcmp(grid, sheet_grid, 6) == 0);
-    s = prep_smallest(LENT(sheet_template), LENT(no_cards), LENT(no_bookings), NULL, 0);
+    s = prep_smallest(LENT(sheet_template), LENT(no_cards), LENT(no_bookings), RADIO, NULL, 0);
     CHECK(s.number == 0 && s.pairs == 0);
 }
+
+/* Both typings of the sheet with a booking list, for a desk. */
+#define BOTH(bookings, desk, small, large) \
+    prep_both_typings(LENT(sheet_template), LENT(sheet_script), LENT(bookings), (desk), LENT(small), LENT(large))
 
 static void check_both(void)
 {
@@ -258,13 +266,13 @@ static void check_both(void)
     struct prep_both_answer b;
     memset(grid, 9, sizeof grid);
     memset(other, 9, sizeof other);
-    b = prep_both_typings(LENT(sheet_template), LENT(sheet_script), LENT(sheet_bookings), grid, 6, other, 5);
+    b = prep_both_typings(LENT(sheet_template), LENT(sheet_script), LENT(sheet_bookings), RADIO, grid, 6, other, 5);
     CHECK(b.number == PREP_GRID_SIZE && b.place == 0 && all_are(LENT(grid), 9) && all_are(LENT(other), 9));
-    b = prep_both_typings(LENT(sheet_template), LENT(sheet_script), LENT(unmet_bookings), LENT(grid), LENT(other));
+    b = BOTH(unmet_bookings, RADIO, grid, other);
     CHECK(b.number == PREP_NOT_MET && b.card == 0 && b.shape == 1);
     CHECK(b.rounds == 4 && b.struck == 5 && b.bare == 2 && b.pairs == 0);
     CHECK(all_are(LENT(grid), 0) && memcmp(other, sheet_grid, 6) == 0);
-    b = prep_both_typings(LENT(sheet_template), LENT(no_cards), LENT(no_bookings), NULL, 0, NULL, 0);
+    b = prep_both_typings(LENT(sheet_template), LENT(no_cards), LENT(no_bookings), RADIO, NULL, 0, NULL, 0);
     CHECK(b.number == 0 && b.rounds == 1 && b.pairs == 0);
 }
 
@@ -273,8 +281,8 @@ static void check_guests(void)
 {
     static const uint16_t one_guest[] = {2, 1, 0, 0, 1};
     static const uint16_t lonely_guest[] = {3, 1, 0, 0, 1};
-    static const uint16_t guest_booked[] = {1, 1, 1};
-    static const uint16_t lonely_booked[] = {1, 2, 1};
+    static const uint16_t guest_booked[] = {1, TELEVISION, 1, 1};
+    static const uint16_t lonely_booked[] = {1, RADIO, 2, 1};
     static const uint8_t item_and_guest[] = {1, 0, 0, 1, 0, 0};
     static const uint8_t guest_alone[] = {0, 0, 0, 1};
     uint8_t small[6], large[6];
@@ -284,17 +292,18 @@ static void check_guests(void)
     struct prep_judge_answer j;
     CHECK(l.number == 0 && l.rounds == 2 && l.struck == 2 && l.bare == 0);
     CHECK(memcmp(large, item_and_guest, 4) == 0);
-    s = prep_smallest(LENT(guests_template), LENT(one_guest), LENT(guest_booked), small, 4);
+    s = prep_smallest(LENT(guests_template), LENT(one_guest), LENT(guest_booked), TELEVISION, small, 4);
     CHECK(s.number == 0 && s.pairs == 2 && memcmp(small, item_and_guest, 4) == 0);
-    j = prep_judge(LENT(guests_template), LENT(one_guest), LENT(guest_booked), small, 4);
+    j = prep_judge(LENT(guests_template), LENT(one_guest), LENT(guest_booked), TELEVISION, small, 4);
     CHECK(j.number == PREP_NOT_REFUSED);
-    j = prep_judge(LENT(guests_template), LENT(one_guest), LENT(guest_booked), LENT(guest_alone));
+    j = prep_judge(LENT(guests_template), LENT(one_guest), LENT(guest_booked), TELEVISION, LENT(guest_alone));
     CHECK(j.number == PREP_GRID_NOT_MET && j.card == 1 && j.shape == 1);
 
     memset(small, 9, sizeof small);
-    s = prep_smallest(LENT(guests_template), LENT(lonely_guest), LENT(lonely_booked), LENT(small));
+    s = prep_smallest(LENT(guests_template), LENT(lonely_guest), LENT(lonely_booked), RADIO, LENT(small));
     CHECK(s.number == PREP_NOT_MET && s.card == 2 && s.shape == 1 && s.pairs == 0 && all_are(LENT(small), 0));
-    b = prep_both_typings(LENT(guests_template), LENT(lonely_guest), LENT(lonely_booked), LENT(small), LENT(large));
+    b = prep_both_typings(LENT(guests_template), LENT(lonely_guest), LENT(lonely_booked), RADIO, LENT(small),
+                          LENT(large));
     CHECK(b.number == PREP_NOT_MET && b.card == 2 && b.shape == 1);
     CHECK(b.rounds == 2 && b.struck == 4 && b.bare == 0 && memcmp(large, item_and_guest, 6) == 0);
 }
@@ -303,16 +312,17 @@ static void check_guests(void)
 static void check_open(void)
 {
     static const uint16_t one_more[] = {3, 2, 0, 0, 1, 0, 1, 2};
-    static const uint16_t first_booked[] = {1, 0, 0};
+    static const uint16_t first_booked[] = {1, RADIO, 0, 0};
     static const uint8_t all_kept[] = {1, 0, 0, 1, 0, 1};
     static const uint8_t needed[] = {1, 0, 0, 1, 0, 0};
     uint8_t small[6], large[6];
     struct prep_both_answer b;
     struct prep_judge_answer j;
-    b = prep_both_typings(LENT(tolerant_template), LENT(one_more), LENT(first_booked), LENT(small), LENT(large));
+    b = prep_both_typings(LENT(tolerant_template), LENT(one_more), LENT(first_booked), RADIO, LENT(small),
+                          LENT(large));
     CHECK(b.number == 0 && b.rounds == 2 && b.struck == 3 && b.bare == 0 && b.pairs == 2);
     CHECK(memcmp(large, all_kept, 6) == 0 && memcmp(small, needed, 6) == 0);
-    j = prep_judge(LENT(tolerant_template), LENT(one_more), LENT(first_booked), LENT(needed));
+    j = prep_judge(LENT(tolerant_template), LENT(one_more), LENT(first_booked), RADIO, LENT(needed));
     CHECK(j.number == PREP_NOT_REFUSED);
     CHECK(prep_links_of_card(LENT(tolerant_template), LENT(one_more), 0, NULL, 0) == 6);
 }
@@ -333,71 +343,72 @@ static int judged(struct prep_judge_answer j, uint16_t number, uint16_t card, ui
     return j.number == number && j.card == card && j.shape == shape && j.place == place;
 }
 
-/* A grid of the sheet that is judged with a booking list. */
-#define JUDGE(bookings, grid) prep_judge(LENT(sheet_template), LENT(sheet_script), LENT(bookings), LENT(grid))
+/* A grid of the sheet that is judged with a booking list, for a desk. */
+#define JUDGE(bookings, desk, grid) \
+    prep_judge(LENT(sheet_template), LENT(sheet_script), LENT(bookings), (desk), LENT(grid))
 
 static void check_judge(void)
 {
-    static const uint16_t second_unmet[] = {2, 2, 1, 0, 0};
+    static const uint16_t second_unmet[] = {2, RADIO, 2, 1, RADIO, 0, 0};
     static const uint8_t empty_grid[] = {0, 0, 0, 0, 0, 0};
     static const uint8_t unmet_pairs[] = {0, 0, 1, 1, 0, 1};
     static const uint8_t last_over[] = {0, 1, 0, 0, 0, 2};
-    CHECK(judged(JUDGE(sheet_bookings, sheet_grid), PREP_NOT_REFUSED, 0, 0, 0));
-    CHECK(judged(JUDGE(no_bookings, empty_grid), PREP_NOT_REFUSED, 0, 0, 0));
-    CHECK(judged(JUDGE(unmet_bookings, last_over), PREP_GRID_BYTE, 0, 0, 5));
-    CHECK(judged(JUDGE(unmet_bookings, unmet_pairs), PREP_GRID_NOT_MET, 1, 0, 0));
-    CHECK(judged(JUDGE(unmet_bookings, sheet_grid), PREP_GRID_NOT_HELD, 0, 0, 1));
-    CHECK(judged(JUDGE(second_unmet, sheet_grid), PREP_GRID_NOT_HELD, 0, 0, 3));
+    CHECK(judged(JUDGE(sheet_bookings, RADIO, sheet_grid), PREP_NOT_REFUSED, 0, 0, 0));
+    CHECK(judged(JUDGE(no_bookings, RADIO, empty_grid), PREP_NOT_REFUSED, 0, 0, 0));
+    CHECK(judged(JUDGE(unmet_bookings, RADIO, last_over), PREP_GRID_BYTE, 0, 0, 5));
+    CHECK(judged(JUDGE(unmet_bookings, RADIO, unmet_pairs), PREP_GRID_NOT_MET, 1, 0, 0));
+    CHECK(judged(JUDGE(unmet_bookings, RADIO, sheet_grid), PREP_GRID_NOT_HELD, 0, 0, 2));
+    CHECK(judged(JUDGE(second_unmet, RADIO, sheet_grid), PREP_GRID_NOT_HELD, 0, 0, 5));
 }
 
 /* What is refused before a grid is looked at. */
 static void check_judge_refuses(void)
 {
-    static const uint16_t no_such_card[] = {1, 3, 0};
+    static const uint16_t no_such_card[] = {1, RADIO, 3, 0};
     static const uint8_t one_short[] = {2, 2, 2, 2, 2};
-    struct prep_judge_answer j = prep_judge(LENT(code_4), LENT(to_card_2), NULL, 0, LENT(one_short));
+    struct prep_judge_answer j = prep_judge(LENT(code_4), LENT(to_card_2), NULL, 0, RADIO, LENT(one_short));
     CHECK(judged(j, PREP_TEMPLATE_CODE, 0, 0, 3));
-    j = prep_judge(LENT(sheet_template), LENT(to_card_2), NULL, 0, LENT(one_short));
+    j = prep_judge(LENT(sheet_template), LENT(to_card_2), NULL, 0, RADIO, LENT(one_short));
     CHECK(judged(j, PREP_SCRIPT_NO_CARD, 0, 0, 4));
-    j = prep_judge(LENT(sheet_template), LENT(sheet_script), NULL, 0, LENT(one_short));
+    j = prep_judge(LENT(sheet_template), LENT(sheet_script), NULL, 0, RADIO, LENT(one_short));
     CHECK(judged(j, PREP_BOOKINGS_SIZE, 0, 0, 0));
-    CHECK(judged(JUDGE(no_such_card, one_short), PREP_BOOKINGS_NO_CARD, 0, 0, 1));
-    CHECK(judged(JUDGE(sheet_bookings, one_short), PREP_GRID_SIZE, 0, 0, 0));
-    j = prep_judge(LENT(sheet_template), LENT(sheet_script), LENT(sheet_bookings), NULL, 0);
+    CHECK(judged(JUDGE(no_such_card, RADIO, one_short), PREP_BOOKINGS_NO_CARD, 0, 0, 2));
+    CHECK(judged(JUDGE(sheet_bookings, RADIO, one_short), PREP_GRID_SIZE, 0, 0, 0));
+    j = prep_judge(LENT(sheet_template), LENT(sheet_script), LENT(sheet_bookings), RADIO, NULL, 0);
     CHECK(judged(j, PREP_GRID_SIZE, 0, 0, 0));
-    j = prep_judge(NULL, 0, NULL, 0, NULL, 0, NULL, 0);
+    j = prep_judge(NULL, 0, NULL, 0, NULL, 0, NO_DESK, NULL, 0);
     CHECK(judged(j, PREP_TEMPLATE_SIZE, 0, 0, 0));
 }
 
 /* A judged grid stays as it was, may overlap what is only read, and may be empty; our own typings are accepted. */
 static void check_judge_reads(void)
 {
-    static const uint16_t first_booked[] = {1, 0, 0};
+    static const uint16_t first_booked[] = {1, RADIO, 0, 0};
     uint8_t grid[6], small[2] = {9, 9}, large[2] = {9, 9};
     struct prep_judge_answer j;
     memcpy(grid, sheet_grid, sizeof grid);
-    CHECK(JUDGE(sheet_bookings, grid).number == PREP_NOT_REFUSED && memcmp(grid, sheet_grid, 6) == 0);
+    CHECK(JUDGE(sheet_bookings, RADIO, grid).number == PREP_NOT_REFUSED && memcmp(grid, sheet_grid, 6) == 0);
     memset(grid, 1, sizeof grid);
-    CHECK(JUDGE(sheet_bookings, grid).number == PREP_GRID_NOT_MET && all_are(LENT(grid), 1));
+    CHECK(JUDGE(sheet_bookings, RADIO, grid).number == PREP_GRID_NOT_MET && all_are(LENT(grid), 1));
     memset(grid, 9, sizeof grid);
-    CHECK(JUDGE(sheet_bookings, grid).number == PREP_GRID_BYTE && all_are(LENT(grid), 9));
+    CHECK(JUDGE(sheet_bookings, RADIO, grid).number == PREP_GRID_BYTE && all_are(LENT(grid), 9));
     memset(grid, 0, sizeof grid);
-    CHECK(JUDGE(sheet_bookings, grid).number == PREP_GRID_NOT_HELD && all_are(LENT(grid), 0));
-    j = prep_judge(LENT(small_template), LENT(two_cards), LENT(no_bookings), (const uint8_t *)no_bookings, 2);
+    CHECK(JUDGE(sheet_bookings, RADIO, grid).number == PREP_GRID_NOT_HELD && all_are(LENT(grid), 0));
+    j = prep_judge(LENT(small_template), LENT(two_cards), LENT(no_bookings), RADIO, (const uint8_t *)no_bookings, 2);
     CHECK(judged(j, PREP_NOT_REFUSED, 0, 0, 0));
-    j = prep_judge(LENT(sheet_template), LENT(no_cards), LENT(no_bookings), NULL, 0);
+    j = prep_judge(LENT(sheet_template), LENT(no_cards), LENT(no_bookings), RADIO, NULL, 0);
     CHECK(judged(j, PREP_NOT_REFUSED, 0, 0, 0));
 
-    prep_both_typings(LENT(small_template), LENT(two_cards), LENT(first_booked), LENT(small), LENT(large));
+    prep_both_typings(LENT(small_template), LENT(two_cards), LENT(first_booked), RADIO, LENT(small), LENT(large));
     CHECK(small[0] == 1 && small[1] == 0 && all_are(LENT(large), 1));
-    j = prep_judge(LENT(small_template), LENT(two_cards), LENT(first_booked), LENT(small));
+    j = prep_judge(LENT(small_template), LENT(two_cards), LENT(first_booked), RADIO, LENT(small));
     CHECK(judged(j, PREP_NOT_REFUSED, 0, 0, 0));
-    j = prep_judge(LENT(small_template), LENT(two_cards), LENT(first_booked), LENT(large));
+    j = prep_judge(LENT(small_template), LENT(two_cards), LENT(first_booked), RADIO, LENT(large));
     CHECK(judged(j, PREP_NOT_REFUSED, 0, 0, 0));
 }
 
-/* Whether every call that takes bookings refuses a list of the sheet so, and leaves the grids as they were. */
-static int bookings_refused(const uint16_t *words, size_t length, uint16_t number, size_t place)
+/* Whether every call for a desk refuses a list of the sheet so, and leaves the grids as they were. */
+static int refused_for(uint16_t desk, const uint16_t *words, size_t length, uint16_t number, size_t place)
 {
     uint8_t small[6], large[6];
     struct prep_smallest_answer s;
@@ -405,39 +416,127 @@ static int bookings_refused(const uint16_t *words, size_t length, uint16_t numbe
     struct prep_judge_answer j;
     memset(small, 9, sizeof small);
     memset(large, 9, sizeof large);
-    s = prep_smallest(LENT(sheet_template), LENT(sheet_script), words, length, LENT(small));
-    b = prep_both_typings(LENT(sheet_template), LENT(sheet_script), words, length, LENT(small), LENT(large));
-    j = prep_judge(LENT(sheet_template), LENT(sheet_script), words, length, LENT(large));
+    s = prep_smallest(LENT(sheet_template), LENT(sheet_script), words, length, desk, LENT(small));
+    b = prep_both_typings(LENT(sheet_template), LENT(sheet_script), words, length, desk, LENT(small), LENT(large));
+    j = prep_judge(LENT(sheet_template), LENT(sheet_script), words, length, desk, LENT(large));
     return s.number == number && s.place == place && s.card == 0 && s.shape == 0 && s.pairs == 0 &&
            b.number == number && b.place == place && b.card == 0 && b.shape == 0 && b.rounds == 0 && b.pairs == 0 &&
            judged(j, number, 0, 0, place) && all_are(LENT(small), 9) && all_are(LENT(large), 9);
 }
 
-/* A pair is refused where it is booked again: after the other faults of its booking, before those of the next. */
+/* The same for either desk and for a desk that there is not: the list is read before that is looked at. */
+static int bookings_refused(const uint16_t *words, size_t length, uint16_t number, size_t place)
+{
+    return refused_for(RADIO, words, length, number, place) && refused_for(TELEVISION, words, length, number, place) &&
+           refused_for(NO_DESK, words, length, number, place);
+}
+
+/* A booking's desk is tested before its card, its card before its shape, and a list has three words a booking. */
+static void check_bookings(void)
+{
+    static const uint16_t over[] = {1025, 2, 9, 9};
+    static const uint16_t two_words[] = {1, 2, 1};
+    static const uint16_t four_words[] = {1, 2, 9, 9, 9};
+    static const uint16_t no_such_desk[] = {1, 2, 9, 9};
+    static const uint16_t later_desk[] = {2, 1, 2, 1, 65535, 9, 9};
+    static const uint16_t no_such_card[] = {1, 0, 3, 1};
+    static const uint16_t no_such_shape[] = {2, 1, 2, 2, 2, 9, 9};
+    CHECK(bookings_refused(NULL, 0, PREP_BOOKINGS_SIZE, 0));
+    CHECK(bookings_refused(LENT(over), PREP_BOOKINGS_COUNT, 0));
+    CHECK(bookings_refused(LENT(two_words), PREP_BOOKINGS_SIZE, 0));
+    CHECK(bookings_refused(LENT(four_words), PREP_BOOKINGS_SIZE, 0));
+    CHECK(bookings_refused(LENT(no_such_desk), PREP_BOOKINGS_DESK, 1));
+    CHECK(bookings_refused(LENT(later_desk), PREP_BOOKINGS_DESK, 4));
+    CHECK(bookings_refused(LENT(no_such_card), PREP_BOOKINGS_NO_CARD, 2));
+    CHECK(bookings_refused(LENT(no_such_shape), PREP_BOOKINGS_NO_SHAPE, 3));
+}
+
+/* A pair is refused where a desk books it again: after the other faults of its booking, before those of the next. */
 static void check_repeats(void)
 {
-    static const uint16_t twice[] = {2, 2, 1, 2, 1};
-    static const uint16_t apart[] = {3, 2, 1, 0, 0, 2, 1};
-    static const uint16_t before_no_card[] = {3, 2, 1, 2, 1, 9, 9};
-    static const uint16_t after_no_card[] = {3, 9, 9, 2, 1, 2, 1};
-    static const uint16_t no_shape[] = {2, 2, 1, 2, 2};
-    static const uint16_t two_repeats[] = {4, 2, 1, 0, 0, 0, 0, 2, 1};
-    static const uint16_t too_long[] = {2, 2, 1, 2, 1, 2};
-    static const uint16_t two_shapes[] = {2, 0, 0, 0, 1};
+    static const uint16_t twice[] = {2, 0, 2, 1, 0, 2, 1};
+    static const uint16_t apart[] = {3, 1, 2, 1, 1, 0, 0, 1, 2, 1};
+    static const uint16_t by_both_between[] = {3, 0, 2, 1, 1, 2, 1, 0, 2, 1};
+    static const uint16_t before_no_desk[] = {3, 0, 2, 1, 0, 2, 1, 9, 9, 9};
+    static const uint16_t after_no_card[] = {3, 0, 9, 9, 0, 2, 1, 0, 2, 1};
+    static const uint16_t no_shape[] = {2, 0, 2, 1, 0, 2, 2};
+    static const uint16_t two_repeats[] = {4, 0, 2, 1, 0, 0, 0, 0, 0, 0, 0, 2, 1};
+    static const uint16_t too_long[] = {2, 0, 2, 1, 0, 2, 1, 0};
+    static const uint16_t two_shapes[] = {2, 0, 0, 0, 0, 0, 1};
     uint8_t grid[6];
     struct prep_smallest_answer s;
-    CHECK(bookings_refused(LENT(twice), PREP_BOOKINGS_TWICE, 3));
-    CHECK(bookings_refused(LENT(apart), PREP_BOOKINGS_TWICE, 5));
-    CHECK(bookings_refused(LENT(before_no_card), PREP_BOOKINGS_TWICE, 3));
-    CHECK(bookings_refused(LENT(after_no_card), PREP_BOOKINGS_NO_CARD, 1));
-    CHECK(bookings_refused(LENT(no_shape), PREP_BOOKINGS_NO_SHAPE, 4));
-    CHECK(bookings_refused(LENT(two_repeats), PREP_BOOKINGS_TWICE, 5));
+    CHECK(bookings_refused(LENT(twice), PREP_BOOKINGS_TWICE, 5));
+    CHECK(bookings_refused(LENT(apart), PREP_BOOKINGS_TWICE, 8));
+    CHECK(bookings_refused(LENT(by_both_between), PREP_BOOKINGS_TWICE, 8));
+    CHECK(bookings_refused(LENT(before_no_desk), PREP_BOOKINGS_TWICE, 5));
+    CHECK(bookings_refused(LENT(after_no_card), PREP_BOOKINGS_NO_CARD, 2));
+    CHECK(bookings_refused(LENT(no_shape), PREP_BOOKINGS_NO_SHAPE, 6));
+    CHECK(bookings_refused(LENT(two_repeats), PREP_BOOKINGS_TWICE, 8));
     CHECK(bookings_refused(LENT(too_long), PREP_BOOKINGS_SIZE, 0));
-    s = prep_smallest(LENT(sheet_template), LENT(sheet_script), LENT(two_shapes), LENT(grid));
+    s = prep_smallest(LENT(sheet_template), LENT(sheet_script), LENT(two_shapes), RADIO, LENT(grid));
     CHECK(s.number == PREP_NOT_MET && s.card == 0 && s.shape == 1);
     /* A repeat comes before a grid of the wrong size. */
-    s = prep_smallest(LENT(sheet_template), LENT(sheet_script), LENT(twice), NULL, 0);
-    CHECK(s.number == PREP_BOOKINGS_TWICE && s.place == 3);
+    s = prep_smallest(LENT(sheet_template), LENT(sheet_script), LENT(twice), RADIO, NULL, 0);
+    CHECK(s.number == PREP_BOOKINGS_TWICE && s.place == 5);
+}
+
+/* Whether a desk's smallest typing of the sheet has these pairs and this grid, alone and with the largest. */
+static int small_for(uint16_t desk, const uint16_t *words, size_t length, size_t pairs, const uint8_t *grid)
+{
+    uint8_t alone[6], small[6], large[6];
+    struct prep_smallest_answer s;
+    struct prep_both_answer b;
+    memset(alone, 9, sizeof alone);
+    memset(small, 9, sizeof small);
+    s = prep_smallest(LENT(sheet_template), LENT(sheet_script), words, length, desk, LENT(alone));
+    b = prep_both_typings(LENT(sheet_template), LENT(sheet_script), words, length, desk, LENT(small), LENT(large));
+    return s.number == 0 && s.pairs == pairs && b.number == 0 && b.pairs == pairs && b.rounds == 4 &&
+           memcmp(alone, grid, 6) == 0 && memcmp(small, grid, 6) == 0 && memcmp(large, sheet_grid, 6) == 0;
+}
+
+/* What one desk books changes nothing for the other, which may book the same pair. */
+static void check_desks(void)
+{
+    static const uint16_t by_both[] = {2, RADIO, 2, 1, TELEVISION, 2, 1};
+    static const uint16_t other_unmet[] = {2, TELEVISION, 0, 0, RADIO, 2, 1};
+    static const uint16_t both_unmet[] = {2, RADIO, 0, 0, TELEVISION, 0, 0};
+    static const uint8_t empty_grid[] = {0, 0, 0, 0, 0, 0};
+    uint8_t small[6], large[6];
+    uint16_t desk;
+    CHECK(small_for(RADIO, LENT(sheet_bookings), 1, sheet_grid));
+    CHECK(small_for(TELEVISION, LENT(sheet_bookings), 0, empty_grid));
+    CHECK(small_for(TELEVISION, LENT(unmet_bookings), 0, empty_grid));
+    CHECK(small_for(RADIO, LENT(by_both), 1, sheet_grid) && small_for(TELEVISION, LENT(by_both), 1, sheet_grid));
+    CHECK(small_for(RADIO, LENT(other_unmet), 1, sheet_grid));
+    CHECK(BOTH(other_unmet, TELEVISION, small, large).number == PREP_NOT_MET && all_are(LENT(small), 0));
+    for (desk = RADIO; desk <= TELEVISION; desk++) {
+        struct prep_both_answer b = BOTH(both_unmet, desk, small, large);
+        CHECK(b.number == PREP_NOT_MET && b.card == 0 && b.shape == 1 && memcmp(large, sheet_grid, 6) == 0);
+    }
+    /* Of the judged grid each desk's own bookings are asked, and 63 has its place in the whole list. */
+    CHECK(judged(JUDGE(other_unmet, RADIO, sheet_grid), PREP_NOT_REFUSED, 0, 0, 0));
+    CHECK(judged(JUDGE(other_unmet, TELEVISION, sheet_grid), PREP_GRID_NOT_HELD, 0, 0, 2));
+    CHECK(judged(JUDGE(other_unmet, RADIO, empty_grid), PREP_GRID_NOT_HELD, 0, 0, 5));
+    CHECK(judged(JUDGE(by_both, TELEVISION, empty_grid), PREP_GRID_NOT_HELD, 0, 0, 5));
+    CHECK(judged(JUDGE(sheet_bookings, TELEVISION, empty_grid), PREP_NOT_REFUSED, 0, 0, 0));
+}
+
+/* The desk of a call is tested after the list and before the grid. */
+static void check_no_desk(void)
+{
+    static const uint8_t last_over[] = {0, 0, 0, 0, 2};
+    uint8_t grid[6];
+    struct prep_smallest_answer s;
+    memset(grid, 9, sizeof grid);
+    CHECK(refused_for(NO_DESK, LENT(sheet_bookings), PREP_BOOKINGS_DESK, 0));
+    CHECK(refused_for(65535, LENT(no_bookings), PREP_BOOKINGS_DESK, 0));
+    s = prep_smallest(LENT(sheet_template), LENT(sheet_script), LENT(sheet_bookings), NO_DESK, grid, 5);
+    CHECK(s.number == PREP_BOOKINGS_DESK && s.place == 0 && all_are(LENT(grid), 9));
+    CHECK(judged(JUDGE(sheet_bookings, NO_DESK, last_over), PREP_BOOKINGS_DESK, 0, 0, 0));
+    s = prep_smallest(LENT(sheet_template), LENT(sheet_script), LENT(sheet_bookings), TELEVISION, grid, 5);
+    CHECK(s.number == PREP_GRID_SIZE && s.place == 0 && all_are(LENT(grid), 9));
+    s = prep_smallest(LENT(sheet_template), LENT(sheet_script), LENT(sheet_bookings), TELEVISION, LENT(grid));
+    CHECK(s.number == PREP_NOT_REFUSED && s.pairs == 0 && all_are(LENT(grid), 0));
 }
 
 /* Every number of an answer to prep_tidy_bookings. */
@@ -446,33 +545,37 @@ static int tidied(struct prep_tidy_answer t, uint16_t number, size_t place, size
     return t.number == number && t.place == place && t.words == words;
 }
 
-/* A booking list of the sheet that is tidied. */
-#define TIDY(bookings, out, length) \
-    prep_tidy_bookings(LENT(sheet_template), LENT(sheet_script), LENT(bookings), (out), (length))
+/* A stored list of the sheet that is tidied. */
+#define TIDY(stored, out, length) \
+    prep_tidy_bookings(LENT(sheet_template), LENT(sheet_script), LENT(stored), (out), (length))
 
 /* What an array holds before a list is tidied into it. */
-static const uint16_t sevens[] = {7, 7, 7, 7, 7, 7, 7, 7, 7};
+static const uint16_t sevens[] = {7, 7, 7, 7, 7, 7, 7, 7, 7, 7, 7, 7, 7};
 
 static void check_tidy(void)
 {
     static const uint16_t apart[] = {3, 2, 1, 0, 0, 2, 1};
-    static const uint16_t apart_tidied[] = {2, 2, 1, 0, 0, 7, 7};
+    static const uint16_t apart_tidied[] = {2, 0, 2, 1, 0, 0, 0, 7, 7, 7, 7, 7, 7};
     static const uint16_t alike[] = {4, 2, 1, 2, 1, 2, 1, 2, 1};
-    static const uint16_t alike_tidied[] = {1, 2, 1, 7, 7, 7, 7, 7, 7};
+    static const uint16_t alike_tidied[] = {1, 0, 2, 1, 7, 7, 7, 7, 7, 7, 7, 7, 7};
     static const uint16_t different[] = {4, 2, 1, 0, 0, 0, 1, 2, 0};
-    uint16_t out[9];
+    static const uint16_t different_tidied[] = {4, 0, 2, 1, 0, 0, 0, 0, 0, 1, 0, 2, 0};
+    uint16_t out[13];
+    uint8_t small[6];
+    struct prep_smallest_answer s;
     memcpy(out, sevens, sizeof out);
-    CHECK(tidied(TIDY(apart, out, 7), PREP_NOT_REFUSED, 0, 5) && memcmp(out, apart_tidied, sizeof apart) == 0);
-    CHECK(out[7] == 7 && out[8] == 7);
+    CHECK(tidied(TIDY(apart, out, 10), PREP_NOT_REFUSED, 0, 7) && memcmp(out, apart_tidied, sizeof out) == 0);
+    s = prep_smallest(LENT(sheet_template), LENT(sheet_script), out, 7, RADIO, LENT(small));
+    CHECK(s.number == PREP_NOT_MET && s.card == 0 && s.shape == 1);
+    s = prep_smallest(LENT(sheet_template), LENT(sheet_script), out, 7, TELEVISION, LENT(small));
+    CHECK(s.number == PREP_NOT_REFUSED && s.pairs == 0 && all_are(LENT(small), 0));
     memcpy(out, sevens, sizeof out);
-    CHECK(tidied(TIDY(alike, out, 9), PREP_NOT_REFUSED, 0, 3) && memcmp(out, alike_tidied, sizeof out) == 0);
-    CHECK(tidied(TIDY(different, out, 9), PREP_NOT_REFUSED, 0, 9) && memcmp(out, different, sizeof out) == 0);
+    CHECK(tidied(TIDY(alike, out, 13), PREP_NOT_REFUSED, 0, 4) && memcmp(out, alike_tidied, sizeof out) == 0);
+    CHECK(small_for(RADIO, out, 4, 1, sheet_grid));
+    CHECK(tidied(TIDY(different, out, 13), PREP_NOT_REFUSED, 0, 13) && memcmp(out, different_tidied, sizeof out) == 0);
     memcpy(out, sevens, sizeof out);
     CHECK(tidied(TIDY(no_bookings, out, 1), PREP_NOT_REFUSED, 0, 1));
-    CHECK(out[0] == 0 && memcmp(out + 1, sevens, 8 * sizeof out[0]) == 0);
-    /* What is written is taken: only the grid is missing. */
-    CHECK(TIDY(apart, out, 7).words == 5);
-    CHECK(prep_smallest(LENT(sheet_template), LENT(sheet_script), out, 5, NULL, 0).number == PREP_GRID_SIZE);
+    CHECK(out[0] == 0 && memcmp(out + 1, sevens, 12 * sizeof out[0]) == 0);
 }
 
 /* The order of the refusals; none of them writes. */
@@ -480,10 +583,10 @@ static void check_tidy_refuses(void)
 {
     static const uint16_t apart[] = {3, 2, 1, 0, 0, 2, 1};
     static const uint16_t over[] = {1025, 9};
-    static const uint16_t too_short[] = {1, 9};
+    static const uint16_t with_desk[] = {1, 0, 9, 9};
     static const uint16_t no_such_card[] = {3, 2, 1, 2, 1, 3, 9};
     static const uint16_t no_such_shape[] = {1, 2, 2};
-    uint16_t out[9];
+    uint16_t out[13];
     struct prep_tidy_answer t;
     memcpy(out, sevens, sizeof out);
     t = prep_tidy_bookings(LENT(code_4), LENT(to_card_2), LENT(over), LENT(out));
@@ -492,22 +595,48 @@ static void check_tidy_refuses(void)
     CHECK(tidied(t, PREP_SCRIPT_NO_CARD, 4, 0));
     t = prep_tidy_bookings(LENT(sheet_template), LENT(sheet_script), NULL, 0, LENT(out));
     CHECK(tidied(t, PREP_BOOKINGS_SIZE, 0, 0));
-    CHECK(tidied(TIDY(over, out, 9), PREP_BOOKINGS_COUNT, 0, 0));
-    CHECK(tidied(TIDY(too_short, out, 9), PREP_BOOKINGS_SIZE, 0, 0));
-    CHECK(tidied(TIDY(no_such_card, out, 9), PREP_BOOKINGS_NO_CARD, 5, 0));
-    CHECK(tidied(TIDY(no_such_shape, out, 9), PREP_BOOKINGS_NO_SHAPE, 2, 0));
-    CHECK(tidied(TIDY(apart, out, 8), PREP_GRID_SIZE, 0, 0));
-    CHECK(tidied(TIDY(apart, out, 6), PREP_GRID_SIZE, 0, 0));
+    CHECK(tidied(TIDY(over, out, 13), PREP_BOOKINGS_COUNT, 0, 0));
+    CHECK(tidied(TIDY(with_desk, out, 13), PREP_BOOKINGS_SIZE, 0, 0));
+    CHECK(tidied(TIDY(no_such_card, out, 13), PREP_BOOKINGS_NO_CARD, 5, 0));
+    CHECK(tidied(TIDY(no_such_shape, out, 13), PREP_BOOKINGS_NO_SHAPE, 2, 0));
+    CHECK(tidied(TIDY(apart, out, 11), PREP_GRID_SIZE, 0, 0));
+    CHECK(tidied(TIDY(apart, out, 9), PREP_GRID_SIZE, 0, 0));
+    CHECK(tidied(TIDY(apart, out, 7), PREP_GRID_SIZE, 0, 0));
     CHECK(tidied(TIDY(apart, NULL, 0), PREP_GRID_SIZE, 0, 0));
     CHECK(memcmp(out, sevens, sizeof out) == 0);
     CHECK(tidied(prep_tidy_bookings(NULL, 0, NULL, 0, NULL, 0, NULL, 0), PREP_TEMPLATE_SIZE, 0, 0));
 }
 
-/* As many bookings as there may be: all different, then the last one a repeat, then all alike. */
+static const uint16_t all_cards[] = {PREP_MAX_CARDS, 0};
+
+/* As many bookings as there may be: all of one desk, then the last one of the other, then that a repeat. */
 static void check_most_bookings(void)
 {
-    static const uint16_t all_cards[] = {PREP_MAX_CARDS, 0};
-    static uint16_t list[PREP_MAX_BOOKING_WORDS], out[PREP_MAX_BOOKING_WORDS];
+    static uint16_t list[PREP_MAX_BOOKING_WORDS];
+    static uint8_t grid[PREP_MAX_CARDS];
+    struct prep_smallest_answer s;
+    size_t i;
+    list[0] = PREP_MAX_BOOKINGS;
+    for (i = 0; i < PREP_MAX_BOOKINGS; i++) {
+        list[2 + 3 * i] = (uint16_t)(PREP_MAX_CARDS - 1 - i);
+    }
+    s = prep_smallest(LENT(small_template), LENT(all_cards), LENT(list), RADIO, LENT(grid));
+    CHECK(s.number == PREP_NOT_REFUSED && s.pairs == PREP_MAX_BOOKINGS);
+    list[PREP_MAX_BOOKING_WORDS - 3] = TELEVISION;
+    list[PREP_MAX_BOOKING_WORDS - 2] = list[2];
+    s = prep_smallest(LENT(small_template), LENT(all_cards), LENT(list), RADIO, LENT(grid));
+    CHECK(s.number == PREP_NOT_REFUSED && s.pairs == PREP_MAX_BOOKINGS - 1);
+    s = prep_smallest(LENT(small_template), LENT(all_cards), LENT(list), TELEVISION, LENT(grid));
+    CHECK(s.number == PREP_NOT_REFUSED && s.pairs == 1 && grid[PREP_MAX_CARDS - 1] == 1);
+    list[PREP_MAX_BOOKING_WORDS - 3] = RADIO;
+    s = prep_smallest(LENT(small_template), LENT(all_cards), LENT(list), RADIO, LENT(grid));
+    CHECK(s.number == PREP_BOOKINGS_TWICE && s.place == PREP_MAX_BOOKING_WORDS - 2);
+}
+
+/* As long a stored list as there may be: all different, then the last one a repeat, then all alike. */
+static void check_most_stored(void)
+{
+    static uint16_t list[PREP_MAX_STORED_WORDS], out[PREP_MAX_BOOKING_WORDS];
     static uint8_t grid[PREP_MAX_CARDS];
     struct prep_smallest_answer s;
     struct prep_tidy_answer t;
@@ -516,20 +645,18 @@ static void check_most_bookings(void)
     for (i = 0; i < PREP_MAX_BOOKINGS; i++) {
         list[1 + 2 * i] = (uint16_t)(PREP_MAX_CARDS - 1 - i);
     }
-    s = prep_smallest(LENT(small_template), LENT(all_cards), LENT(list), LENT(grid));
+    t = prep_tidy_bookings(LENT(small_template), LENT(all_cards), LENT(list), LENT(out));
+    CHECK(tidied(t, PREP_NOT_REFUSED, 0, LENGTH(out)) && out[0] == PREP_MAX_BOOKINGS);
+    s = prep_smallest(LENT(small_template), LENT(all_cards), LENT(out), RADIO, LENT(grid));
     CHECK(s.number == PREP_NOT_REFUSED && s.pairs == PREP_MAX_BOOKINGS);
+    list[PREP_MAX_STORED_WORDS - 2] = list[1];
     t = prep_tidy_bookings(LENT(small_template), LENT(all_cards), LENT(list), LENT(out));
-    CHECK(tidied(t, PREP_NOT_REFUSED, 0, LENGTH(list)) && memcmp(out, list, sizeof out) == 0);
-    list[PREP_MAX_BOOKING_WORDS - 2] = list[1];
-    s = prep_smallest(LENT(small_template), LENT(all_cards), LENT(list), LENT(grid));
-    CHECK(s.number == PREP_BOOKINGS_TWICE && s.place == PREP_MAX_BOOKING_WORDS - 2);
-    t = prep_tidy_bookings(LENT(small_template), LENT(all_cards), LENT(list), LENT(out));
-    CHECK(tidied(t, PREP_NOT_REFUSED, 0, LENGTH(list) - 2) && out[0] == PREP_MAX_BOOKINGS - 1);
+    CHECK(tidied(t, PREP_NOT_REFUSED, 0, LENGTH(out) - 3) && out[0] == PREP_MAX_BOOKINGS - 1);
     for (i = 1; i < LENGTH(list); i++) {
         list[i] = 0;
     }
     t = prep_tidy_bookings(LENT(small_template), LENT(all_cards), LENT(list), LENT(out));
-    CHECK(tidied(t, PREP_NOT_REFUSED, 0, 3) && out[0] == 1 && out[1] == 0 && out[2] == 0);
+    CHECK(tidied(t, PREP_NOT_REFUSED, 0, 4) && out[0] == 1 && out[1] == RADIO && out[2] == 0 && out[3] == 0);
 }
 
 /* Each number of the table has words of its own and says where its place is; no other number has. */
@@ -594,10 +721,14 @@ int main(void)
     check_judge();
     check_judge_refuses();
     check_judge_reads();
+    check_bookings();
     check_repeats();
+    check_desks();
+    check_no_desk();
     check_tidy();
     check_tidy_refuses();
     check_most_bookings();
+    check_most_stored();
     check_words();
     return failures != 0;
 }

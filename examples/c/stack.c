@@ -11,6 +11,9 @@
 
 #define LENGTH(array) (sizeof(array) / sizeof((array)[0]))
 
+/* An array as the two parameters that lend it. */
+#define LENT(array) (array), LENGTH(array)
+
 /* Each function is called on a stack that is painted before. */
 enum { PAINTED_BYTES = 1024 * 1024, PAINT = 0xa5 };
 
@@ -24,6 +27,7 @@ static uint16_t deep_template[PREP_MAX_TEMPLATE_WORDS];
 static size_t deep_length;
 static uint16_t full_script[PREP_MAX_SCRIPT_WORDS];
 static uint16_t full_bookings[PREP_MAX_BOOKING_WORDS];
+static uint16_t full_stored[PREP_MAX_STORED_WORDS];
 static uint16_t zero_counts[PREP_MAX_COUNTS];
 static uint16_t some_links[PREP_MAX_SCRIPT_WORDS];
 static uint16_t tidied_bookings[PREP_MAX_BOOKING_WORDS];
@@ -70,7 +74,7 @@ static void fill_template(void)
     }
 }
 
-/* As many cards, links and bookings as there may be. */
+/* As many cards and links as there may be. */
 static void fill_script(void)
 {
     size_t i;
@@ -81,10 +85,17 @@ static void fill_script(void)
         full_script[3 + 3 * i] = 0;
         full_script[4 + 3 * i] = (uint16_t)((i / 8 % 8) * 8 + i % 8);
     }
-    full_bookings[0] = PREP_MAX_BOOKINGS;
+}
+
+/* As many bookings as there may be, all of them of one desk, and a stored list of the same pairs. */
+static void fill_bookings(void)
+{
+    size_t i;
+    full_bookings[0] = full_stored[0] = PREP_MAX_BOOKINGS;
     for (i = 0; i < PREP_MAX_BOOKINGS; i++) {
-        full_bookings[1 + 2 * i] = (uint16_t)i;
-        full_bookings[2 + 2 * i] = (uint16_t)(i % PREP_MAX_SHAPES);
+        full_bookings[1 + 3 * i] = PREP_DESK_TELEVISION;
+        full_bookings[2 + 3 * i] = full_stored[1 + 2 * i] = (uint16_t)i;
+        full_bookings[3 + 3 * i] = full_stored[2 + 2 * i] = (uint16_t)(i % PREP_MAX_SHAPES);
     }
 }
 
@@ -100,28 +111,27 @@ static int call_function(int function)
 {
     const uint16_t *t = deep_template, *s = full_script, *b = full_bookings;
     size_t t_length = deep_length, s_length = LENGTH(full_script), b_length = LENGTH(full_bookings);
+    uint16_t desk = PREP_DESK_TELEVISION;
     switch (function) {
     case 0:
         return prep_read_template(t, t_length).number;
     case 1:
-        return prep_fit_counts(t, t_length, 0, zero_counts, LENGTH(zero_counts)).number;
+        return prep_fit_counts(t, t_length, 0, LENT(zero_counts)).number;
     case 2:
         return prep_read_script(t, t_length, s, s_length).number;
     case 3:
-        return prep_links_of_card(t, t_length, s, s_length, 0, some_links, LENGTH(some_links)) != 24;
+        return prep_links_of_card(t, t_length, s, s_length, 0, LENT(some_links)) != 24;
     case 4:
-        return prep_largest(t, t_length, s, s_length, largest_grid, LENGTH(largest_grid)).number;
+        return prep_largest(t, t_length, s, s_length, LENT(largest_grid)).number;
     case 5:
-        return prep_smallest(t, t_length, s, s_length, b, b_length, smallest_grid, LENGTH(smallest_grid)).number;
+        return prep_smallest(t, t_length, s, s_length, b, b_length, desk, LENT(smallest_grid)).number;
     case 6:
-        return prep_both_typings(t, t_length, s, s_length, b, b_length, smallest_grid, LENGTH(smallest_grid),
-                                 largest_grid, LENGTH(largest_grid))
+        return prep_both_typings(t, t_length, s, s_length, b, b_length, desk, LENT(smallest_grid), LENT(largest_grid))
             .number;
     case 7:
-        return prep_judge(t, t_length, s, s_length, b, b_length, largest_grid, LENGTH(largest_grid)).number;
+        return prep_judge(t, t_length, s, s_length, b, b_length, desk, LENT(largest_grid)).number;
     default:
-        return prep_tidy_bookings(t, t_length, s, s_length, b, b_length, tidied_bookings, LENGTH(tidied_bookings))
-            .number;
+        return prep_tidy_bookings(t, t_length, s, s_length, LENT(full_stored), LENT(tidied_bookings)).number;
     }
 }
 
@@ -177,6 +187,7 @@ int main(void)
     int failures = 0;
     fill_template();
     fill_script();
+    fill_bookings();
     for (function = 0; function < LENGTH(functions); function++) {
         size_t bytes = stack_of((int)function);
         printf("%s: %zu bytes of stack\n", functions[function], bytes);

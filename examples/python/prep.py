@@ -4,11 +4,16 @@
 
     template = prep.Template([2, 2, 10, 17, 2, 256, 1, 1, 1, 257, 0, 0, 1, 1, 0])
     script = prep.Script(template, [3, 3, 0, 0, 2, 0, 1, 1, 1, 0, 0])
+    bookings = [(prep.Desk.RADIO, 2, 1), (prep.Desk.TELEVISION, 0, 0)]
     try:
-        typing = script.smallest([(2, 1)]).typing
+        typing = script.smallest(bookings, prep.Desk.RADIO).typing
     except prep.NotMet as unmet:
         print(unmet.card, unmet.shape)
-    script.judge([(2, 1)], bytes([0, 0, 0, 0, 0, 1]))  # returns: the grid is a sound typing that holds the booking
+    grid = bytes([0, 0, 0, 0, 0, 1])
+    script.judge(bookings, prep.Desk.RADIO, grid)  # returns: the grid is a sound typing that holds the radio's booking
+
+Two desks book in one list. Each call that reads it says for which desk it asks, and what the other one books changes
+no typing.
 
 Or from parts and links, so that nobody counts words:
 
@@ -23,9 +28,10 @@ And a shape may be open, so that links of kinds that it does not name may start 
 
     template = prep.Template.of(2, [prep.open_shape(prep.link(0, 1, 1, 1)), prep.nothing()])
 
-A pair is booked once. A stored list in which pairs stand several times is tidied:
+A desk books a pair once. A list that was stored without desks, where pairs may stand several times, is tidied and is
+then the radio's:
 
-    bookings = script.tidy_bookings([(2, 1), (0, 0), (2, 1)])  # [(2, 1), (0, 0)]
+    bookings = script.tidy_bookings([(2, 1), (0, 0), (2, 1)])  # [(Desk.RADIO, 2, 1), (Desk.RADIO, 0, 0)]
 
 What the library turns down is a Refused, which says in words what is wrong and where. The library is libprep.so in
 the folder that PREP_LIB_DIR names, or in the lib folder of the package that this file came with, or where the system
@@ -34,11 +40,12 @@ looks. Python 3.8 or later; nothing but the standard library. Other threads run 
 
 import array
 import ctypes
+import enum
 import os
 from typing import Iterable, List, NamedTuple, Sequence, Tuple
 
 # The versions that this file is for: this major one, with this minor one or a later one.
-MAJOR = 4
+MAJOR = 5
 MINOR = 0
 
 # The refusals that have a card and a shape instead of a place.
@@ -97,9 +104,9 @@ def _load() -> ctypes.CDLL:
         ("prep_read_script", _ScriptAnswer, lent * 2),
         ("prep_links_of_card", _SIZE, lent * 2 + [_WORD] + lent),
         ("prep_largest", _LargestAnswer, lent * 3),
-        ("prep_smallest", _SmallestAnswer, lent * 4),
-        ("prep_both_typings", _BothAnswer, lent * 5),
-        ("prep_judge", _JudgeAnswer, lent * 4),
+        ("prep_smallest", _SmallestAnswer, lent * 3 + [_WORD] + lent),
+        ("prep_both_typings", _BothAnswer, lent * 3 + [_WORD] + lent * 2),
+        ("prep_judge", _JudgeAnswer, lent * 3 + [_WORD] + lent),
         ("prep_tidy_bookings", _TidyAnswer, lent * 4),
         ("prep_reason", ctypes.c_char_p, [_WORD]),
         ("prep_file_of", ctypes.c_uint, [_WORD]),
@@ -181,6 +188,12 @@ def _array(code: str, element: type, limits: str, numbers: Iterable[int]) -> cty
 def _words(numbers: Iterable[int]) -> ctypes.Array:
     """An array of 16-bit words; ValueError for a number that no word holds."""
     return _array("H", _WORD, "a word is 0 to 65,535", numbers)
+
+
+def _word(number: int) -> int:
+    """The number, if a word holds it; ValueError for any other."""
+    (word,) = _words([number])
+    return word
 
 
 def _bytes(numbers: Iterable[int]) -> ctypes.Array:
@@ -273,6 +286,17 @@ class Typing:
         return [shape for shape in range(self.shapes) if self.has(card, shape)]
 
 
+class Desk(enum.IntEnum):
+    """Whose a booking is, and for whom a call asks."""
+
+    RADIO = 0
+    TELEVISION = 1
+
+
+# A booking: its desk, its card and its shape. The library refuses what is none.
+Booking = Tuple[int, int, int]
+
+
 class Link(NamedTuple):
     """A link of a script. Links are ordered as in a file."""
 
@@ -324,8 +348,7 @@ class Template:
         """Whether counts of links fit a shape: for each kind those that start at a card, then for each kind those that
         arrive there. A kind that the shape does not name has to count 0 as outgoing if the shape is closed, and is
         ignored otherwise. Refusals: 42, 41 if there are not two counts for each kind, 43."""
-        (number,) = _words([shape])
-        answer = _library.prep_fit_counts(*_lend(self._words), number, *_lend(_words(counts)))
+        answer = _library.prep_fit_counts(*_lend(self._words), _word(shape), *_lend(_words(counts)))
         return _accept(answer).fits == 1
 
 
@@ -359,18 +382,19 @@ class Script:
         answer = _accept(_library.prep_largest(*_lend(self.template._words, self._words, grid)))
         return Largest(self._typing(grid), answer.rounds, answer.struck, answer.bare)
 
-    def smallest(self, bookings: Iterable[Tuple[int, int]]) -> Smallest:
-        """The smallest sound typing that has the booked pairs of card and shape. Refusals: 31 to 33, 65 where a pair
-        is booked a second time; or NotMet."""
-        grid, listed = self._grid(), _booking_words(bookings)
-        answer = _accept(_library.prep_smallest(*_lend(self.template._words, self._words, listed, grid)))
+    def smallest(self, bookings: Iterable[Booking], desk: int) -> Smallest:
+        """The smallest sound typing that has the pairs of card and shape that the desk books. Refusals: 30 to 33, 65
+        where a desk books a pair a second time, 66 for a number that is no desk, at place 0 if the call's own; or
+        NotMet."""
+        grid = self._grid()
+        answer = _accept(_library.prep_smallest(*self._booked(bookings, desk), *_lend(grid)))
         return Smallest(self._typing(grid), answer.pairs)
 
-    def both(self, bookings: Iterable[Tuple[int, int]]) -> Both:
-        """Both typings in one call. Refusals: 31 to 33, 65; bookings that are not met are no exception here."""
-        small, large, listed = self._grid(), self._grid(), _booking_words(bookings)
-        lent = _lend(self.template._words, self._words, listed, small, large)
-        answer = _library.prep_both_typings(*lent)
+    def both(self, bookings: Iterable[Booking], desk: int) -> Both:
+        """Both typings in one call; the largest is the same for either desk. Refusals: 30 to 33, 65, 66; bookings that
+        are not met are no exception here."""
+        small, large = self._grid(), self._grid()
+        answer = _library.prep_both_typings(*self._booked(bookings, desk), *_lend(small, large))
         smallest = not_met = None
         if answer.number == NOT_MET:
             not_met = NotMet(answer.card, answer.shape)
@@ -378,19 +402,23 @@ class Script:
             smallest = Smallest(self._typing(small), _accept(answer).pairs)
         return Both(Largest(self._typing(large), answer.rounds, answer.struck, answer.bare), smallest, not_met)
 
-    def judge(self, bookings: Iterable[Tuple[int, int]], grid: Iterable[int]) -> None:
-        """Returns if a grid of bytes, such as a typing's, is a sound typing that has the booked pairs. Refusals: 31 to
-        33, 65, 40, 61, 63; or GridNotMet."""
-        lent = _lend(self.template._words, self._words, _booking_words(bookings), _bytes(grid))
-        _accept(_library.prep_judge(*lent))
+    def judge(self, bookings: Iterable[Booking], desk: int, grid: Iterable[int]) -> None:
+        """Returns if a grid of bytes, such as a typing's, is a sound typing that has the pairs that the desk books.
+        Refusals: 30 to 33, 65, 66, 40, 61, 63; or GridNotMet."""
+        _accept(_library.prep_judge(*self._booked(bookings, desk), *_lend(_bytes(grid))))
 
-    def tidy_bookings(self, bookings: Iterable[Tuple[int, int]]) -> List[Tuple[int, int]]:
-        """The first booking of each pair, in the list's order, for stored lists in which a pair may stand several
-        times. What the list books stays the same, and it is no longer refused with 65. Refusals: 31 to 33."""
-        listed = _booking_words(bookings)
-        tidied = (_WORD * len(listed))()
-        answer = _accept(_library.prep_tidy_bookings(*_lend(self.template._words, self._words, listed, tidied)))
-        return list(zip(tidied[1 : answer.words : 2], tidied[2 : answer.words : 2]))
+    def tidy_bookings(self, stored: Iterable[Tuple[int, int]]) -> List[Booking]:
+        """The first booking of each pair, in the list's order, as the radio's. This is for lists that were stored with
+        a version before 5: pairs of card and shape, which may stand there several times. Refusals: 30 to 33."""
+        listed = list(stored)
+        tidied = (_WORD * (1 + 3 * len(listed)))()
+        lent = _lend(self.template._words, self._words, _list_words(listed), tidied)
+        words = tidied[1 : _accept(_library.prep_tidy_bookings(*lent)).words]
+        return [(Desk(desk), card, shape) for desk, card, shape in zip(words[::3], words[1::3], words[2::3])]
+
+    def _booked(self, bookings: Iterable[Booking], desk: int) -> list:
+        """The template, the script, the bookings and the desk, as parameters."""
+        return _lend(self.template._words, self._words, _list_words(bookings)) + [_word(desk)]
 
     def _grid(self) -> ctypes.Array:
         return (_BYTE * (self.cards * self.template.shapes))()
@@ -399,7 +427,7 @@ class Script:
         return Typing(bytes(grid), self.cards, self.template.shapes)
 
 
-def _booking_words(bookings: Iterable[Tuple[int, int]]) -> ctypes.Array:
-    """A booking list: its count, then each pair. A count that no word holds is refused as any over 1,024 is."""
-    pairs = list(bookings)
-    return _words([min(len(pairs), 65535)] + [number for pair in pairs for number in pair])
+def _list_words(bookings: Iterable[Tuple[int, ...]]) -> ctypes.Array:
+    """The count of a list and its bookings' numbers. A count that no word holds is refused as any over 1,024 is."""
+    listed = list(bookings)
+    return _words([min(len(listed), 65535)] + [number for booking in listed for number in booking])

@@ -6,6 +6,7 @@ import unittest
 
 import prep
 
+RADIO, TELEVISION = prep.Desk
 TEMPLATE = [2, 2, 10, 17, 2, 256, 1, 1, 1, 257, 0, 0, 1, 1, 0]
 SCRIPT = [3, 3, 0, 0, 2, 0, 1, 1, 1, 0, 0]
 # An item points at guests, and a guest is pointed at by items.
@@ -75,22 +76,38 @@ class Words(unittest.TestCase):
 
     def test_bookings_are_refused(self):
         script = prep.Script(prep.Template(TEMPLATE), SCRIPT)
-        self.refused(32, 1, script.smallest, [(3, 0)])
-        self.refused(33, 4, script.both, [(0, 0), (0, 2)])
-        self.refused(31, 0, script.both, [(0, 0)] * 1025)
-        self.refused(31, 0, script.smallest, [(0, 0)] * 70000)
+        for desk in (RADIO, TELEVISION, 2):
+            self.refused(66, 1, script.smallest, [(2, 9, 9)], desk)
+            self.refused(66, 4, script.both, [(RADIO, 2, 1), (65535, 9, 9)], desk)
+            self.refused(32, 2, script.smallest, [(RADIO, 3, 1)], desk)
+            self.refused(33, 6, script.both, [(RADIO, 0, 0), (TELEVISION, 0, 2)], desk)
+            self.refused(31, 0, script.both, [(RADIO, 0, 0)] * 1025, desk)
+            self.refused(31, 0, script.smallest, [(RADIO, 0, 0)] * 70000, desk)
+            # Two words a booking are one too few.
+            self.refused(30, 0, script.smallest, [(2, 1)], desk)
 
     def test_repeats_are_refused(self):
         script = prep.Script(prep.Template(TEMPLATE), SCRIPT)
-        for call in (script.smallest, script.both, lambda listed: script.judge(listed, [])):
-            told = self.refused(65, 3, call, [(2, 1), (2, 1)])
-            self.assertEqual(str(told), "a pair is booked a second time (refusal 65, word 3)")
+        for call in (script.smallest, script.both, lambda listed, desk: script.judge(listed, desk, [])):
+            told = self.refused(65, 5, call, [(RADIO, 2, 1), (RADIO, 2, 1)], TELEVISION)
+            self.assertEqual(str(told), "a desk books a pair a second time (refusal 65, word 5)")
             self.assertEqual(told.file, "bookings")
-            self.refused(65, 5, call, [(2, 1), (0, 0), (2, 1)])
-            self.refused(65, 3, call, [(2, 1), (2, 1), (9, 9)])
-            self.refused(33, 4, call, [(2, 1), (2, 2)])
+            self.refused(65, 8, call, [(RADIO, 2, 1), (RADIO, 0, 0), (RADIO, 2, 1)], RADIO)
+            self.refused(65, 8, call, [(RADIO, 2, 1), (TELEVISION, 2, 1), (RADIO, 2, 1)], RADIO)
+            self.refused(65, 5, call, [(RADIO, 2, 1), (RADIO, 2, 1), (9, 9, 9)], RADIO)
+            self.refused(33, 6, call, [(RADIO, 2, 1), (RADIO, 2, 2)], RADIO)
         # One card with two shapes is no repeat.
-        self.assertRaises(prep.NotMet, script.smallest, [(0, 0), (0, 1)])
+        self.assertRaises(prep.NotMet, script.smallest, [(RADIO, 0, 0), (RADIO, 0, 1)], RADIO)
+
+    def test_desks_are_refused(self):
+        script = prep.Script(prep.Template(TEMPLATE), SCRIPT)
+        for call in (script.smallest, script.both, lambda listed, desk: script.judge(listed, desk, [2])):
+            told = self.refused(66, 0, call, [(RADIO, 2, 1)], 2)
+            self.assertEqual(str(told), "a desk is neither 0 nor 1 (refusal 66, word 0)")
+            self.assertEqual(told.file, "bookings")
+            self.refused(66, 0, call, [], 65535)
+            self.assertRaises(ValueError, call, [], -1)
+        self.refused(40, 0, script.judge, [(RADIO, 2, 1)], TELEVISION, [2])
 
     def test_tidying_is_refused(self):
         script = prep.Script(prep.Template(TEMPLATE), SCRIPT)
@@ -98,25 +115,27 @@ class Words(unittest.TestCase):
         self.refused(31, 0, script.tidy_bookings, [(0, 0)] * 70000)
         self.refused(32, 5, script.tidy_bookings, [(2, 1), (2, 1), (3, 9)])
         self.refused(33, 2, script.tidy_bookings, [(2, 2)])
+        # Desks are not stored: three words a booking are one too many.
+        self.refused(30, 0, script.tidy_bookings, [(RADIO, 2, 1)])
         self.assertRaises(ValueError, script.tidy_bookings, [(2, 65536)])
 
     def test_grids_are_refused(self):
         script = prep.Script(prep.Template(TEMPLATE), SCRIPT)
-        self.refused(31, 0, script.judge, [(0, 0)] * 1025, [])
-        self.refused(32, 1, script.judge, [(3, 0)], [])
-        self.refused(33, 4, script.judge, [(0, 0), (0, 2)], [])
-        told = self.refused(40, 0, script.judge, [(2, 1)], [2, 1, 1, 0, 0])
-        words = "a grid has not a byte for each card and shape, or a buffer not the list's length"
+        self.refused(31, 0, script.judge, [(RADIO, 0, 0)] * 1025, RADIO, [])
+        self.refused(32, 2, script.judge, [(RADIO, 3, 0)], RADIO, [])
+        self.refused(33, 6, script.judge, [(RADIO, 0, 0), (RADIO, 0, 2)], RADIO, [])
+        told = self.refused(40, 0, script.judge, [(RADIO, 2, 1)], RADIO, [2, 1, 1, 0, 0])
+        words = "a grid has not cards x shapes bytes, or a buffer not 1 + 3 x bookings words"
         self.assertEqual(str(told), f"{words} (refusal 40, byte 0)")
-        told = self.refused(61, 5, script.judge, [(1, 0)], [0, 1, 0, 0, 0, 2])
+        told = self.refused(61, 5, script.judge, [(RADIO, 1, 0)], RADIO, [0, 1, 0, 0, 0, 2])
         self.assertEqual(str(told), "a byte of the grid is over 1 (refusal 61, byte 5)")
-        told = self.refused(63, 3, script.judge, [(2, 1), (0, 0)], [0, 0, 0, 0, 0, 1])
-        self.assertEqual(str(told), "a booked pair is not in the grid (refusal 63, word 3)")
+        told = self.refused(63, 5, script.judge, [(RADIO, 2, 1), (RADIO, 0, 0)], RADIO, [0, 0, 0, 0, 0, 1])
+        self.assertEqual(str(told), "a booked pair is not in the grid (refusal 63, word 5)")
         self.assertEqual(told.file, "bookings")
 
     def test_pairs_are_refused(self):
         script = prep.Script(prep.Template(TEMPLATE), SCRIPT)
-        told = self.refused(prep.GRID_NOT_MET, 0, script.judge, [(0, 0)], [0, 0, 1, 1, 0, 1])
+        told = self.refused(prep.GRID_NOT_MET, 0, script.judge, [(RADIO, 0, 0)], RADIO, [0, 0, 1, 1, 0, 1])
         self.assertIsInstance(told, prep.GridNotMet)
         self.assertIsInstance(told, prep.PairRefused)
         self.assertEqual((told.card, told.shape, told.file), (1, 0, "nothing"))
@@ -128,7 +147,7 @@ class Words(unittest.TestCase):
             self.assertRaises(ValueError, prep.Template, numbers)
         self.assertRaises(ValueError, template.fits, -1, [0, 0])
         for numbers in ([0, 0, 0, 0, 0, -1], [0, 0, 0, 0, 0, 256]):
-            self.assertRaises(ValueError, prep.Script(template, SCRIPT).judge, [], numbers)
+            self.assertRaises(ValueError, prep.Script(template, SCRIPT).judge, [], RADIO, numbers)
 
     def test_table(self):
         table = (include() / "prep_refusals.def").read_text()
@@ -172,30 +191,48 @@ class Answers(unittest.TestCase):
         self.assertFalse(largest.typing.has(3, 0) or largest.typing.has(1, 3) or largest.typing.has(-1, 1))
 
     def test_smallest(self):
-        smallest = self.script.smallest([(2, 1)])
+        smallest = self.script.smallest([(RADIO, 2, 1)], RADIO)
         self.assertEqual((smallest.pairs, smallest.typing.shapes_of(2)), (1, [1]))
         with self.assertRaises(prep.NotMet) as caught:
-            self.script.smallest([(0, 0)])
+            self.script.smallest([(RADIO, 0, 0)], RADIO)
         self.assertEqual((caught.exception.card, caught.exception.shape), (0, 1))
         self.assertEqual(str(caught.exception), "the bookings are not met (refusal 50, card 0, shape 1)")
 
     def test_both(self):
-        both = self.script.both([(2, 1)])
+        both = self.script.both([(RADIO, 2, 1)], RADIO)
         self.assertEqual((both.largest.rounds, both.smallest.pairs, both.not_met), (4, 1, None))
-        both = self.script.both([(0, 0)])
+        both = self.script.both([(RADIO, 0, 0)], RADIO)
         self.assertEqual((both.largest.bare, both.smallest, both.not_met.number), (2, None, prep.NOT_MET))
+
+    def test_desks(self):
+        self.assertEqual(list(prep.Desk), [0, 1])
+        for one, other in ((RADIO, TELEVISION), (TELEVISION, RADIO)):
+            self.assertEqual(self.script.smallest([(one, 2, 1)], one).typing.grid, bytes([0, 0, 0, 0, 0, 1]))
+            smallest = self.script.smallest([(one, 2, 1)], other)
+            self.assertEqual((smallest.pairs, smallest.typing.grid), (0, bytes(6)))
+            # The same pair by both desks, and a pair of the other one that is not met.
+            self.assertEqual(self.script.smallest([(one, 2, 1), (other, 2, 1)], one).pairs, 1)
+            bookings = [(other, 0, 0), (one, 2, 1)]
+            self.assertEqual(self.script.both(bookings, one).smallest.pairs, 1)
+            self.assertRaises(prep.NotMet, self.script.smallest, bookings, other)
+            self.assertIsNone(self.script.judge(bookings, one, [0, 0, 0, 0, 0, 1]))
+            for desk, place in ((other, 2), (one, 5)):
+                with self.assertRaises(prep.Refused) as caught:
+                    self.script.judge(bookings, desk, bytes(6))
+                self.assertEqual((caught.exception.number, caught.exception.place), (63, place))
 
     def test_guests(self):
         script = prep.Script(prep.Template(GUESTS), [2, 1, 0, 0, 1])
-        both = script.both([(1, 1)])
+        booked = [(TELEVISION, 1, 1)]
+        both = script.both(booked, TELEVISION)
         self.assertEqual((both.largest.rounds, both.largest.struck, both.largest.bare), (2, 2, 0))
         self.assertEqual((both.smallest.pairs, both.smallest.typing.grid), (2, bytes([1, 0, 0, 1])))
         self.assertEqual(both.largest.typing.grid, both.smallest.typing.grid)
-        self.assertIsNone(script.judge([(1, 1)], both.smallest.typing.grid))
-        self.assertRaises(prep.GridNotMet, script.judge, [(1, 1)], [0, 0, 0, 1])
+        self.assertIsNone(script.judge(booked, TELEVISION, both.smallest.typing.grid))
+        self.assertRaises(prep.GridNotMet, script.judge, booked, TELEVISION, [0, 0, 0, 1])
         # Nobody points at card 2.
         with self.assertRaises(prep.NotMet) as caught:
-            prep.Script(prep.Template(GUESTS), [3, 1, 0, 0, 1]).smallest([(2, 1)])
+            prep.Script(prep.Template(GUESTS), [3, 1, 0, 0, 1]).smallest([(RADIO, 2, 1)], RADIO)
         self.assertEqual((caught.exception.card, caught.exception.shape), (2, 1))
 
     def test_open(self):
@@ -203,40 +240,48 @@ class Answers(unittest.TestCase):
         self.assertIs(template.fits(0, [1, 7, 0, 0]), True)
         self.assertIs(template.fits(0, [2, 7, 0, 0]), False)
         script = prep.Script(template, [3, 2, 0, 0, 1, 0, 1, 2])
-        both = script.both([(0, 0)])
+        both = script.both([(RADIO, 0, 0)], RADIO)
         self.assertEqual((both.largest.rounds, both.largest.struck, both.largest.bare), (2, 3, 0))
         self.assertEqual(both.largest.typing.grid, bytes([1, 0, 0, 1, 0, 1]))
         self.assertEqual((both.smallest.pairs, both.smallest.typing.grid), (2, bytes([1, 0, 0, 1, 0, 0])))
-        self.assertIsNone(script.judge([(0, 0)], both.smallest.typing.grid))
+        self.assertIsNone(script.judge([(RADIO, 0, 0)], RADIO, both.smallest.typing.grid))
         self.assertEqual(len(script.links_of(0)), 2)
 
     def test_judge(self):
-        self.assertIsNone(self.script.judge([(2, 1)], [0, 0, 0, 0, 0, 1]))
-        self.assertIsNone(self.script.judge([], bytes(6)))
-        self.script.judge([], self.script.largest().typing.grid)
-        self.script.judge([(2, 1)], self.script.smallest([(2, 1)]).typing.grid)
+        booked = [(RADIO, 2, 1)]
+        self.assertIsNone(self.script.judge(booked, RADIO, [0, 0, 0, 0, 0, 1]))
+        self.assertIsNone(self.script.judge(booked, TELEVISION, bytes(6)))
+        self.script.judge([], RADIO, self.script.largest().typing.grid)
+        self.script.judge(booked, RADIO, self.script.smallest(booked, RADIO).typing.grid)
 
     def test_judge_between(self):
         script = prep.Script.of(prep.Template.of(1, [prep.link(0, 0, 0, 1)]), 2, [(0, 0, 1)])
-        both = script.both([])
+        both = script.both([], RADIO)
         self.assertEqual((both.smallest.typing.grid, both.largest.typing.grid), (bytes(2), bytes([1, 1])))
         for grid in (bytes(2), bytes([0, 1]), bytearray([1, 1])):
-            script.judge([], grid)
-        self.assertRaises(prep.GridNotMet, script.judge, [], bytes([1, 0]))
+            script.judge([], RADIO, grid)
+        self.assertRaises(prep.GridNotMet, script.judge, [], RADIO, bytes([1, 0]))
 
     def test_tidy_bookings(self):
         tidy = self.script.tidy_bookings
         self.assertEqual(tidy([]), [])
-        self.assertEqual(tidy([(2, 1), (0, 0), (2, 1)]), [(2, 1), (0, 0)])
-        self.assertEqual(tidy([(0, 0), (0, 1), (0, 0), (0, 1), (1, 0)]), [(0, 0), (0, 1), (1, 0)])
-        self.assertEqual(tidy([(2, 1)] * 1024), [(2, 1)])
+        self.assertEqual(tidy([(2, 1), (0, 0), (2, 1)]), [(RADIO, 2, 1), (RADIO, 0, 0)])
+        several = [(RADIO, 0, 0), (RADIO, 0, 1), (RADIO, 1, 0)]
+        self.assertEqual(tidy([(0, 0), (0, 1), (0, 0), (0, 1), (1, 0)]), several)
+        self.assertEqual(tidy([(2, 1)] * 1024), [(RADIO, 2, 1)])
         tidied = tidy(pair for pair in [(2, 1), (2, 1)])
-        self.assertEqual(self.script.smallest(tidied).pairs, 1)
-        self.assertEqual(tidy(tidied), tidied)
+        self.assertIs(tidied[0][0], RADIO)
+        self.assertEqual(self.script.smallest(tidied, RADIO).pairs, 1)
+        self.assertEqual(self.script.smallest(tidied, TELEVISION).pairs, 0)
 
     def test_tidied_words(self):
         lent = prep._lend(self.template._words, self.script._words, prep._words([3, 2, 1, 0, 0, 2, 1]))
-        for number, words, left in ((0, 5, [2, 2, 1, 0, 0, 7, 7]), (40, 0, [7] * 6), (40, 0, [7] * 8)):
+        for number, words, left in (
+            (0, 7, [2, 0, 2, 1, 0, 0, 0, 7, 7, 7]),
+            (40, 0, [7] * 7),
+            (40, 0, [7] * 9),
+            (40, 0, [7] * 11),
+        ):
             tidied = prep._words([7] * len(left))
             answer = prep._library.prep_tidy_bookings(*lent, *prep._lend(tidied))
             self.assertEqual((answer.number, answer.place, answer.words), (number, 0, words))
@@ -244,9 +289,9 @@ class Answers(unittest.TestCase):
 
     def test_no_cards(self):
         script = prep.Script(self.template, [0, 0])
-        both = script.both([])
+        both = script.both([], RADIO)
         self.assertEqual((both.largest.rounds, both.smallest.pairs, both.largest.typing.grid), (1, 0, b""))
-        self.assertIsNone(script.judge([], b""))
+        self.assertIsNone(script.judge([], RADIO, b""))
 
 
 class Builders(unittest.TestCase):

@@ -1,15 +1,17 @@
 /*
  * A sheet printer over the library's C functions. Standard input holds printer inputs, each after its length in four
  * bytes, low first; the text of each goes to standard output. On the way it checks that the calls agree with each
- * other: both typings with each typing alone, with how they are judged and with the counts that fit, the links of the
- * cards with the script, the bookings with how they are tidied, and that a refusal leaves the grids alone.
+ * other: both typings, for each desk, with each typing alone, with how they are judged and with the counts that fit,
+ * the links of the cards with the script, what a desk books with how it is tidied, and that a refusal is the same for
+ * every desk and leaves the grids alone.
  */
 #include "prep.h"
 #include "require.h"
 
 #include <string.h>
 
-enum { MOST_BYTES = 65536, UNTOUCHED = 0xa5 };
+/* NO_DESK is the first number that is none. */
+enum { MOST_BYTES = 65536, UNTOUCHED = 0xa5, NO_DESK = PREP_DESK_TELEVISION + 1 };
 
 /* Words of one file. A section may be longer than its file's limit; then it is refused. */
 struct words {
@@ -19,7 +21,8 @@ struct words {
 
 static struct words sheet_template, script, bookings;
 static uint8_t smallest[PREP_MAX_GRID_BYTES], largest[PREP_MAX_GRID_BYTES], alone[PREP_MAX_GRID_BYTES];
-static uint16_t links[PREP_MAX_SCRIPT_WORDS], counts[PREP_MAX_COUNTS], tidied[MOST_BYTES / 2];
+static uint16_t links[PREP_MAX_SCRIPT_WORDS], counts[PREP_MAX_COUNTS];
+static uint16_t stored[PREP_MAX_STORED_WORDS], tidied[PREP_MAX_BOOKING_WORDS];
 
 /* What every call is lent. */
 #define TEMPLATE sheet_template.word, sheet_template.length
@@ -72,36 +75,51 @@ static void print_cards(const uint8_t *grid, size_t cards, size_t shapes)
     }
 }
 
-static void check_alone(const struct prep_both_answer *both, size_t size)
+/* Both typings for a desk, in grids that hold other bytes before. */
+static struct prep_both_answer both_for(uint16_t desk, size_t size)
+{
+    memset(smallest, UNTOUCHED, sizeof smallest);
+    memset(largest, UNTOUCHED, sizeof largest);
+    return prep_both_typings(TEMPLATE, SCRIPT, BOOKINGS, desk, smallest, size, largest, size);
+}
+
+/* A smallest typing, which stands in the grid for one alone, is that of both typings. */
+static void check_same(const struct prep_smallest_answer *s, const struct prep_both_answer *both, size_t size)
+{
+    REQUIRE(s->number == both->number && s->card == both->card && s->shape == both->shape);
+    REQUIRE(s->pairs == both->pairs && s->place == both->place);
+    REQUIRE(memcmp(alone, smallest, size) == 0);
+}
+
+/* The largest is the one without a desk, so it is the same for both; the smallest is the desk's. */
+static void check_alone(const struct prep_both_answer *both, uint16_t desk, size_t size)
 {
     struct prep_largest_answer l = prep_largest(TEMPLATE, SCRIPT, alone, size);
     struct prep_smallest_answer s;
     REQUIRE(l.number == 0 && l.rounds == both->rounds && l.struck == both->struck && l.bare == both->bare);
     REQUIRE(memcmp(alone, largest, size) == 0);
-    s = prep_smallest(TEMPLATE, SCRIPT, BOOKINGS, alone, size);
-    REQUIRE(s.number == both->number && s.card == both->card && s.shape == both->shape);
-    REQUIRE(s.pairs == both->pairs && s.place == both->place);
-    REQUIRE(memcmp(alone, smallest, size) == 0);
+    s = prep_smallest(TEMPLATE, SCRIPT, BOOKINGS, desk, alone, size);
+    check_same(&s, both, size);
 }
 
-/* Judges a grid of the sheet. */
-static struct prep_judge_answer judge(const uint8_t *grid, size_t size)
+/* Judges a grid of the sheet for a desk. */
+static struct prep_judge_answer judge(uint16_t desk, const uint8_t *grid, size_t size)
 {
-    return prep_judge(TEMPLATE, SCRIPT, BOOKINGS, grid, size);
+    return prep_judge(TEMPLATE, SCRIPT, BOOKINGS, desk, grid, size);
 }
 
 /* Both typings are accepted if the bookings are met; if not, neither holds them. A byte over 1 is told where it is. */
-static void check_judged(const struct prep_both_answer *both, size_t size)
+static void check_judged(const struct prep_both_answer *both, uint16_t desk, size_t size)
 {
     uint16_t owed = both->number == PREP_NOT_MET ? PREP_GRID_NOT_HELD : PREP_NOT_REFUSED;
     struct prep_judge_answer over;
     size_t place = size / 2;
-    REQUIRE(judge(smallest, size).number == owed);
-    REQUIRE(judge(largest, size).number == owed);
+    REQUIRE(judge(desk, smallest, size).number == owed);
+    REQUIRE(judge(desk, largest, size).number == owed);
     if (size > 0) {
         memcpy(alone, largest, size);
         alone[place] = 2;
-        over = judge(alone, size);
+        over = judge(desk, alone, size);
         REQUIRE(over.number == PREP_GRID_BYTE && over.place == place);
     }
 }
@@ -145,39 +163,85 @@ static void check_counts(size_t cards, size_t kinds, size_t shapes)
     }
 }
 
-/*
- * Bookings are tidied to themselves if nothing is wrong with them, and refused for the same fault unless that is a
- * repeat. Without its repeats a list can be met or not, and a fault behind the first repeat is told.
- */
-static void check_tidied(const struct prep_both_answer *both, size_t size)
+/* Stores the pairs that a desk books in a list without desks; how many words it has. */
+static size_t store_pairs(uint16_t desk)
 {
-    struct prep_tidy_answer t = prep_tidy_bookings(TEMPLATE, SCRIPT, BOOKINGS, tidied, bookings.length);
+    size_t at, length = 1;
+    for (at = 1; at < bookings.length; at += 3) {
+        if (bookings.word[at] == desk) {
+            stored[length++] = bookings.word[at + 1];
+            stored[length++] = bookings.word[at + 2];
+        }
+    }
+    stored[0] = (uint16_t)(length / 2);
+    return length;
+}
+
+/* What a desk books, stored and tidied, has this desk's smallest typing for the radio; television books nothing. */
+static void check_tidied(const struct prep_both_answer *both, uint16_t desk, size_t size)
+{
+    size_t length = store_pairs(desk), words = 1 + 3 * (size_t)stored[0], i;
+    struct prep_tidy_answer t = prep_tidy_bookings(TEMPLATE, SCRIPT, stored, length, tidied, words);
     struct prep_smallest_answer s;
-    if (both->number == 0 || both->number == PREP_NOT_MET) {
-        REQUIRE(t.number == 0 && t.place == 0 && t.words == bookings.length);
-        REQUIRE(memcmp(tidied, bookings.word, bookings.length * sizeof tidied[0]) == 0);
-    } else if (both->number != PREP_BOOKINGS_TWICE) {
-        REQUIRE(t.number == both->number && t.place == both->place && t.words == 0);
-    } else if (t.number == 0) {
-        REQUIRE(t.place == 0 && t.words < bookings.length && t.words == 1 + 2 * (size_t)tidied[0]);
-        s = prep_smallest(TEMPLATE, SCRIPT, tidied, t.words, alone, size);
-        REQUIRE(s.number == 0 || s.number == PREP_NOT_MET);
-    } else {
-        REQUIRE(t.number == PREP_BOOKINGS_NO_CARD || t.number == PREP_BOOKINGS_NO_SHAPE);
-        REQUIRE(t.place > both->place && t.words == 0);
+    REQUIRE(t.number == 0 && t.place == 0 && t.words == words && tidied[0] == stored[0]);
+    s = prep_smallest(TEMPLATE, SCRIPT, tidied, words, PREP_DESK_RADIO, alone, size);
+    check_same(&s, both, size);
+    s = prep_smallest(TEMPLATE, SCRIPT, tidied, words, PREP_DESK_TELEVISION, alone, size);
+    REQUIRE(s.number == 0 && s.pairs == 0);
+    for (i = 0; i < size; i++) {
+        require(alone[i] == 0, "the grid is all 0 where nothing is booked");
     }
 }
 
-/* A refusal of both typings leaves the grids alone, and the smallest and a grid are refused for the same fault. */
-static void check_refused(const struct prep_both_answer *both, size_t size)
+static void check_untouched(void)
 {
-    struct prep_judge_answer judged = judge(largest, size);
-    struct prep_smallest_answer small = prep_smallest(TEMPLATE, SCRIPT, BOOKINGS, smallest, size);
     size_t i;
-    REQUIRE(judged.number == both->number && judged.place == both->place);
-    REQUIRE(small.number == both->number && small.place == both->place);
     for (i = 0; i < PREP_MAX_GRID_BYTES; i++) {
         require(smallest[i] == UNTOUCHED && largest[i] == UNTOUCHED, "a refusal leaves the grids alone");
+    }
+}
+
+/* The desk of a call is tested after the files and before the grids, which here have other sizes where they can. */
+static void check_no_desk(size_t size)
+{
+    struct prep_both_answer both = both_for(NO_DESK, size / 2);
+    struct prep_smallest_answer small = prep_smallest(TEMPLATE, SCRIPT, BOOKINGS, NO_DESK, smallest, size / 2);
+    struct prep_judge_answer judged = judge(NO_DESK, largest, size / 2);
+    REQUIRE(both.number == PREP_BOOKINGS_DESK && both.place == 0);
+    REQUIRE(small.number == PREP_BOOKINGS_DESK && small.place == 0);
+    REQUIRE(judged.number == PREP_BOOKINGS_DESK && judged.place == 0);
+    check_untouched();
+}
+
+/*
+ * Whichever desk asks, what is wrong with the files is told by both typings, the smallest and the judge, and the grids
+ * are left alone. Tidying tells the same of the template and the script.
+ */
+static void check_refused(const struct prep_both_answer *refused, size_t size)
+{
+    struct prep_tidy_answer t = prep_tidy_bookings(TEMPLATE, SCRIPT, BOOKINGS, NULL, 0);
+    uint16_t desk;
+    for (desk = PREP_DESK_RADIO; desk <= NO_DESK; desk++) {
+        struct prep_both_answer both = both_for(desk, size);
+        struct prep_smallest_answer small = prep_smallest(TEMPLATE, SCRIPT, BOOKINGS, desk, smallest, size);
+        struct prep_judge_answer judged = judge(desk, largest, size);
+        REQUIRE(both.number == refused->number && both.place == refused->place);
+        REQUIRE(small.number == refused->number && small.place == refused->place);
+        REQUIRE(judged.number == refused->number && judged.place == refused->place);
+        check_untouched();
+    }
+    if (prep_file_of(refused->number) != PREP_IN_BOOKINGS) {
+        REQUIRE(t.number == refused->number && t.place == refused->place && t.words == 0);
+    }
+}
+
+static void print_smallest(const struct prep_both_answer *both, size_t cards, size_t shapes)
+{
+    if (both->number == PREP_NOT_MET) {
+        printf("smallest no %u %u\n", (unsigned)both->card, (unsigned)both->shape);
+    } else {
+        printf("smallest %zu\n", both->pairs);
+        print_cards(smallest, cards, shapes);
     }
 }
 
@@ -186,11 +250,8 @@ static void print_sheet(void)
     struct prep_template_answer t = prep_read_template(TEMPLATE);
     struct prep_script_answer s = prep_read_script(TEMPLATE, SCRIPT);
     size_t size = (size_t)s.cards * t.shapes;
-    struct prep_both_answer both;
-    memset(smallest, UNTOUCHED, sizeof smallest);
-    memset(largest, UNTOUCHED, sizeof largest);
-    both = prep_both_typings(TEMPLATE, SCRIPT, BOOKINGS, smallest, size, largest, size);
-    check_tidied(&both, size);
+    struct prep_both_answer both = both_for(PREP_DESK_RADIO, size);
+    uint16_t desk;
     if (both.number != 0 && both.number != PREP_NOT_MET) {
         check_refused(&both, size);
         printf("refused %u %zu\n", (unsigned)both.number, both.place);
@@ -198,16 +259,16 @@ static void print_sheet(void)
     }
     printf("largest %zu %zu %zu\n", both.rounds, both.struck, both.bare);
     print_cards(largest, s.cards, t.shapes);
-    if (both.number == PREP_NOT_MET) {
-        printf("smallest no %u %u\n", (unsigned)both.card, (unsigned)both.shape);
-    } else {
-        printf("smallest %zu\n", both.pairs);
-        print_cards(smallest, s.cards, t.shapes);
+    for (desk = PREP_DESK_RADIO; desk <= PREP_DESK_TELEVISION; desk++) {
+        both = both_for(desk, size);
+        print_smallest(&both, s.cards, t.shapes);
+        check_alone(&both, desk, size);
+        check_judged(&both, desk, size);
+        check_tidied(&both, desk, size);
     }
-    check_alone(&both, size);
-    check_judged(&both, size);
     check_links(s.cards);
     check_counts(s.cards, t.kinds, t.shapes);
+    check_no_desk(size);
 }
 
 /* The next input's bytes in memory of its own size, or NULL at the end of the stream. */

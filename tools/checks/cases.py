@@ -36,29 +36,36 @@ def card_lines(typing: prep.Typing) -> List[str]:
     return [f"card {card}:" + "".join(f" {t}" for t in typing.shapes_of(card)) for card in range(typing.cards)]
 
 
-def bookings_of(words: List[int]) -> list:
-    """The pairs of a booking list, which the wrapper takes instead of words; 30 and 31 are refused here."""
+def bookings_of(words: List[int], each: int) -> List[tuple]:
+    """The bookings of a list, of so many words each: the wrapper takes them instead of words. 30 and 31 are refused
+    here."""
     if not words:
         raise prep.Refused(30, 0)
     if words[0] > 1024:
         raise prep.Refused(31, 0)
-    if len(words) != 1 + 2 * words[0]:
+    if len(words) != 1 + each * words[0]:
         raise prep.Refused(30, 0)
-    return list(zip(words[1::2], words[2::2]))
+    return [tuple(words[at : at + each]) for at in range(1, len(words), each)]
+
+
+def smallest_lines(both: prep.Both) -> List[str]:
+    """The lines of a desk's smallest typing, or the pair that is not met."""
+    if both.not_met:
+        return [f"smallest no {both.not_met.card} {both.not_met.shape}"]
+    return [f"smallest {both.smallest.pairs}"] + card_lines(both.smallest.typing)
 
 
 def sheet(data: bytes) -> List[str]:
     """The lines of a sheet."""
     try:
-        template, script, bookings = split(data)
-        both = prep.Script(prep.Template(template), script).both(bookings_of(bookings))
+        template, script, words = split(data)
+        read, bookings = prep.Script(prep.Template(template), script), bookings_of(words, 3)
+        desks = [read.both(bookings, desk) for desk in prep.Desk]
     except prep.Refused as refused:
         return [f"refused {refused.number} {refused.place}"]
-    largest = both.largest
+    largest = desks[0].largest
     lines = [f"largest {largest.rounds} {largest.struck} {largest.bare}"] + card_lines(largest.typing)
-    if both.not_met:
-        return lines + [f"smallest no {both.not_met.card} {both.not_met.shape}"]
-    return lines + [f"smallest {both.smallest.pairs}"] + card_lines(both.smallest.typing)
+    return lines + [line for both in desks for line in smallest_lines(both)]
 
 
 if __name__ == "__main__":

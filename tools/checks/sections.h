@@ -1,5 +1,5 @@
 /*
- * What judge.c and tidy.c share: a stream of cases on standard input. Each begins with a template, a script and
+ * What judge.c, tidy.c and desks.c share: a stream of cases on standard input. Each has a template, a script and
  * bookings, as words after their count in two bytes, low first.
  */
 #ifndef SECTIONS_H

@@ -1,34 +1,49 @@
 /*
- * Tidies the booking lists of a stream by the library. Standard input holds case after case: template, script and
- * bookings, each after its count of words in two bytes, low first, then in two bytes how many words the buffer has,
+ * Tidies the stored lists of a stream by the library. Standard input holds case after case: template, script and
+ * stored list, each after its count of words in two bytes, low first, then in two bytes how many words the buffer has,
  * which are all 7 before the call. A line for each case goes to standard output: `written WORDS` or
  * `refused NUMBER PLACE`, then ` :` and every word of the buffer after the call. On the way it checks that a list that
- * is written is tidy, that it is shorter than the one given exactly if that is refused for a repeat, and that numbers
- * which say nothing are 0.
+ * is written has no fault, that it is the whole stored list, with the radio desk before each pair, exactly if no pair
+ * stands there twice, and that numbers which say nothing are 0.
  */
 #include "prep.h"
 #include "sections.h"
 
 #include <string.h>
 
-/* Whether a list of the sheet is refused for a repeat. */
-static int has_repeat(const struct files *files, struct words list)
+/* What is wrong with a booking list of the sheet; 0 or 40, for the grid that is not lent, if nothing is. */
+static uint16_t fault_of(const struct files *files, struct words list)
 {
-    struct prep_judge_answer j = prep_judge(LENT(files->sheet_template), LENT(files->script), LENT(list), NULL, 0);
-    return j.number == PREP_BOOKINGS_TWICE;
+    return prep_judge(LENT(files->sheet_template), LENT(files->script), LENT(list), PREP_DESK_RADIO, NULL, 0).number;
+}
+
+/* A stored list with the radio desk before each pair. */
+static struct words with_desk(struct words stored)
+{
+    struct words list = new_words(1 + 3 * (size_t)stored.word[0]);
+    size_t i;
+    list.word[0] = stored.word[0];
+    for (i = 0; i < stored.word[0]; i++) {
+        list.word[1 + 3 * i] = PREP_DESK_RADIO;
+        list.word[2 + 3 * i] = stored.word[1 + 2 * i];
+        list.word[3 + 3 * i] = stored.word[2 + 2 * i];
+    }
+    return list;
 }
 
 /* Checks a list that was written, against the one that it is made of. */
 static void check_tidy(const struct files *files, struct words tidied)
 {
-    struct words again = new_words(tidied.length);
-    struct prep_tidy_answer t =
-        prep_tidy_bookings(LENT(files->sheet_template), LENT(files->script), LENT(tidied), LENT(again));
-    REQUIRE(t.number == PREP_NOT_REFUSED && t.words == tidied.length);
-    REQUIRE(memcmp(again.word, tidied.word, tidied.length * sizeof tidied.word[0]) == 0);
-    REQUIRE(!has_repeat(files, tidied));
-    REQUIRE(has_repeat(files, files->bookings) == (tidied.length < files->bookings.length));
-    free(again.word);
+    struct words whole = with_desk(files->bookings);
+    uint16_t fault = fault_of(files, tidied);
+    REQUIRE(fault == PREP_NOT_REFUSED || fault == PREP_GRID_SIZE);
+    if (fault_of(files, whole) == PREP_BOOKINGS_TWICE) {
+        REQUIRE(tidied.length < whole.length);
+    } else {
+        REQUIRE(tidied.length == whole.length);
+        REQUIRE(memcmp(tidied.word, whole.word, whole.length * sizeof whole.word[0]) == 0);
+    }
+    free(whole.word);
 }
 
 static void print_answer(struct prep_tidy_answer t, struct words buffer)

@@ -1,11 +1,11 @@
 //! Prints the sheet that FORMAT.md works through, built from parts and links, as `sheet` does from words.
 
-use prep::{Part, Refusal, Script, ScriptBuilder, Template, TemplateBuilder, Typing};
+use prep::{Booking, Desk, Part, Refusal, Script, ScriptBuilder, Template, TemplateBuilder, Typing};
 
 /// What an application keeps.
 struct Sheet {
     script: Script,
-    bookings: Vec<(u16, u16)>,
+    bookings: Vec<Booking>,
 }
 
 /// Two kinds of links, and two shapes: no link starts at cards of the second.
@@ -34,11 +34,16 @@ fn print_cards(typing: &Typing) {
     }
 }
 
+/// The largest typing, and each desk's smallest.
 fn print(sheet: &Sheet) {
     let largest = sheet.script.largest();
     println!("largest {} {} {}", largest.rounds, largest.struck, largest.bare);
     print_cards(&largest.typing);
-    match sheet.script.smallest(&sheet.bookings) {
+    Desk::BOTH.into_iter().for_each(|desk| print_smallest(sheet, desk));
+}
+
+fn print_smallest(sheet: &Sheet, desk: Desk) {
+    match sheet.script.smallest(&sheet.bookings, desk) {
         Ok(smallest) => {
             println!("smallest {}", smallest.pairs);
             print_cards(&smallest.typing);
@@ -52,7 +57,7 @@ fn print(sheet: &Sheet) {
 
 fn main() -> Result<(), Refusal> {
     let script = script(&template()?)?;
-    print(&Sheet { script: script.clone(), bookings: vec![(2, 1)] });
-    print(&Sheet { script, bookings: vec![(0, 0)] });
+    print(&Sheet { script: script.clone(), bookings: vec![(Desk::Radio, 2, 1)] });
+    print(&Sheet { script, bookings: vec![(Desk::Radio, 0, 0)] });
     Ok(())
 }

@@ -1,6 +1,7 @@
-//! Prints the sheet that FORMAT.md works through, from its words, for a booking list that is met and one that is not.
+//! Prints the sheet that FORMAT.md works through, from its words, for bookings of the radio desk that are met and for
+//! some that are not. The television desk books nothing.
 
-use prep::{Refusal, Script, Template, Typing};
+use prep::{Booking, Desk, Largest, Refusal, Script, Smallest, Template, Typing};
 
 /// A line for each card: its shapes, ascending.
 fn print_cards(typing: &Typing) {
@@ -13,13 +14,14 @@ fn print_cards(typing: &Typing) {
     }
 }
 
-/// The largest and the smallest typing.
-fn print_sheet(script: &Script, bookings: &[(u16, u16)]) -> Result<(), Refusal> {
-    let both = script.both(bookings)?;
-    let largest = both.largest;
+fn print_largest(largest: &Largest) {
     println!("largest {} {} {}", largest.rounds, largest.struck, largest.bare);
     print_cards(&largest.typing);
-    match both.smallest {
+}
+
+/// A desk's smallest typing, or the pair that is not met.
+fn print_smallest(smallest: Result<Smallest, Refusal>) -> Result<(), Refusal> {
+    match smallest {
         Ok(smallest) => {
             println!("smallest {}", smallest.pairs);
             print_cards(&smallest.typing);
@@ -32,9 +34,18 @@ fn print_sheet(script: &Script, bookings: &[(u16, u16)]) -> Result<(), Refusal> 
     Ok(())
 }
 
+/// The largest typing, which is the same for both desks, and the smallest of each.
+fn print_sheet(script: &Script, bookings: &[Booking]) -> Result<(), Refusal> {
+    let radio = script.both(bookings, Desk::Radio)?;
+    let television = script.smallest(bookings, Desk::Television);
+    print_largest(&radio.largest);
+    print_smallest(radio.smallest)?;
+    print_smallest(television)
+}
+
 fn main() -> Result<(), Refusal> {
     let template = Template::read(vec![2, 2, 10, 17, 2, 256, 1, 1, 1, 257, 0, 0, 1, 1, 0])?;
     let script = Script::read(&template, vec![3, 3, 0, 0, 2, 0, 1, 1, 1, 0, 0])?;
-    print_sheet(&script, &[(2, 1)])?;
-    print_sheet(&script, &[(0, 0)])
+    print_sheet(&script, &[(Desk::Radio, 2, 1)])?;
+    print_sheet(&script, &[(Desk::Radio, 0, 0)])
 }

@@ -2,7 +2,7 @@
 //! library.
 //!
 //! ```
-//! use prep::{Part, Script, ScriptBuilder, TemplateBuilder};
+//! use prep::{Desk, Part, Script, ScriptBuilder, TemplateBuilder};
 //!
 //! // What an application keeps: a script owns what it was read from.
 //! struct Rundown {
@@ -24,20 +24,25 @@
 //! let rundown = Rundown { script: script.read(&template)?, host };
 //!
 //! // If the host is to be a person, the opener has to be an item.
-//! let smallest = rundown.script.smallest(&[(rundown.host, person)])?;
+//! let booked = [(Desk::Radio, rundown.host, person)];
+//! let smallest = rundown.script.smallest(&booked, Desk::Radio)?;
 //! assert!(smallest.typing.has(opener, item));
+//! // For the television desk, which books nothing, nobody has to be anything.
+//! assert_eq!(rundown.script.smallest(&booked, Desk::Television)?.pairs, 0);
 //!
 //! // A grid of another program: the opener an item, the host a person, and nothing else.
-//! rundown.script.judge(&[(rundown.host, person)], &[1, 0, 0, 1])?;
+//! rundown.script.judge(&booked, Desk::Radio, &[1, 0, 0, 1])?;
 //!
-//! // A pair that is booked twice is refused; a stored list is tidied once.
+//! // A pair that a desk books twice is refused; a list that was stored without desks is tidied once.
+//! let refused = rundown.script.smallest(&[booked[0], booked[0]], Desk::Radio).unwrap_err();
+//! assert_eq!(refused.number, prep::refusals::BOOKINGS_TWICE);
 //! let stored = [(rundown.host, person), (rundown.host, person)];
-//! assert_eq!(rundown.script.smallest(&stored).unwrap_err().number, prep::refusals::BOOKINGS_TWICE);
-//! assert_eq!(rundown.script.tidy(&stored)?, [(rundown.host, person)]);
+//! assert_eq!(rundown.script.tidy(&stored)?, booked);
 //! # Ok::<(), prep::Refusal>(())
 //! ```
 #![warn(missing_docs)]
 
+mod booking;
 mod part;
 pub mod raw;
 mod refusal;
@@ -47,6 +52,7 @@ mod template;
 mod tests;
 mod typing;
 
+pub use booking::{Booking, Desk};
 pub use part::{Bounds, Part};
 pub use refusal::{refusals, File, Place, Refusal};
 pub use script::{Link, Script, ScriptBuilder};

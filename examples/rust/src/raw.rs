@@ -138,6 +138,7 @@ extern "C" {
         script_length: usize,
         booking_words: *const u16,
         bookings_length: usize,
+        desk_number: u16,
         smallest_grid: *mut u8,
         smallest_length: usize,
     ) -> SmallestAnswer;
@@ -148,6 +149,7 @@ extern "C" {
         script_length: usize,
         booking_words: *const u16,
         bookings_length: usize,
+        desk_number: u16,
         smallest_grid: *mut u8,
         smallest_length: usize,
         largest_grid: *mut u8,
@@ -160,6 +162,7 @@ extern "C" {
         script_length: usize,
         booking_words: *const u16,
         bookings_length: usize,
+        desk_number: u16,
         judged_grid: *const u8,
         judged_length: usize,
     ) -> JudgeAnswer;
@@ -168,8 +171,8 @@ extern "C" {
         template_length: usize,
         script_words: *const u16,
         script_length: usize,
-        booking_words: *const u16,
-        bookings_length: usize,
+        stored_words: *const u16,
+        stored_length: usize,
         tidied_words: *mut u16,
         tidied_length: usize,
     ) -> TidyAnswer;
@@ -227,8 +230,14 @@ pub fn largest(template: &[u16], script: &[u16], grid: &mut [u8]) -> LargestAnsw
     }
 }
 
-/// Smallest.
-pub fn smallest(template: &[u16], script: &[u16], bookings: &[u16], grid: &mut [u8]) -> SmallestAnswer {
+/// Smallest, for the desk with this number.
+pub fn smallest(
+    template: &[u16],
+    script: &[u16],
+    bookings: &[u16],
+    desk: u16,
+    grid: &mut [u8],
+) -> SmallestAnswer {
     // SAFETY: see the module.
     unsafe {
         prep_smallest(
@@ -238,17 +247,19 @@ pub fn smallest(template: &[u16], script: &[u16], bookings: &[u16], grid: &mut [
             script.len(),
             bookings.as_ptr(),
             bookings.len(),
+            desk,
             grid.as_mut_ptr(),
             grid.len(),
         )
     }
 }
 
-/// Both typings.
+/// Both typings, for the desk with this number.
 pub fn both_typings(
     template: &[u16],
     script: &[u16],
     bookings: &[u16],
+    desk: u16,
     small: &mut [u8],
     large: &mut [u8],
 ) -> BothAnswer {
@@ -261,6 +272,7 @@ pub fn both_typings(
             script.len(),
             bookings.as_ptr(),
             bookings.len(),
+            desk,
             small.as_mut_ptr(),
             small.len(),
             large.as_mut_ptr(),
@@ -269,8 +281,8 @@ pub fn both_typings(
     }
 }
 
-/// Judge a grid.
-pub fn judge(template: &[u16], script: &[u16], bookings: &[u16], grid: &[u8]) -> JudgeAnswer {
+/// Judge a grid, for the desk with this number.
+pub fn judge(template: &[u16], script: &[u16], bookings: &[u16], desk: u16, grid: &[u8]) -> JudgeAnswer {
     // SAFETY: see the module.
     unsafe {
         prep_judge(
@@ -280,14 +292,16 @@ pub fn judge(template: &[u16], script: &[u16], bookings: &[u16], grid: &[u8]) ->
             script.len(),
             bookings.as_ptr(),
             bookings.len(),
+            desk,
             grid.as_ptr(),
             grid.len(),
         )
     }
 }
 
-/// Tidy bookings: how many words are written to `tidied`, which is as long as `bookings`; the rest stays as it was.
-pub fn tidy_bookings(template: &[u16], script: &[u16], bookings: &[u16], tidied: &mut [u16]) -> TidyAnswer {
+/// Tidy bookings: how many words are written to `tidied`, which has one word and three for each stored pair; the rest
+/// stays as it was.
+pub fn tidy_bookings(template: &[u16], script: &[u16], stored: &[u16], tidied: &mut [u16]) -> TidyAnswer {
     // SAFETY: see the module.
     unsafe {
         prep_tidy_bookings(
@@ -295,8 +309,8 @@ pub fn tidy_bookings(template: &[u16], script: &[u16], bookings: &[u16], tidied:
             template.len(),
             script.as_ptr(),
             script.len(),
-            bookings.as_ptr(),
-            bookings.len(),
+            stored.as_ptr(),
+            stored.len(),
             tidied.as_mut_ptr(),
             tidied.len(),
         )

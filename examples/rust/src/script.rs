@@ -1,8 +1,9 @@
 //! Scripts: read from words, or built from links.
 
+use crate::booking::{booking_words, bookings_of, stored_words};
 use crate::part::word;
 use crate::refusal::{refusals, refused, refused_pair};
-use crate::{raw, Both, Largest, Refusal, Smallest, Template, Typing};
+use crate::{raw, Booking, Both, Desk, Largest, Refusal, Smallest, Template, Typing};
 use std::collections::BTreeSet;
 
 /// A link of a script. Links are ordered as in a file: by from, then kind, then to.
@@ -71,21 +72,22 @@ impl Script {
         Largest { typing: self.typing(grid), rounds: answer.rounds, struck: answer.struck, bare: answer.bare }
     }
 
-    /// The smallest sound typing that has the booked pairs of card and shape. Refusals: 31 to 33, 65 where a pair is
-    /// booked a second time, and 50 where there is no such typing.
-    pub fn smallest(&self, bookings: &[(u16, u16)]) -> Result<Smallest, Refusal> {
+    /// The smallest sound typing that has the pairs of card and shape that the desk books. Refusals, for bookings of
+    /// either desk: 31 to 33, 65 where a desk books a pair a second time; and 50 where there is no such typing.
+    pub fn smallest(&self, bookings: &[Booking], desk: Desk) -> Result<Smallest, Refusal> {
         let mut grid = self.grid();
-        let answer = raw::smallest(self.template.words(), &self.words, &booking_words(bookings), &mut grid);
+        let list = booking_words(bookings);
+        let answer = raw::smallest(self.template.words(), &self.words, &list, desk.number(), &mut grid);
         refused_pair(answer.number, answer.place, answer.card, answer.shape)?;
         Ok(Smallest { typing: self.typing(grid), pairs: answer.pairs })
     }
 
-    /// Both typings in one call. Where only the bookings are not met, the largest is there and the smallest is
-    /// refusal 50. Refusals: 31 to 33, 65.
-    pub fn both(&self, bookings: &[(u16, u16)]) -> Result<Both, Refusal> {
+    /// Both typings in one call; the largest is the same for either desk. Where only the desk's bookings are not met,
+    /// the largest is there and the smallest is refusal 50. Refusals: 31 to 33, 65.
+    pub fn both(&self, bookings: &[Booking], desk: Desk) -> Result<Both, Refusal> {
         let (mut small, mut large) = (self.grid(), self.grid());
-        let list = booking_words(bookings);
-        let answer = raw::both_typings(self.template.words(), &self.words, &list, &mut small, &mut large);
+        let (template, list) = (self.template.words(), booking_words(bookings));
+        let answer = raw::both_typings(template, &self.words, &list, desk.number(), &mut small, &mut large);
         let smallest = match refused_pair(answer.number, answer.place, answer.card, answer.shape) {
             Ok(()) => Ok(Smallest { typing: self.typing(small), pairs: answer.pairs }),
             Err(refusal) if refusal.number == refusals::NOT_MET => Err(refusal),
@@ -96,27 +98,28 @@ impl Script {
         Ok(Both { largest, smallest })
     }
 
-    /// Whether a grid, perhaps of another program, is a sound typing that has the booked pairs of card and shape: a
-    /// byte for each pair, 1 where card n has shape t, at place n × shapes + t, else 0. Refusals: 31 to 33, 65, 40,
-    /// 61 to 63; 62 names the pair that is not met.
-    pub fn judge(&self, bookings: &[(u16, u16)], grid: &[u8]) -> Result<(), Refusal> {
-        let answer = raw::judge(self.template.words(), &self.words, &booking_words(bookings), grid);
+    /// Whether a grid, perhaps of another program, is a sound typing that has the pairs of card and shape that the
+    /// desk books: a byte for each pair, 1 where card n has shape t, at place n × shapes + t, else 0. Refusals: 31 to
+    /// 33, 65, 40, 61 to 63; 62 names the pair that is not met.
+    pub fn judge(&self, bookings: &[Booking], desk: Desk, grid: &[u8]) -> Result<(), Refusal> {
+        let list = booking_words(bookings);
+        let answer = raw::judge(self.template.words(), &self.words, &list, desk.number(), grid);
         refused_pair(answer.number, answer.place, answer.card, answer.shape)
     }
 
     /// Judges a typing by the bytes of its grid. One of another script is judged as if it were this script's.
-    pub fn judge_typing(&self, bookings: &[(u16, u16)], typing: &Typing) -> Result<(), Refusal> {
-        self.judge(bookings, typing.grid())
+    pub fn judge_typing(&self, bookings: &[Booking], desk: Desk, typing: &Typing) -> Result<(), Refusal> {
+        self.judge(bookings, desk, typing.grid())
     }
 
-    /// The first booking of each pair, in the list's order, for stored lists in which a pair may stand several times.
-    /// What the list books stays the same, and it is no longer refused with 65. Refusals: 31 to 33.
-    pub fn tidy(&self, bookings: &[(u16, u16)]) -> Result<Vec<(u16, u16)>, Refusal> {
-        let list = booking_words(bookings);
-        let mut tidied = vec![0; list.len()];
-        let answer = raw::tidy_bookings(self.template.words(), &self.words, &list, &mut tidied);
+    /// The first booking of each pair, in the list's order, as the radio's. This is for lists that were stored with a
+    /// version before 5: pairs of card and shape, which may stand there several times. Refusals: 31 to 33.
+    pub fn tidy(&self, stored: &[(u16, u16)]) -> Result<Vec<Booking>, Refusal> {
+        let mut tidied = vec![0; 1 + 3 * stored.len()];
+        let answer =
+            raw::tidy_bookings(self.template.words(), &self.words, &stored_words(stored), &mut tidied);
         refused(answer.number, answer.place)?;
-        Ok(tidied[1..answer.words].chunks_exact(2).map(|pair| (pair[0], pair[1])).collect())
+        Ok(bookings_of(&tidied[..answer.words]))
     }
 
     /// A grid of the script's size.
@@ -127,12 +130,6 @@ impl Script {
     fn typing(&self, grid: Vec<u8>) -> Typing {
         Typing::new(grid, self.cards, self.template.shapes())
     }
-}
-
-/// A booking list: its count, then each pair. A count that no word holds is refused as any over 1,024 is.
-fn booking_words(bookings: &[(u16, u16)]) -> Vec<u16> {
-    let pairs = bookings.iter().flat_map(|&(card, shape)| [card, shape]);
-    std::iter::once(word(bookings.len())).chain(pairs).collect()
 }
 
 /// A script that is being built: cards and links, in any order.

@@ -1,6 +1,7 @@
 //! The worked sheet and small inputs through the wrapper.
 
 use super::*;
+use Desk::{Radio, Television};
 
 fn template() -> Template {
     Template::read(vec![2, 2, 10, 17, 2, 256, 1, 1, 1, 257, 0, 0, 1, 1, 0]).unwrap()
@@ -90,17 +91,18 @@ fn what_arrives_counts_if_it_is_named() {
 #[test]
 fn a_booking_reaches_against_a_link() {
     let script = Script::read(&guests(), vec![2, 1, 0, 0, 1]).unwrap();
-    let both = script.both(&[(1, 1)]).unwrap();
+    let booked = [(Television, 1, 1)];
+    let both = script.both(&booked, Television).unwrap();
     assert_eq!((both.largest.rounds, both.largest.struck, both.largest.bare), (2, 2, 0));
     let smallest = both.smallest.unwrap();
     assert_eq!((smallest.pairs, smallest.typing.grid()), (2, &[1, 0, 0, 1][..]));
     assert_eq!(smallest.typing, both.largest.typing);
-    assert_eq!(script.judge_typing(&[(1, 1)], &smallest.typing), Ok(()));
+    assert_eq!(script.judge_typing(&booked, Television, &smallest.typing), Ok(()));
     let unmet = |number, card| Refusal { number, place: Place::Pair { card, shape: 1 } };
-    assert_eq!(script.judge(&[(1, 1)], &[0, 0, 0, 1]), Err(unmet(62, 1)));
+    assert_eq!(script.judge(&booked, Television, &[0, 0, 0, 1]), Err(unmet(62, 1)));
     // Nobody points at card 2.
     let script = Script::read(&guests(), vec![3, 1, 0, 0, 1]).unwrap();
-    assert_eq!(script.smallest(&[(2, 1)]), Err(unmet(50, 2)));
+    assert_eq!(script.smallest(&[(Radio, 2, 1)], Radio), Err(unmet(50, 2)));
 }
 
 #[test]
@@ -111,13 +113,13 @@ fn an_open_shape_ignores_what_it_does_not_name() {
     assert_eq!(template.fits(1, &[0, 7, 0, 0]), Ok(false));
     assert_eq!(template.fits(0, &[1, 8193, 0, 0]), Err(word(43, 1)));
     let script = Script::read(&template, vec![3, 2, 0, 0, 1, 0, 1, 2]).unwrap();
-    let both = script.both(&[(0, 0)]).unwrap();
+    let both = script.both(&[(Radio, 0, 0)], Radio).unwrap();
     assert_eq!((both.largest.rounds, both.largest.struck, both.largest.bare), (2, 3, 0));
     let smallest = both.smallest.unwrap();
     assert_eq!((smallest.pairs, smallest.typing.grid()), (2, &[1, 0, 0, 1, 0, 0][..]));
     // The ignored link is a link of card 0, and its target need not have a shape.
     assert_eq!(script.links_of(0).len(), 2);
-    assert_eq!(script.judge_typing(&[(0, 0)], &smallest.typing), Ok(()));
+    assert_eq!(script.judge_typing(&[(Radio, 0, 0)], Radio, &smallest.typing), Ok(()));
 }
 
 #[test]
@@ -150,10 +152,11 @@ fn both_typings_of_the_sheet() {
     let largest = script.largest();
     assert_eq!((largest.rounds, largest.struck, largest.bare), (4, 5, 2));
     assert_eq!(largest.typing.grid(), [0, 0, 0, 0, 0, 1]);
-    let smallest = script.smallest(&[(2, 1)]).unwrap();
+    let booked = [(Radio, 2, 1)];
+    let smallest = script.smallest(&booked, Radio).unwrap();
     assert_eq!(smallest.pairs, 1);
     assert_eq!(smallest.typing.shapes_of(2).collect::<Vec<_>>(), [1]);
-    let both = script.both(&[(2, 1)]).unwrap();
+    let both = script.both(&booked, Radio).unwrap();
     assert_eq!(both, Both { largest, smallest: Ok(smallest) });
 }
 
@@ -162,8 +165,9 @@ fn bookings_that_are_not_met() {
     let template = template();
     let script = Script::read(&template, SCRIPT.to_vec()).unwrap();
     let refused = Refusal { number: 50, place: Place::Pair { card: 0, shape: 1 } };
-    assert_eq!(script.smallest(&[(0, 0)]), Err(refused));
-    let both = script.both(&[(0, 0)]).unwrap();
+    let booked = [(Radio, 0, 0)];
+    assert_eq!(script.smallest(&booked, Radio), Err(refused));
+    let both = script.both(&booked, Radio).unwrap();
     assert_eq!(both.smallest, Err(refused));
     assert_eq!(both.largest, script.largest());
     assert_eq!(refused.to_string(), "the bookings are not met (refusal 50, card 0, shape 1)");
@@ -173,42 +177,112 @@ fn bookings_that_are_not_met() {
 fn bookings_that_are_refused() {
     let template = template();
     let script = Script::read(&template, SCRIPT.to_vec()).unwrap();
-    assert_eq!(script.smallest(&[(3, 0)]), Err(word(32, 1)));
-    assert_eq!(script.smallest(&[(0, 0), (0, 2)]), Err(word(33, 4)));
-    assert_eq!(script.smallest(&vec![(0, 0); 1025]), Err(word(31, 0)));
-    assert_eq!(script.smallest(&vec![(0, 0); 70_000]), Err(word(31, 0)));
-    assert_eq!(script.both(&[(3, 0)]), Err(word(32, 1)));
+    for desk in Desk::BOTH {
+        assert_eq!(script.smallest(&[(Radio, 3, 1)], desk), Err(word(32, 2)));
+        assert_eq!(script.smallest(&[(Television, 0, 0), (Radio, 0, 2)], desk), Err(word(33, 6)));
+        assert_eq!(script.smallest(&vec![(Radio, 0, 0); 1025], desk), Err(word(31, 0)));
+        assert_eq!(script.smallest(&vec![(Radio, 0, 0); 70_000], desk), Err(word(31, 0)));
+        assert_eq!(script.both(&[(Television, 3, 0)], desk), Err(word(32, 2)));
+    }
+}
+
+/// The number and the place that each function of `raw` answers on the sheet, with grids of so many bytes, which stay
+/// as they were.
+fn refused(bookings: &[u16], desk: u16, bytes: usize) -> [(u16, usize); 3] {
+    let template = template();
+    let (mut small, mut large) = (vec![9; bytes], vec![9; bytes]);
+    let alone = raw::smallest(template.words(), &SCRIPT, bookings, desk, &mut small);
+    let both = raw::both_typings(template.words(), &SCRIPT, bookings, desk, &mut small, &mut large);
+    let judged = raw::judge(template.words(), &SCRIPT, bookings, desk, &large);
+    assert!(small.iter().chain(&large).all(|&byte| byte == 9));
+    [(alone.number, alone.place), (both.number, both.place), (judged.number, judged.place)]
 }
 
 #[test]
-fn a_pair_is_booked_once() {
+fn words_of_bookings_are_refused_for_every_desk() {
+    let two_words_each = [1, 2, 1];
+    for desk in [0, 1, 2, u16::MAX] {
+        for bytes in [5, 6] {
+            assert_eq!(refused(&[], desk, bytes), [(30, 0); 3]);
+            assert_eq!(refused(&[1025, 2, 9, 9], desk, bytes), [(31, 0); 3]);
+            assert_eq!(refused(&two_words_each, desk, bytes), [(30, 0); 3]);
+            assert_eq!(refused(&[1, 2, 9, 9], desk, bytes), [(refusals::BOOKINGS_DESK, 1); 3]);
+            assert_eq!(refused(&[2, 1, 2, 1, 2, 9, 9], desk, bytes), [(66, 4); 3]);
+            assert_eq!(refused(&[1, 0, 3, 1], desk, bytes), [(32, 2); 3]);
+            assert_eq!(refused(&[1, 1, 2, 2], desk, bytes), [(33, 3); 3]);
+            assert_eq!(refused(&[2, 0, 2, 1, 0, 2, 1], desk, bytes), [(65, 5); 3]);
+        }
+    }
+}
+
+#[test]
+fn a_desk_that_there_is_not_is_refused_after_the_list() {
+    for bytes in [5, 6] {
+        assert_eq!(refused(&[1, 0, 2, 1], 2, bytes), [(66, 0); 3]);
+        assert_eq!(refused(&[0], u16::MAX, bytes), [(66, 0); 3]);
+    }
+    assert_eq!(refused(&[1, 0, 2, 1], Television.number(), 5), [(40, 0); 3]);
+    let mut grid = vec![9; 6];
+    let answer = raw::smallest(template().words(), &SCRIPT, &[1, 0, 2, 1], Television.number(), &mut grid);
+    assert_eq!((answer.number, answer.pairs, grid), (0, 0, vec![0; 6]));
+}
+
+#[test]
+fn a_pair_is_booked_once_by_a_desk() {
     let script = Script::read(&template(), SCRIPT.to_vec()).unwrap();
-    let refused = |bookings: &[(u16, u16)], refusal| {
-        assert_eq!(script.smallest(bookings), Err(refusal));
-        assert_eq!(script.both(bookings), Err(refusal));
-        assert_eq!(script.judge(bookings, &[0, 0, 0, 0, 0, 1]), Err(refusal));
-        assert_eq!(script.judge(bookings, &[]), Err(refusal));
+    let refused = |bookings: &[Booking], refusal| {
+        for desk in Desk::BOTH {
+            assert_eq!(script.smallest(bookings, desk), Err(refusal));
+            assert_eq!(script.both(bookings, desk), Err(refusal));
+            assert_eq!(script.judge(bookings, desk, &[0, 0, 0, 0, 0, 1]), Err(refusal));
+            assert_eq!(script.judge(bookings, desk, &[]), Err(refusal));
+        }
     };
-    refused(&[(2, 1), (2, 1)], word(refusals::BOOKINGS_TWICE, 3));
-    refused(&[(2, 1), (0, 0), (2, 1)], word(65, 5));
-    refused(&[(2, 1), (2, 1), (9, 9)], word(65, 3));
-    refused(&[(2, 1), (2, 2)], word(33, 4));
+    let booked = (Radio, 2, 1);
+    refused(&[booked, booked], word(refusals::BOOKINGS_TWICE, 5));
+    refused(&[booked, (Radio, 0, 0), booked], word(65, 8));
+    refused(&[booked, (Television, 2, 1), booked], word(65, 8));
+    refused(&[booked, booked, (Radio, 9, 9)], word(65, 5));
+    refused(&[booked, (Radio, 2, 2)], word(33, 6));
     // One card with two shapes is no repeat.
     let unmet = Refusal { number: 50, place: Place::Pair { card: 0, shape: 1 } };
-    assert_eq!(script.smallest(&[(0, 0), (0, 1)]), Err(unmet));
+    assert_eq!(script.smallest(&[(Radio, 0, 0), (Radio, 0, 1)], Radio), Err(unmet));
+}
+
+#[test]
+fn what_one_desk_books_changes_nothing_for_the_other() {
+    let script = Script::read(&template(), SCRIPT.to_vec()).unwrap();
+    let unmet = Refusal { number: 50, place: Place::Pair { card: 0, shape: 1 } };
+    let pairs = |bookings: &[Booking], desk| script.smallest(bookings, desk).map(|found| found.pairs);
+    for (one, other) in [(Radio, Television), (Television, Radio)] {
+        assert_eq!(pairs(&[(one, 2, 1)], one), Ok(1));
+        assert_eq!(pairs(&[(one, 2, 1)], other), Ok(0));
+        assert_eq!(pairs(&[(one, 2, 1), (other, 2, 1)], one), Ok(1));
+        assert_eq!(pairs(&[(one, 0, 0), (other, 0, 0)], one), Err(unmet));
+        let bookings = [(other, 0, 0), (one, 2, 1)];
+        assert_eq!((pairs(&bookings, one), pairs(&bookings, other)), (Ok(1), Err(unmet)));
+        for desk in Desk::BOTH {
+            let both = script.both(&bookings, desk).unwrap();
+            assert_eq!(both, Both { largest: script.largest(), smallest: script.smallest(&bookings, desk) });
+        }
+        assert_eq!(script.judge(&bookings, one, &[0, 0, 0, 0, 0, 1]), Ok(()));
+        assert_eq!(script.judge(&bookings, other, &[0, 0, 0, 0, 0, 1]), Err(word(63, 2)));
+        assert_eq!(script.judge(&bookings, one, &[0; 6]), Err(word(63, 5)));
+    }
 }
 
 #[test]
 fn bookings_are_tidied() {
     let script = Script::read(&template(), SCRIPT.to_vec()).unwrap();
-    let tidy = |bookings: &[(u16, u16)]| script.tidy(bookings);
+    let tidy = |stored: &[(u16, u16)]| script.tidy(stored);
     assert_eq!(tidy(&[]), Ok(vec![]));
-    assert_eq!(tidy(&[(2, 1), (0, 0), (2, 1)]), Ok(vec![(2, 1), (0, 0)]));
-    assert_eq!(tidy(&[(0, 0), (0, 1), (0, 0), (0, 1), (1, 0)]), Ok(vec![(0, 0), (0, 1), (1, 0)]));
-    assert_eq!(tidy(&[(2, 1); 1024]), Ok(vec![(2, 1)]));
+    assert_eq!(tidy(&[(2, 1), (0, 0), (2, 1)]), Ok(vec![(Radio, 2, 1), (Radio, 0, 0)]));
+    let several = vec![(Radio, 0, 0), (Radio, 0, 1), (Radio, 1, 0)];
+    assert_eq!(tidy(&[(0, 0), (0, 1), (0, 0), (0, 1), (1, 0)]), Ok(several));
+    assert_eq!(tidy(&[(2, 1); 1024]), Ok(vec![(Radio, 2, 1)]));
     let tidied = tidy(&[(2, 1), (2, 1)]).unwrap();
-    assert_eq!(script.smallest(&tidied).unwrap().pairs, 1);
-    assert_eq!(tidy(&tidied), Ok(tidied));
+    assert_eq!(script.smallest(&tidied, Radio).unwrap().pairs, 1);
+    assert_eq!(script.smallest(&tidied, Television).unwrap().pairs, 0);
     assert_eq!(tidy(&[(2, 1); 1025]), Err(word(31, 0)));
     assert_eq!(tidy(&[(2, 1); 70_000]), Err(word(31, 0)));
     assert_eq!(tidy(&[(2, 1), (2, 1), (3, 9)]), Err(word(32, 5)));
@@ -216,21 +290,23 @@ fn bookings_are_tidied() {
 }
 
 #[test]
-fn words_are_tidied_into_as_many() {
+fn words_are_tidied_into_three_for_each_pair() {
     let told = |number, place, words| raw::TidyAnswer { number, place, words };
-    let tidy = |template: &[u16], script: &[u16], bookings: &[u16], length| {
+    let tidy = |template: &[u16], script: &[u16], stored: &[u16], length| {
         let mut tidied = vec![7; length];
-        let answer = raw::tidy_bookings(template, script, bookings, &mut tidied);
+        let answer = raw::tidy_bookings(template, script, stored, &mut tidied);
         assert!(answer.number == 0 || tidied.iter().all(|&word| word == 7));
         (answer, tidied)
     };
-    let sheet = |bookings: &[u16], length| tidy(template().words(), &SCRIPT, bookings, length);
-    assert_eq!(sheet(&[3, 2, 1, 0, 0, 2, 1], 7), (told(0, 0, 5), vec![2, 2, 1, 0, 0, 7, 7]));
+    let sheet = |stored: &[u16], length| tidy(template().words(), &SCRIPT, stored, length);
+    let written = vec![2, 0, 2, 1, 0, 0, 0, 7, 7, 7];
+    assert_eq!(sheet(&[3, 2, 1, 0, 0, 2, 1], 10), (told(0, 0, 7), written));
     assert_eq!(sheet(&[0], 1), (told(0, 0, 1), vec![0]));
-    for length in [0, 6, 8] {
+    for length in [0, 7, 9, 11] {
         assert_eq!(sheet(&[3, 2, 1, 0, 0, 2, 1], length).0, told(refusals::GRID_SIZE, 0, 0));
     }
     assert_eq!(sheet(&[1, 2, 2], 9).0, told(33, 2, 0));
+    assert_eq!(sheet(&[1, 0, 2, 1], 4).0, told(30, 0, 0));
     assert_eq!(sheet(&[], 9).0, told(30, 0, 0));
     assert_eq!(tidy(&[1, 1, 1, 4], &[1025, 0], &[], 9).0, told(5, 3, 0));
     assert_eq!(tidy(template().words(), &[2, 1, 0, 0, 2], &[], 9).0, told(23, 4, 0));
@@ -239,34 +315,38 @@ fn words_are_tidied_into_as_many() {
 #[test]
 fn a_grid_is_accepted() {
     let script = Script::read(&template(), SCRIPT.to_vec()).unwrap();
-    assert_eq!(script.judge(&[(2, 1)], &[0, 0, 0, 0, 0, 1]), Ok(()));
-    assert_eq!(script.judge(&[], &[0; 6]), Ok(()));
-    assert_eq!(Script::read(&template(), vec![0, 0]).unwrap().judge(&[], &[]), Ok(()));
+    assert_eq!(script.judge(&[(Radio, 2, 1)], Radio, &[0, 0, 0, 0, 0, 1]), Ok(()));
+    assert_eq!(script.judge(&[(Radio, 2, 1)], Television, &[0; 6]), Ok(()));
+    assert_eq!(Script::read(&template(), vec![0, 0]).unwrap().judge(&[], Radio, &[]), Ok(()));
 }
 
 #[test]
 fn a_grid_is_refused_at_its_first_fault() {
     let script = Script::read(&template(), SCRIPT.to_vec()).unwrap();
+    let judge = |pairs: &[(u16, u16)], grid: &[u8]| {
+        let bookings: Vec<Booking> = pairs.iter().map(|&(card, shape)| (Radio, card, shape)).collect();
+        script.judge(&bookings, Radio, grid)
+    };
     let pair = Refusal { number: refusals::GRID_NOT_MET, place: Place::Pair { card: 1, shape: 0 } };
-    assert_eq!(script.judge(&vec![(0, 0); 1025], &[2]), Err(word(31, 0)));
-    assert_eq!(script.judge(&[(3, 1)], &[2]), Err(word(32, 1)));
-    assert_eq!(script.judge(&[(2, 2)], &[2]), Err(word(33, 2)));
-    assert_eq!(script.judge(&[(0, 0)], &[2, 1, 1, 0, 0]), Err(word(40, 0)));
-    assert_eq!(script.judge(&[(0, 0)], &[0; 7]), Err(word(40, 0)));
-    assert_eq!(script.judge(&[(1, 0)], &[0, 1, 0, 0, 0, 2]), Err(word(61, 5)));
-    assert_eq!(script.judge(&[(2, 1)], &[0, 2, 0, 0, 0, 255]), Err(word(61, 1)));
-    assert_eq!(script.judge(&[(0, 0)], &[0, 0, 1, 1, 0, 1]), Err(pair));
-    assert_eq!(script.judge(&[(2, 1), (0, 0)], &[0, 0, 0, 0, 0, 1]), Err(word(63, 3)));
+    assert_eq!(judge(&[(0, 0); 1025], &[2]), Err(word(31, 0)));
+    assert_eq!(judge(&[(3, 1)], &[2]), Err(word(32, 2)));
+    assert_eq!(judge(&[(2, 2)], &[2]), Err(word(33, 3)));
+    assert_eq!(judge(&[(0, 0)], &[2, 1, 1, 0, 0]), Err(word(40, 0)));
+    assert_eq!(judge(&[(0, 0)], &[0; 7]), Err(word(40, 0)));
+    assert_eq!(judge(&[(1, 0)], &[0, 1, 0, 0, 0, 2]), Err(word(61, 5)));
+    assert_eq!(judge(&[(2, 1)], &[0, 2, 0, 0, 0, 255]), Err(word(61, 1)));
+    assert_eq!(judge(&[(0, 0)], &[0, 0, 1, 1, 0, 1]), Err(pair));
+    assert_eq!(judge(&[(2, 1), (0, 0)], &[0, 0, 0, 0, 0, 1]), Err(word(63, 5)));
 }
 
 #[test]
 fn a_judged_grid_is_refused_for_its_files_first() {
-    let judge = |template: &[u16], script: &[u16]| raw::judge(template, script, &[], &[2]);
+    let judge = |template: &[u16], script: &[u16]| raw::judge(template, script, &[], 2, &[2]);
     let told = |number, place| raw::JudgeAnswer { number, card: 0, shape: 0, place };
     assert_eq!(judge(&[1, 1, 1, 4], &[1025, 0]), told(5, 3));
     assert_eq!(judge(template().words(), &[2, 1, 0, 0, 2]), told(23, 4));
     assert_eq!(judge(template().words(), &SCRIPT), told(30, 0));
-    let accepted = raw::judge(template().words(), &SCRIPT, &[1, 2, 1], &[0, 0, 0, 0, 0, 1]);
+    let accepted = raw::judge(template().words(), &SCRIPT, &[1, 0, 2, 1], 0, &[0, 0, 0, 0, 0, 1]);
     assert_eq!(accepted, told(0, 0));
 }
 
@@ -278,17 +358,17 @@ fn our_own_typings_are_accepted() {
     let mut links = ScriptBuilder::with_cards(3);
     links.link(0, next, 1);
     let script = links.read(&builder.read().unwrap()).unwrap();
-    let booked = [(0, item)];
-    let both = script.both(&booked).unwrap();
-    let smallest = script.smallest(&booked).unwrap().typing;
+    let booked = [(Radio, 0, item)];
+    let both = script.both(&booked, Radio).unwrap();
+    let smallest = script.smallest(&booked, Radio).unwrap().typing;
     let largest = script.largest().typing;
     assert_eq!((smallest.grid(), largest.grid()), (&[1, 1, 0][..], &[1, 1, 1][..]));
     for typing in [smallest, largest, both.smallest.unwrap().typing, both.largest.typing] {
-        assert_eq!(script.judge_typing(&booked, &typing), Ok(()));
+        assert_eq!(script.judge_typing(&booked, Radio, &typing), Ok(()));
     }
     // Between the two, but card 0 leads to a card without the shape.
     let unmet = Refusal { number: 62, place: Place::Pair { card: 0, shape: 0 } };
-    assert_eq!(script.judge(&[], &[1, 0, 0]), Err(unmet));
+    assert_eq!(script.judge(&[], Radio, &[1, 0, 0]), Err(unmet));
 }
 
 #[test]
@@ -309,9 +389,12 @@ fn a_refusal_says_what_and_where() {
     let message = "the code of an open shape is not the first word of a shape (refusal 64, word 4)";
     assert_eq!(word(refusals::TEMPLATE_OPEN, 4).to_string(), message);
     assert_eq!(word(refusals::TEMPLATE_OPEN, 4).file(), File::Template);
-    let message = "a pair is booked a second time (refusal 65, word 3)";
-    assert_eq!(word(refusals::BOOKINGS_TWICE, 3).to_string(), message);
-    assert_eq!(word(refusals::BOOKINGS_TWICE, 3).file(), File::Bookings);
+    let message = "a desk books a pair a second time (refusal 65, word 5)";
+    assert_eq!(word(refusals::BOOKINGS_TWICE, 5).to_string(), message);
+    assert_eq!(word(refusals::BOOKINGS_TWICE, 5).file(), File::Bookings);
+    let message = "a desk is neither 0 nor 1 (refusal 66, word 1)";
+    assert_eq!(word(refusals::BOOKINGS_DESK, 1).to_string(), message);
+    assert_eq!(word(refusals::BOOKINGS_DESK, 1).file(), File::Bookings);
     let message = "a byte of the grid is over 1 (refusal 61, byte 5)";
     assert_eq!(word(refusals::GRID_BYTE, 5).to_string(), message);
     let message = "a booked pair is not in the grid (refusal 63, word 3)";

@@ -1,6 +1,7 @@
 //! The sheets that are timed.
 
 use crate::tidying::Listed;
+use prep::Desk;
 use prep_tools::generate::{heavy, special};
 use prep_tools::script::{MOST_CARDS, MOST_LINKS};
 use prep_tools::sheet::{self, Files};
@@ -27,7 +28,8 @@ pub struct Input {
     pub aim: Option<f64>,
 }
 
-/// The first sheets on which both typings are timed. Only (d) and (e) name links that arrive.
+/// The first sheets on which both typings are timed, for the one desk that books. Only (d) and (e) name links that
+/// arrive.
 pub fn first() -> Result<Vec<Input>, String> {
     let programme = sheet::split(PROGRAMME).map_err(|refusal| format!("the worked example: {refusal}"))?;
     let input = |name, files, aim| Input {
@@ -96,8 +98,9 @@ pub fn further() -> [Input; 4] {
     ]
 }
 
-/// As many bookings as can be, all different and all alike, on the densest sheet and on one that is read at once: all
-/// cards without links, under shapes that are nothing. A pair is looked for longest where few cards have every shape.
+/// As many stored pairs as can be, all different and all alike, on the densest sheet and on one that is read at once:
+/// all cards without links, under shapes that are nothing. A pair is looked for longest where few cards have every
+/// shape.
 pub fn listed() -> [Listed; 5] {
     let bare = || Files {
         template: special::nothings(MOST_SHAPES),
@@ -115,18 +118,19 @@ pub fn listed() -> [Listed; 5] {
     ]
 }
 
-/// The sheet with as many bookings as can be, of these pairs, which are all different.
+/// The sheet with as many stored pairs as can be, these, which are all different.
 fn different(name: &'static str, mut files: Files, pair: fn(u16) -> [u16; 2]) -> Listed {
-    let pairs = (0..MOST_BOOKINGS).flat_map(pair);
-    files.bookings = [MOST_BOOKINGS].into_iter().chain(pairs).collect();
-    let tidied = files.bookings.clone();
+    let pairs = || (0..MOST_BOOKINGS).map(pair);
+    files.bookings = [MOST_BOOKINGS].into_iter().chain(pairs().flatten()).collect();
+    let kept = pairs().flat_map(|[card, shape]| [Desk::Radio.number(), card, shape]);
+    let tidied = [MOST_BOOKINGS].into_iter().chain(kept).collect();
     Listed { name, files, tidied }
 }
 
-/// The sheet with the same booking as often as can be.
+/// The sheet with the same stored pair as often as can be.
 fn alike(name: &'static str, mut files: Files) -> Listed {
     let pairs = (0..MOST_BOOKINGS).flat_map(|_| [MOST_CARDS - 1, 0]);
     files.bookings = [MOST_BOOKINGS].into_iter().chain(pairs).collect();
-    let tidied = vec![1, MOST_CARDS - 1, 0];
+    let tidied = vec![1, Desk::Radio.number(), MOST_CARDS - 1, 0];
     Listed { name, files, tidied }
 }

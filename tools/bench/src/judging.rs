@@ -1,6 +1,7 @@
 //! The library's judge against its largest typing, each on the same sheet.
 
 use crate::inputs::Input;
+use crate::library::DESK;
 use crate::runs;
 use prep::raw::{self, JudgeAnswer};
 
@@ -33,7 +34,7 @@ pub fn time(input: &Input) -> bool {
     let shapes = usize::from(raw::read_template(template).shapes);
     let mut grid = vec![0xa5; cards * shapes];
     let largest = runs::median(|| raw::largest(template, script, &mut grid));
-    let judged = || raw::judge(template, script, &NOTHING_BOOKED, &grid);
+    let judged = || raw::judge(template, script, &NOTHING_BOOKED, DESK.number(), &grid);
     let accepted = judged() == ACCEPTED;
     let judge = runs::median(judged);
     println!(

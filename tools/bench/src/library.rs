@@ -1,6 +1,7 @@
 //! The library's call for both typings, on grids that are kept from call to call.
 
 use prep::raw::{self, BothAnswer};
+use prep::Desk;
 use prep_tools::sheet::Files;
 use prep_tools::typing::{Both, Smallest};
 
@@ -41,12 +42,16 @@ impl Buffers {
     }
 }
 
+/// The desk that books, and for which both typings are asked.
+pub const DESK: Desk = Desk::Radio;
+
 /// Both typings by the library.
 pub fn both(files: &Files, buffers: &mut Buffers) -> BothAnswer {
     raw::both_typings(
         &files.template,
         &files.script,
         &files.bookings,
+        DESK.number(),
         &mut buffers.small,
         &mut buffers.large,
     )

@@ -1,8 +1,8 @@
 //! Times the built library against the other implementation: against its linear algorithm, which tests the counts of
 //! each pair once for both typings, and against its naive rounds, in one process, on the same inputs. Each does both
-//! typings, from words to grids, refusals tested. Most sheets have an aim, at most how many times the linear
-//! algorithm's time the library should take; whether it is reached is told, and doesn't matter to the exit code. Then
-//! the library's judge is timed against its largest typing, and its tidying of bookings against its reading.
+//! typings for one desk, from words to grids, refusals tested. Most sheets have an aim, at most how many times the
+//! linear algorithm's time the library should take; whether it is reached is told, and doesn't matter to the exit code.
+//! Then the library's judge is timed against its largest typing, and its tidying of bookings against its reading.
 //!
 //! | module    | what                                              |
 //! |-----------|---------------------------------------------------|
@@ -19,7 +19,7 @@ mod runs;
 mod tidying;
 
 use inputs::Input;
-use library::Buffers;
+use library::{Buffers, DESK};
 use prep_tools::typing::{self, Both};
 use std::process::ExitCode;
 
@@ -101,8 +101,9 @@ fn print_head() {
 /// Times one sheet, prints its line, and tells whether all answers and grids agree.
 fn time(input: &Input) -> bool {
     let files = &input.files;
-    let ours = || typing::both(&files.template, &files.script, &files.bookings);
-    let naive = || typing::both_by_rounds(&files.template, &files.script, &files.bookings);
+    let desk = DESK.number();
+    let ours = || typing::both(&files.template, &files.script, &files.bookings, desk);
+    let naive = || typing::both_by_rounds(&files.template, &files.script, &files.bookings, desk);
     let Ok(expected) = ours() else {
         println!("{:34} is refused", input.name);
         return false;

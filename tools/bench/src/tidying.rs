@@ -11,7 +11,7 @@ const UNTOUCHED: u16 = 7;
 pub struct Listed {
     /// What it is.
     pub name: &'static str,
-    /// Its words; pairs may stand in the list several times.
+    /// Its words. The list is a stored one, without desks, where pairs may stand several times.
     pub files: Files,
     /// The list that is owed.
     pub tidied: Vec<u16>,
@@ -31,7 +31,7 @@ pub fn print_head() {
 /// Times one list, prints its line, and tells whether what is written is the list that is owed.
 pub fn time(listed: &Listed) -> bool {
     let files = &listed.files;
-    let mut buffer = vec![UNTOUCHED; files.bookings.len()];
+    let mut buffer = vec![UNTOUCHED; 1 + 3 * usize::from(files.bookings[0])];
     let read = || raw::read_script(&files.template, &files.script);
     let tidy = || raw::tidy_bookings(&files.template, &files.script, &files.bookings, &mut buffer);
     let [read, tidy] = runs::medians(read, tidy);
