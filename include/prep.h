@@ -70,7 +70,7 @@ enum {
 
 /*
  * A stack that is enough for any call, for callers with small stacks. This figure is measured, not
- * proved: on inputs at the limits no call took more than some 156,000 bytes, and the rest is room to
+ * proved: on inputs at the limits no call took more than some 160,000 bytes, and the rest is room to
  * spare. The example stack.c measures it again.
  */
 enum { PREP_STACK_BYTES = 160 * 1024 };
