@@ -1,6 +1,7 @@
 /*
- * Measures the stack that each function takes on inputs at the limits, and fails if one takes more
- * than PREP_STACK_BYTES. A measurement, not a proof. Builds as C and as C++, on POSIX systems.
+ * Runs each function in a thread with a stack of PREP_STACK_BYTES, on inputs at the limits, measures
+ * what it takes, and fails if a thread writes past its stack. A measurement, not a proof. Builds as
+ * C and as C++, on POSIX systems.
  */
 #include "prep.h"
 
@@ -14,8 +15,20 @@
 /* An array as the two parameters that lend it. */
 #define LENT(array) (array), LENGTH(array)
 
-/* Each function is called on a stack that is painted before. */
+/*
+ * A thread's stack is the end of a block that is painted before, so that a call which writes past it
+ * is seen by the paint.
+ */
 enum { PAINTED_BYTES = 1024 * 1024, PAINT = 0xa5 };
+
+/* What stands at the deepest place of the template: nothing, a link, or one that is refused. */
+enum { DEEP_NOTHING, DEEP_LINK, DEEP_FAULT, INPUTS };
+
+/* Bytes of stack that a call takes, and bytes that the thread takes with it. */
+struct taken {
+    size_t call;
+    size_t thread;
+};
 
 struct call {
     int function;
@@ -35,8 +48,10 @@ static uint8_t smallest_grid[PREP_MAX_GRID_BYTES];
 static uint8_t largest_grid[PREP_MAX_GRID_BYTES];
 
 /* A shape of groups of 16 in groups of 16, as deep as they may be, with the group inside at the last place. */
-static size_t put_deep_shape(uint16_t *words)
+static size_t put_deep_shape(uint16_t *words, int input)
 {
+    static const uint16_t link[] = {256, 0, 1, 1};
+    static const size_t lengths[INPUTS] = {0, LENGTH(link), LENGTH(link) - 1};
     size_t at = 1, depth, i;
     for (depth = 1; depth < 12; depth++) {
         words[at++] = depth % 2 ? 17 : 16;
@@ -45,7 +60,12 @@ static size_t put_deep_shape(uint16_t *words)
             words[at++] = 0;
         }
     }
-    words[at++] = 0;
+    if (input == DEEP_NOTHING) {
+        words[at++] = 0;
+    }
+    for (i = 0; i < lengths[input]; i++) {
+        words[at++] = link[i];
+    }
     words[0] = (uint16_t)(at - 1);
     return at;
 }
@@ -55,7 +75,7 @@ static size_t put_deep_shape(uint16_t *words)
  * ask for themselves both ways, so that every card keeps them. Four ask for shape 0, which no card
  * can have, where a link leads, and four where one comes from.
  */
-static void fill_template(void)
+static void fill_template(int input)
 {
     static const uint16_t plain[] = {14, 17, 2, 3, 1, 256, 0, 1, 1, 3, 1, 320, 0, 1, 1};
     uint16_t shape;
@@ -64,7 +84,7 @@ static void fill_template(void)
     deep_length = 2;
     for (shape = 0; shape < PREP_MAX_SHAPES; shape++) {
         if (shape < 16) {
-            deep_length += put_deep_shape(deep_template + deep_length);
+            deep_length += put_deep_shape(deep_template + deep_length, shape < 15 ? DEEP_NOTHING : input);
         } else {
             memcpy(deep_template + deep_length, plain, sizeof plain);
             deep_template[deep_length + 6] = shape < 20 ? 0 : shape;
@@ -144,54 +164,74 @@ static void *run_call(void *argument)
     return NULL;
 }
 
-static void run_on(void *stack, struct call *call)
+/* Runs a call in a thread whose stack is the end of the block. */
+static void run_on(uint8_t *block, struct call *call)
 {
+    uint8_t *stack = block + PAINTED_BYTES - PREP_STACK_BYTES;
     pthread_attr_t attributes;
     pthread_t thread;
-    if (pthread_attr_init(&attributes) != 0 || pthread_attr_setstack(&attributes, stack, PAINTED_BYTES) != 0 ||
+    if (pthread_attr_init(&attributes) != 0 || pthread_attr_setstack(&attributes, stack, PREP_STACK_BYTES) != 0 ||
         pthread_create(&thread, &attributes, run_call, call) != 0 || pthread_join(thread, NULL) != 0) {
         abort();
     }
     pthread_attr_destroy(&attributes);
 }
 
-/* Whether a call did all of its work. 50 and 63 are the last tests of their calls; 63 comes after every pair. */
-static int did_its_work(int refused)
+/*
+ * Whether a call did all of its work. 50 and 63 are the last tests of their calls; 63 comes after
+ * every pair. What is refused in the template is refused by every call.
+ */
+static int did_its_work(int input, int refused)
 {
+    if (input == DEEP_FAULT) {
+        return refused != 0;
+    }
     return refused == 0 || refused == PREP_NOT_MET || refused == PREP_GRID_NOT_HELD;
 }
 
-/* How far below the caller's frame a call writes; 0 if it was refused. */
-static size_t stack_of(int function)
+/* How far below the caller's frame, and below the stack's upper end, a call writes. */
+static struct taken stack_of(int function, int input)
 {
     struct call call = {0, NULL, 0};
+    struct taken taken;
     size_t low = 0;
-    void *stack = NULL;
+    void *block = NULL;
     call.function = function;
-    if (posix_memalign(&stack, 4096, PAINTED_BYTES) != 0) {
+    if (posix_memalign(&block, 4096, PAINTED_BYTES) != 0) {
         abort();
     }
-    memset(stack, PAINT, PAINTED_BYTES);
-    run_on(stack, &call);
-    while (low < PAINTED_BYTES && ((uint8_t *)stack)[low] == PAINT) {
+    memset(block, PAINT, PAINTED_BYTES);
+    run_on((uint8_t *)block, &call);
+    while (low < PAINTED_BYTES && ((uint8_t *)block)[low] == PAINT) {
         low++;
     }
-    low = (size_t)(call.frame - ((uint8_t *)stack + low));
-    free(stack);
-    return did_its_work(call.refused) ? low : 0;
+    taken.call = (size_t)(call.frame - ((uint8_t *)block + low));
+    taken.thread = PAINTED_BYTES - low;
+    free(block);
+    if (!did_its_work(input, call.refused)) {
+        printf("%s did not do its work on input %d: %d\n", functions[function], input, call.refused);
+        exit(1);
+    }
+    return taken;
 }
 
 int main(void)
 {
     size_t function;
     int failures = 0;
-    fill_template();
     fill_script();
     fill_bookings();
     for (function = 0; function < LENGTH(functions); function++) {
-        size_t bytes = stack_of((int)function);
-        printf("%s: %zu bytes of stack\n", functions[function], bytes);
-        failures += bytes == 0 || bytes > PREP_STACK_BYTES;
+        struct taken most = {0, 0};
+        int input;
+        for (input = 0; input < INPUTS; input++) {
+            struct taken taken;
+            fill_template(input);
+            taken = stack_of((int)function, input);
+            most = taken.call > most.call ? taken : most;
+        }
+        printf("%s: %zu bytes of stack, %zu with the thread's own\n", functions[function], most.call, most.thread);
+        failures += most.thread > PREP_STACK_BYTES;
     }
     return failures != 0;
 }

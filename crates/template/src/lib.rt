@@ -168,14 +168,21 @@ fn run(
     ensures { λ r. ⌜ shown r (now (row .exit))
         ≡ outcome (readRun (readPart left (now (words .entry)) end sizes) count at (now (row .entry))) ⌝ }
 {
-    if count == 0 {
-        return Read::Next(at);
+    let mut next = at;
+    let mut more = count;
+    while more > 0 {
+        let first = part(words, next, end, sizes, left, row);
+        match first {
+            Read::Next(place) => {
+                next = place;
+                more -= 1;
+            }
+            Read::Refused(number, place) => {
+                return Read::Refused(number, place);
+            }
+        }
     }
-    let first = part(words, at, end, sizes, left, row);
-    match first {
-        Read::Next(next) => run(words, next, end, sizes, left, row, count - 1),
-        Read::Refused(number, place) => Read::Refused(number, place),
-    }
+    Read::Next(next)
 }
 
 // Whether the shape whose count of words stands at `at` is open: the word after the count is 18.

@@ -1,5 +1,6 @@
 -- The proof of the cycle of calls {part, run}. The measure is twice the words left, and one more for a run, which
--- starts with a part at its own place. A law of proofs/Laws answers each return.
+-- starts with a part at its own place. A law of proofs/Laws answers each return of `part`. The invariant of `run` is
+-- `Remaining` of proofs/Remaining, its measure the parts left.
 -- Assumes nothing.
 use Prim.Native.Nat.{ℕ, _<_, _+_, _-_, _*_}
 use borrow.Author.Needs.{needs}
@@ -8,7 +9,9 @@ use mathlib.Core.Path.{_∙_}
 use Rattle.bags.specs.Label.{outgoing, incoming}
 use Rattle.template.proofs.Laws.{part-missing, part-deep, part-nothing, part-single, part-low, part-open}
 use Rattle.template.proofs.Laws.{part-middle, part-high, part-link, group-short, group-few, group-many}
-use Rattle.template.proofs.Laws.{group-run, run-none, run-refused, run-next, reads-above}
+use Rattle.template.proofs.Laws.{group-run}
+use Rattle.template.proofs.Remaining.{Remaining, remaining-start, remaining-next, remaining-refused}
+use Rattle.template.proofs.Remaining.{remaining-end}
 use borrow.Fn.Kinds.{In}
 use borrow.Fn.PlainCycle.{Measures, is, falls, and}
 use Rattle.template.proofs.part.Reads as part
@@ -47,7 +50,15 @@ part-claims t = (part-below t, part.Post, run-below t, run.Post, link-reads.Aske
 
 -- the contracts that `run` goes by
 abbrev run-claims : ℕ → run-lts.Claims
-run-claims t = (part-below t, part.Post, run-below t, run.Post)
+run-claims t = (part-below t, part.Post)
+
+-- what holds before each turn of `run`
+abbrev run-Inv-loop : run-lts.InvT-loop
+run-Inv-loop words at end sizes left row₀ count next₀ more₀ row next more =
+    Remaining left words end sizes count at row₀ more next row
+
+abbrev run-μ-loop : run-lts.MeasureT-loop
+run-μ-loop words at end sizes left row₀ count next₀ more₀ row next more = more
 
 module _ (t : ℕ) where
   part-returns : part-lts.Need-returns (part-claims t) (part-at t) part.Post
@@ -166,39 +177,48 @@ module _ (t : ℕ) where
   part-returns-14 : part-lts.Need-returns-14 (part-claims t) (part-at t) part.Post
   part-returns-14 c = part-high _ _ _ _ _ _ (omega arith) (omega arith) (omega arith)
 
-  run-returns : run-lts.Need-returns (run-claims t) (run-at t) run.Post
-  run-returns c = run-none _ _ _ _ (omega arith)
+  run-loop-holds : run-lts.Need-loop-holds (run-claims t) (run-at t) run.Post run-Inv-loop run-μ-loop
+  run-loop-holds c = remaining-start _ _ _ _ _ _ _
 
-  run-part-requires : run-lts.Need-part-requires (run-claims t) (run-at t) run.Post
+  run-part-requires : run-lts.Need-part-requires (run-claims t) (run-at t) run.Post run-Inv-loop run-μ-loop
   run-part-requires c κs = search needs
 
-  run-enum-known-first : run-lts.Need-enum-known-first (run-claims t) (run-at t) run.Post
+  run-enum-known-first : run-lts.Need-enum-known-first (run-claims t) (run-at t) run.Post run-Inv-loop run-μ-loop
   run-enum-known-first c = search needs
 
-  run-sub-run : run-lts.Need-sub-run (run-claims t) (run-at t) run.Post
-  run-sub-run c = search needs
+  run-sub-more : run-lts.Need-sub-more (run-claims t) (run-at t) run.Post run-Inv-loop run-μ-loop
+  run-sub-more c = search needs
 
-  run-run-requires : run-lts.Need-run-requires (run-claims t) (run-at t) run.Post
-  run-run-requires c κs =
-      let a = c .before .before in
-      let w = reads-above _ _ _ _ _ _ _ _ _ (a .first .given .1)
-      (a .before .before .before .before .part .ensures) in
-      omega arith
+  run-loop-less : run-lts.Need-loop-less (run-claims t) (run-at t) run.Post run-Inv-loop run-μ-loop
+  run-loop-less c = search needs
 
-  run-enum-known-first-2 : run-lts.Need-enum-known-first-2 (run-claims t) (run-at t) run.Post
+  run-loop-again : run-lts.Need-loop-again (run-claims t) (run-at t) run.Post run-Inv-loop run-μ-loop
+  run-loop-again c =
+      let part-read = c .before .before .before .before in
+      let turn = part-read .before .before .before in
+      remaining-next _ _ _ _ _ _ _ _ _ _ (turn .before .loop .inv) _ _ (turn .loop-test .taken) (search needs) (cc)
+
+  run-enum-known-first-2 : run-lts.Need-enum-known-first-2 (run-claims t) (run-at t) run.Post run-Inv-loop run-μ-loop
   run-enum-known-first-2 c = search needs
 
-  run-same-length : run-lts.Need-same-length (run-claims t) (run-at t) run.Post
-  run-same-length c = search needs
+  run-same-length : run-lts.Need-same-length (run-claims t) (run-at t) run.Post run-Inv-loop run-μ-loop
+  run-same-length c =
+      let part-read = c .before .before .before .before in
+      let turn = part-read .before .before .before in
+      let size = turn .before .loop .inv .size in
+      search needs
 
-  run-returns-2 : run-lts.Need-returns-2 (run-claims t) (run-at t) run.Post
-  run-returns-2 c = c .before .before .run .ensures ∙ run-next _ _ _ _ _ _ (omega arith) (cc)
+  run-returns : run-lts.Need-returns (run-claims t) (run-at t) run.Post run-Inv-loop run-μ-loop
+  run-returns c =
+      let part-read = c .before .before .before .before in
+      let turn = part-read .before .before .before in
+      remaining-refused _ _ _ _ _ _ _ _ _ _ (turn .before .loop .inv) _ _ _ (turn .loop-test .taken) (cc)
 
-  run-same-length-2 : run-lts.Need-same-length-2 (run-claims t) (run-at t) run.Post
-  run-same-length-2 c = search needs
+  run-same-length-2 : run-lts.Need-same-length-2 (run-claims t) (run-at t) run.Post run-Inv-loop run-μ-loop
+  run-same-length-2 c = c .before .loop .inv .size
 
-  run-returns-3 : run-lts.Need-returns-3 (run-claims t) (run-at t) run.Post
-  run-returns-3 c = run-refused _ _ _ _ _ _ _ (omega arith) (cc)
+  run-returns-2 : run-lts.Need-returns-2 (run-claims t) (run-at t) run.Post run-Inv-loop run-μ-loop
+  run-returns-2 c = remaining-end _ _ _ _ _ _ _ _ _ _ (c .before .loop .inv) (omega arith)
 
 pub +part+run-spec : {M : Type 1} → statement M
 +part+run-spec =
@@ -211,6 +231,6 @@ pub +part+run-spec : {M : Type 1} → statement M
     (part-same-length t) (part-returns-8 t) (part-returns-9 t) (part-same-length-2 t) (part-returns-10 t)
     (part-returns-11 t) (part-same-length-3 t) (part-returns-12 t) (part-same-length-4 t) (part-returns-13 t)
     (part-returns-14 t))
-    (λ t. run-lts.spec (run-claims t) (run-at t) run.Post (run-returns t) (run-part-requires t)
-    (run-enum-known-first t) (run-sub-run t) (run-run-requires t) (run-enum-known-first-2 t) (run-same-length t)
-    (run-returns-2 t) (run-same-length-2 t) (run-returns-3 t))
+    (λ t. run-lts.spec (run-claims t) (run-at t) run.Post run-Inv-loop run-μ-loop (run-loop-holds t)
+    (run-part-requires t) (run-enum-known-first t) (run-sub-more t) (run-loop-less t) (run-loop-again t)
+    (run-enum-known-first-2 t) (run-same-length t) (run-returns t) (run-same-length-2 t) (run-returns-2 t))
