@@ -30,7 +30,7 @@ use Rattle.bags.proofs.Looking.{interval-alike}
 
 -- No label of the part is one for which f is true.
 abbrev mutual
-  pub clear : Part → (ℕ → Bool) → Bool
+  clear : Part → (ℕ → Bool) → Bool
   clear nothing f = true
   clear (star p) f = clear p f
   clear (plus p) f = clear p f
@@ -39,7 +39,7 @@ abbrev mutual
   clear (all ps) f = runClear ps f
   clear (link label shape low high) f = not (f label)
 
-  pub runClear : Parts → (ℕ → Bool) → Bool
+  runClear : Parts → (ℕ → Bool) → Bool
   runClear none f = true
   runClear (more p ps) f = clear p f && runClear ps f
 
@@ -72,7 +72,7 @@ abbrev mutual
   ok S (all ps) = runOk S ps
   ok S (link label shape low high) = ltb shape S
 
-  pub runOk : ℕ → Parts → Bool
+  runOk : ℕ → Parts → Bool
   runOk S none = true
   runOk S (more p ps) = ok S p && (runOk S ps && clear p (runNames ps))
 
@@ -86,7 +86,7 @@ mutual
   ok-true S (all ps) e = run-ok-true S ps e
   ok-true S (link label shape low high) e = (tt, ltb-true shape S e)
 
-  pub run-ok-true : (S : ℕ) (ps : Parts) → runOk S ps ≡ true → RunSingle ps × RunShapesBelow S ps
+  run-ok-true : (S : ℕ) (ps : Parts) → runOk S ps ≡ true → RunSingle ps × RunShapesBelow S ps
   run-ok-true S none e = (tt, tt)
   run-ok-true S (more p ps) e =
       let rest : Bool = runOk S ps && clear p (runNames ps) in
@@ -155,7 +155,7 @@ module _ (isOpen : Bool) (p : Part) (w : ℕ → ℕ) (kinds : ℕ) (few : kinds
       (zero-others p w kinds (λ k l n.
       sym (seen-at isOpen p w k (looks-outgoing isOpen p k shut (omega arith))) ∙ h k n)))
 
-  pub others-exact : ((isOpen || othersZero kinds p w) ≡ true) ↔ ((k : ℕ) → (Names p k → ⊥) → seen isOpen p w k ≡ 0)
+  others-exact : ((isOpen || othersZero kinds p w) ≡ true) ↔ ((k : ℕ) → (Names p k → ⊥) → seen isOpen p w k ≡ 0)
   others-exact = (unnamed-zero, zero-unnamed)
 
   -- what the shape looks at fits exactly where the test is passed

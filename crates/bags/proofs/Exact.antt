@@ -1,7 +1,6 @@
 -- The interval of a part has exactly the numbers i for which the counts of its labels are a sum of i of its bags.
 --   part-proper          the interval of a part is proper
 --   interval-exact       the law of section 8.2, for parts with no label twice
---   optional-interval    an optional part has the interval of the choice of nothing and the part
 --   fits-exact           counts fit exactly where 1 is in the interval and the labels not named count 0
 -- Assumes nothing.
 use Prim.Native.Nat.{ℕ}
@@ -20,7 +19,6 @@ use Rattle.bags.proofs.Powers.{power-one, one-power}
 use Rattle.bags.proofs.Totals.{empty-supported, part-supported, one-supported, each-supported}
 use Rattle.bags.proofs.Naming.{names-dec}
 use Rattle.bags.proofs.Intervals.{Proper, range-proper, link-proper, meet-proper, add-proper}
-use Rattle.bags.proofs.Joining.{add-none}
 use Rattle.bags.proofs.Repetitions.{Zero, Exact, exact-same, exact-empty, exact-no-bag, exact-union}
 use Rattle.bags.proofs.Repetitions.{exact-sums, exact-star, exact-plus, exact-link}
 
@@ -124,7 +122,7 @@ module _ (w : ℕ → ℕ) where
       interval-exact (all ps) u s = meet-run-exact ps u s
       interval-exact (link label shape low high) u s = exact-link w S label shape low high s
 
-      pub add-run-exact : (ps : Parts) → RunSingle ps → RunShapesBelow S ps
+      add-run-exact : (ps : Parts) → RunSingle ps → RunShapesBelow S ps
           → Exact w S (addRun ps w) (BagsOfOne ps) (RunNames ps)
       add-run-exact none u s = exact-no-bag w S (RunNames none) (λ k n. n)
       add-run-exact (more p ps) u s =
@@ -133,17 +131,13 @@ module _ (w : ℕ → ℕ) where
           (interval p w) (addRun ps w) (interval-exact p (u .0) (s .0)) (add-run-exact ps (u .1) (s .1))
           (part-proper p) (add-run-proper ps)
 
-      pub meet-run-exact : (ps : Parts) → RunSingle ps → RunShapesBelow S ps
+      meet-run-exact : (ps : Parts) → RunSingle ps → RunShapesBelow S ps
           → Exact w S (meetRun ps w) (BagsOfEach ps) (RunNames ps)
       meet-run-exact none u s = exact-empty w S (RunNames none) (λ k n. n)
       meet-run-exact (more p ps) u s =
           exact-sums w S (Bags p) (BagsOfEach ps) (Names p) (RunNames ps) (u .2)
           (part-supported S p) (each-supported S ps)
           (interval p w) (meetRun ps w) (interval-exact p (u .0) (s .0)) (meet-run-exact ps (u .1) (s .1))
-
-pub optional-interval : (p : Part) (w : ℕ → ℕ)
-    → interval (optional p) w ≡ interval (choice (more nothing (more p none))) w
-optional-interval p w = ap (add (from 0)) (sym (add-none (interval p w)))
 
 pub fits-exact : (S : ℕ) (p : Part) (w : ℕ → ℕ) → Single p → ShapesBelow S p
     → Fits S p w ↔ (In 1 (interval p w) × ((k : ℕ) → (Names p k → ⊥) → w k ≡ 0))

@@ -23,7 +23,7 @@ range-cases : (t : Bool) (lo hi i : ℕ) → leb lo hi ≡ t → In i (keep t (w
 range-cases true lo hi i e = (λ h. h, λ h. h)
 range-cases false lo hi i e = (λ h. absurd h, λ h. let g : hi < lo = leb-false lo hi e in omega arith)
 
-pub in-range : (lo hi i : ℕ) → In i (range lo hi) ↔ ((lo ≤ i) × (i ≤ hi))
+in-range : (lo hi i : ℕ) → In i (range lo hi) ↔ ((lo ≤ i) × (i ≤ hi))
 in-range lo hi i = range-cases (leb lo hi) lo hi i refl
 
 pub in-meet : (I J : Interval) (i : ℕ) → In i (meet I J) ↔ (In i I × In i J)

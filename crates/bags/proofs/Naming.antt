@@ -82,7 +82,7 @@ mutual
   names-kind L (all ps) h k n = run-names-kind L ps h k n
   names-kind L (link label shape low high) h k n = subst (OfKindBelow L) (sym n) h
 
-  pub run-names-kind : (L : ℕ) (ps : Parts) → RunKindsBelow L ps → (k : ℕ) → RunNames ps k → OfKindBelow L k
+  run-names-kind : (L : ℕ) (ps : Parts) → RunKindsBelow L ps → (k : ℕ) → RunNames ps k → OfKindBelow L k
   run-names-kind L none h k n = absurd n
   run-names-kind L (more p ps) h k n =
       ⊎-elim (λ m. names-kind L p (h .0) k m) (λ m. run-names-kind L ps (h .1) k m) n
@@ -97,7 +97,7 @@ mutual
   declares-below S (all ps) h k s d = run-declares-below S ps h k s d
   declares-below S (link label shape low high) h k s d = subst (λ (j : ℕ). j < S) (sym (d .1)) h
 
-  pub run-declares-below : (S : ℕ) (ps : Parts) → RunShapesBelow S ps → (k s : ℕ) → RunDeclares ps k s → s < S
+  run-declares-below : (S : ℕ) (ps : Parts) → RunShapesBelow S ps → (k s : ℕ) → RunDeclares ps k s → s < S
   run-declares-below S none h k s d = absurd d
   run-declares-below S (more p ps) h k s d =
       ⊎-elim (λ a. declares-below S p (h .0) k s a) (λ a. run-declares-below S ps (h .1) k s a) d
@@ -112,7 +112,7 @@ mutual
   declares-names (all ps) k s d = run-declares-names ps k s d
   declares-names (link label shape low high) k s d = d .0
 
-  pub run-declares-names : (ps : Parts) (k s : ℕ) → RunDeclares ps k s → RunNames ps k
+  run-declares-names : (ps : Parts) (k s : ℕ) → RunDeclares ps k s → RunNames ps k
   run-declares-names none k s d = d
   run-declares-names (more p ps) k s d =
       ⊎-elim (λ a. inl (declares-names p k s a)) (λ a. inr (run-declares-names ps k s a)) d
@@ -127,7 +127,7 @@ mutual
   declares-unique (all ps) u k s t d e = run-declares-unique ps u k s t d e
   declares-unique (link label shape low high) u k s t d e = d .1 ∙ sym (e .1)
 
-  pub run-declares-unique : (ps : Parts) → RunSingle ps → (k s t : ℕ) → RunDeclares ps k s → RunDeclares ps k t → s ≡ t
+  run-declares-unique : (ps : Parts) → RunSingle ps → (k s t : ℕ) → RunDeclares ps k s → RunDeclares ps k t → s ≡ t
   run-declares-unique none u k s t d e = absurd d
   run-declares-unique (more p ps) u k s t (inl d) (inl e) = declares-unique p (u .0) k s t d e
   run-declares-unique (more p ps) u k s t (inl d) (inr e) =
@@ -163,7 +163,7 @@ mutual
   named-none (all ps) k e n = run-named-none ps k e n
   named-none (link label shape low high) k e n = eqb-false k label (entry-none (eqb k label) shape e) n
 
-  pub run-named-none : (ps : Parts) (k : ℕ) → runNamed ps k ≡ 0 → RunNames ps k → ⊥
+  run-named-none : (ps : Parts) (k : ℕ) → runNamed ps k ≡ 0 → RunNames ps k → ⊥
   run-named-none none k e n = n
   run-named-none (more p ps) k e n =
       let (f, g) = first-none (named p k) (runNamed ps k) e in
@@ -180,7 +180,7 @@ mutual
   named-declares (link label shape low high) k s e =
       let (f, g) = entry-one (eqb k label) shape s e in (eqb-true k label f, g)
 
-  pub run-named-declares : (ps : Parts) (k s : ℕ) → runNamed ps k ≡ suc s → RunDeclares ps k s
+  run-named-declares : (ps : Parts) (k s : ℕ) → runNamed ps k ≡ suc s → RunDeclares ps k s
   run-named-declares none k s e = let z : ⊥ = omega arith in z
   run-named-declares (more p ps) k s e =
       ⊎-elim (λ f. inl (named-declares p k s f)) (λ f. inr (run-named-declares ps k s f))

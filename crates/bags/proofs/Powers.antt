@@ -23,7 +23,7 @@ power-map L M f zero b e = e
 power-map L M f (suc i) b t = (t .0, t .1, f (t .0) (t .2), power-map L M f i (t .1) (t .3), t .4)
 
 -- i bags and j bags are i + j.
-pub power-add : (L : Language) (i j : ℕ) (x y : Bag) → Power L i x → Power L j y → Power L (i + j) (x ⊕ y)
+power-add : (L : Language) (i j : ℕ) (x y : Bag) → Power L i x → Power L j y → Power L (i + j) (x ⊕ y)
 power-add L zero j x y p q =
     let e : y ≡ x ⊕ y = bag-ext (λ k s. omega (arith, at-point p k s)) in
     let n : j ≡ zero + j = omega arith in

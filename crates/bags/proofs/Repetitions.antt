@@ -27,7 +27,7 @@ module _ (w : ℕ → ℕ) where
 
   module _ (S : ℕ) where
     -- The counts of the labels K are those of a sum of i bags of L.
-    abbrev pub Reps : Language → (ℕ → Type 0) → ℕ → Type 0
+    abbrev Reps : Language → (ℕ → Type 0) → ℕ → Type 0
     Reps L K i = (b : Bag) × Power L i b × ((k : ℕ) → K k → total S b k ≡ w k)
 
     -- I has exactly those i.

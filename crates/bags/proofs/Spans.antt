@@ -22,7 +22,7 @@ use Rattle.bags.specs.declared.Span.{Span}
 abbrev pub span : ℕ → ℕ → Span
 span a b = record { lo = a; hi = b }
 
-pub view-empty : (x : Span) → x .hi < x .lo → view x ≡ empty
+view-empty : (x : Span) → x .hi < x .lo → view x ≡ empty
 unfolding view
 view-empty x h = ap (λ (t : Bool). seenAs t (eqb (x .hi) top) (x .lo) (x .hi)) (lt-ltb (x .hi) (x .lo) h)
 
@@ -66,11 +66,11 @@ view-range x d = by-seen (seen x)
     by-seen (is-from h f e) = absurd (d f)
     by-seen (is-within h f e) = e ∙ kept true (le-leb (x .lo) (x .hi) h)
 
-pub small-lo : (n : ℕ) (x : Span) → Small n x → x .lo ≤ n
+small-lo : (n : ℕ) (x : Span) → Small n x → x .lo ≤ n
 unfolding Small
 small-lo n x h = h .0
 
-pub small-hi : (n : ℕ) (x : Span) → Small n x → (x .hi ≡ top → ⊥) → x .hi ≤ n
+small-hi : (n : ℕ) (x : Span) → Small n x → (x .hi ≡ top → ⊥) → x .hi ≤ n
 unfolding Small
 small-hi n x h d = h .1 d
 

@@ -45,11 +45,11 @@ link-zero low high i = (
   λ h. in-link 0 low high i .1 (times-zero i low h, under-zero i high),
 )
 
-pub zero-in : (w low : ℕ) (high : Limit) → In 0 (linkInterval w low high) → w ≡ 0
+zero-in : (w low : ℕ) (high : Limit) → In 0 (linkInterval w low high) → w ≡ 0
 zero-in w low high h = zero-under w high (in-link w low high 0 .0 h .1)
 
 -- ---- tests
-pub same-tests : (s t : Bool) → (s ≡ true) ↔ (t ≡ true) → s ≡ t
+same-tests : (s t : Bool) → (s ≡ true) ↔ (t ≡ true) → s ≡ t
 same-tests s t h = bools-equal (h .0) (λ e. is-false (λ d. never-both (h .1 d) e))
 
 -- Both tests pass exactly if a third does, where the number lies in both exactly if in a third.

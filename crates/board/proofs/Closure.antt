@@ -10,7 +10,7 @@ use Prim.Native.Nat.{ℕ, _<_}
 use Rattle.board.specs.Board.{Board, Inside, Closed, booked, follow, Flooded}
 use Rattle.board.proofs.Tally.{tally-ext}
 
-pub closed-map : {B C : Board} {Book Seat : ℕ → Type 0}
+closed-map : {B C : Board} {Book Seat : ℕ → Type 0}
     → ((p : ℕ) → Book p → Seat p) → ((p q : ℕ) → B .Dep p q → C .Dep p q) → {p : ℕ} → Closed B Book p → Closed C Seat p
 closed-map f g (booked b) = booked (f _ b)
 closed-map f g (follow {p} {q} c d) = follow (closed-map f g c) (g p q d)

@@ -30,7 +30,7 @@ module _ (B : Board) where
   after (suc k) p = after k p && B .met (after k) p
 
   -- round k + 1 strikes nothing
-  abbrev pub Quiet : ℕ → Type 0
+  abbrev Quiet : ℕ → Type 0
   Quiet k = SoundSet B (after k)
 
   -- round k + 1 strikes something

@@ -4,7 +4,7 @@
 --   one-grid, one-queue, one-room, one-off, one-stays, one-marks   what one strike keeps and reaches
 --   run-wider, run-append     runs of more places; one run after another
 --   run-grid, run-queue, run-room, run-off, run-marks              what a run keeps
---   swept-none, swept-same, swept-one, swept-append                sweeps, one place or one sweep more
+--   swept-none, swept-same, swept-append                           sweeps, and one more sweep
 --   swept-grid, swept-queue, swept-room                            what a sweep keeps
 -- Assumes nothing.
 use mathlib.Core.Path.{_≡_, refl, sym, _∙_, subst}
@@ -110,19 +110,6 @@ swept-none f = record { run = stay; off = λ q h. absurd (f q h) }
 pub swept-same : {G H : ℕ → Type 0} {w v : Work} → ((q : ℕ) → G q → H q) → ((q : ℕ) → H q → G q)
     → Swept G w v → Swept H w v
 swept-same f g s = record { run = run-wider f (s .run); off = λ q h. s .off q (g q h) }
-
--- one more strike
-pub swept-one : {G H : ℕ → Type 0} {w v : Work} (p : ℕ) → p < length (w .grid)
-    → ((q : ℕ) → G q → H q) → H p → ((q : ℕ) → H q → G q ⊎ (q ≡ p))
-    → Swept G w v → Swept H w (strikeOne v p)
-swept-one {G} {H} {w} {v} p l wide here split s = record {
-  run = then (run-wider wide (s .run)) here;
-  off = λ q h. ⊎-elim
-      (λ g. one-stays v p q (s .off q g))
-      (λ (e : q ≡ p). subst (λ (x : ℕ). on (strikeOne v p .grid) x ≡ false) (sym e)
-      (one-off v p (omega (arith, run-grid (s .run)))))
-      (split q h);
-}
 
 -- one sweep after another
 pub swept-append : {G K H : ℕ → Type 0} {w v x : Work}

@@ -22,7 +22,7 @@ use Rattle.words.specs.Reading.{Reading, accepted}
 use Rattle.words.proofs.Readings.{accepted-same, passed}
 use Rattle.bookings.specs.Bookings.{Booking, readEach, readList, deskAt, cardAt, shapeAt, bookingAt, repeated}
 use Rattle.bookings.specs.Bookings.{bookingRule, readBookings, Booked}
-use Rattle.bookings.specs.Steps.{Sized, WordsIn}
+use Rattle.bookings.specs.Steps.{ListOf, WordsIn}
 use Rattle.bookings.proofs.Repeats.{repeated-exact}
 use Rattle.bookings.proofs.Reading.{list-listed, rule-passed}
 
@@ -31,7 +31,7 @@ pub words-few : {width count : ℕ} → width ≤ 3 → count ≤ maxBookings �
 words-few {width} {count} thin few = omega (arith, mul-le-mul-left width few)
 
 -- In a list of so many bookings the words of each are there.
-pub words-in : {width count i : ℕ} {bookings : List ℕ} → Sized width bookings count → i < count
+pub words-in : {width count i : ℕ} {bookings : List ℕ} → ListOf width bookings count → i < count
     → WordsIn width bookings i
 words-in {width} {count} {i} sized l = record {
   few = omega (arith, sized .few);
@@ -60,7 +60,7 @@ module _ (rule : ℕ → Reading ℕ → Reading ℕ) (In : ℕ → Type 0)
       ∙ all-pass n (suc i) done (λ k a b. each k (omega arith) (omega arith))
 
   pub list-exact : (width : ℕ) (bookings : List ℕ) (count : ℕ) → (readList width rule bookings ≡ accepted count)
-      ↔ (Sized width bookings (getD bookings 0 0) × ((i : ℕ) → i < getD bookings 0 0 → In i)
+      ↔ (ListOf width bookings (getD bookings 0 0) × ((i : ℕ) → i < getD bookings 0 0 → In i)
       × (count ≡ getD bookings 0 0))
   unfolding readList
   list-exact width bookings count = (
@@ -85,7 +85,7 @@ module _ (rule : ℕ → Reading ℕ → Reading ℕ) (In : ℕ → Type 0)
 -- It is in order: its count is not too great, it has as many bookings, each is of one of the two desks and of a card
 -- and a shape below the counts, and none is a repeat.
 pub record Fine (cards shapes : ℕ) (bookings : List ℕ) : Type 0 where
-  pub sized : Sized 3 bookings (getD bookings 0 0)
+  pub sized : ListOf 3 bookings (getD bookings 0 0)
   pub desk-in : (i : ℕ) → i < getD bookings 0 0 → deskAt bookings i ≤ 1
   pub card-in : (i : ℕ) → i < getD bookings 0 0 → cardAt bookings i < cards
   pub shape-in : (i : ℕ) → i < getD bookings 0 0 → shapeAt bookings i < shapes
@@ -143,10 +143,10 @@ module _ (cards shapes : ℕ) (bookings : List ℕ) (count : ℕ)
   pub bookings-count : count ≡ getD bookings 0 0
   bookings-count = listed-exact cards shapes bookings count .0 read .1
 
-  pub bookings-sized : Sized 3 bookings count
+  pub bookings-sized : ListOf 3 bookings count
   bookings-sized =
       let (fine, is) = listed-exact cards shapes bookings count .0 read in
-      subst (Sized 3 bookings) (sym is) (fine .sized)
+      subst (ListOf 3 bookings) (sym is) (fine .sized)
 
   pub bookings-each : (i : ℕ) → i < count → (cardAt bookings i < cards) × (shapeAt bookings i < shapes)
   bookings-each i l =

@@ -4,8 +4,7 @@
 --   counted-refused, counted-sized, counted-listed   these, by what looking at its count and its length found
 --   each-next, each-end                 the next booking, and none left
 --   rule-desk, rule-card, rule-shape, rule-repeat, rule-passed   one booking: 66, 32, 33, 65, or none of these
---   stored-card, stored-shape, stored-passed   one of a stored list: 32, 33, or none of these
---   StoredNumber, stored-numbers        a stored list is refused with 30 to 33
+--   ListNumber, list-numbers            30 to 33, with which any list is refused, beside what the rule refuses with
 --   BookingNumber, bookings-numbers     a list of both desks also with 65 and 66
 -- Assumes nothing.
 use Prim.Native.Nat.{ℕ, zero, suc, _+_, _-_, _*_, _≤_, _<_}
@@ -23,9 +22,7 @@ use Rattle.words.specs.Reading.{Reading, accepted, turnedDown}
 use Rattle.words.proofs.Readings.{Numbered, refuse-numbered}
 use Rattle.bookings.specs.Bookings.{readEach, readList, deskIndex, cardIndex, shapeIndex, deskAt, cardAt, shapeAt}
 use Rattle.bookings.specs.Bookings.{bookingAt, repeated, bookingRule, readBookings}
-use Rattle.bookings.specs.Stored.{storedCardIndex, storedShapeIndex, storedCardAt, storedShapeAt, storedRule}
-use Rattle.bookings.specs.Stored.{readStored}
-use Rattle.bookings.specs.Steps.{Sized, Counted}
+use Rattle.bookings.specs.Steps.{ListOf, CountRead}
 use Rattle.bookings.specs.declared.BookingRead.{BookingRead}
 use Rattle.bookings.specs.declared.BookingRead.the-variants as list
 
@@ -49,7 +46,7 @@ module _ (width : ℕ) (rule : ℕ → Reading ℕ → Reading ℕ) (bookings : 
     ne-eqb (length bookings) (1 + width * getD bookings 0 0) other,
   ) refl
 
-  pub list-listed : Sized width bookings (getD bookings 0 0)
+  pub list-listed : ListOf width bookings (getD bookings 0 0)
       → readEach rule (getD bookings 0 0) 0 (accepted (getD bookings 0 0)) ≡ readList width rule bookings
   unfolding readList
   list-listed sized = rw (
@@ -59,20 +56,20 @@ module _ (width : ℕ) (rule : ℕ → Reading ℕ → Reading ℕ) (bookings : 
   ) refl
 
 -- By what looking at its count and its length found: it is refused, whatever the rule, or its bookings are read.
-module _ (width : ℕ) (bookings : List ℕ) {r : BookingRead} (h : Counted width bookings r) where
+module _ (width : ℕ) (bookings : List ℕ) {r : BookingRead} (h : CountRead width bookings r) where
   pub counted-refused : (rule : ℕ → Reading ℕ → Reading ℕ) {number place : ℕ} → r ≡ list.Refused number place
       → turnedDown number place ≡ readList width rule bookings
-  counted-refused rule q = sym (subst (Counted width bookings) q h rule)
+  counted-refused rule q = sym (subst (CountRead width bookings) q h rule)
 
-  pub counted-sized : {count : ℕ} → r ≡ list.Listed count → Sized width bookings count
-  counted-sized q = subst (Counted width bookings) q h .0
+  pub counted-sized : {count : ℕ} → r ≡ list.Count count → ListOf width bookings count
+  counted-sized q = let (sized, first) = subst (CountRead width bookings) q h in sized
 
-  pub counted-listed : (rule : ℕ → Reading ℕ → Reading ℕ) {count : ℕ} → r ≡ list.Listed count
-      → readEach rule count 0 (accepted count) ≡ readList width rule bookings
-  counted-listed rule {count} q =
-      let (sized, first) = subst (Counted width bookings) q h in
-      ap (λ (n : ℕ). readEach rule n 0 (accepted n)) first
-      ∙ list-listed width rule bookings (subst (Sized width bookings) first sized)
+  pub counted-listed : (rule : ℕ → Reading ℕ → Reading ℕ) {count : ℕ} {reading : Reading ℕ} → r ≡ list.Count count
+      → reading ≡ readEach rule count 0 (accepted count) → reading ≡ readList width rule bookings
+  counted-listed rule q each =
+      let (sized, first) = subst (CountRead width bookings) q h in
+      each ∙ ap (λ (n : ℕ). readEach rule n 0 (accepted n)) first
+      ∙ list-listed width rule bookings (subst (ListOf width bookings) first sized)
 
 -- The bookings from booking i on.
 module _ (rule : ℕ → Reading ℕ → Reading ℕ) (count i : ℕ) (done : Reading ℕ) where
@@ -122,35 +119,22 @@ module _ (cards shapes : ℕ) (bookings : List ℕ) (i : ℕ) (rest : Reading �
         new,
       ) refl
 
-  -- of a stored list
-  pub stored-card : cards ≤ storedCardAt bookings i
-      → storedRule cards shapes bookings i rest ≡ turnedDown 32 (storedCardIndex i)
-  stored-card h = rw (le-leb cards (storedCardAt bookings i) h) refl
-
-  module _ (c : storedCardAt bookings i < cards) where
-    pub stored-shape : shapes ≤ storedShapeAt bookings i
-        → storedRule cards shapes bookings i rest ≡ turnedDown 33 (storedShapeIndex i)
-    stored-shape h = rw (lt-leb cards (storedCardAt bookings i) c, le-leb shapes (storedShapeAt bookings i) h) refl
-
-    pub stored-passed : storedShapeAt bookings i < shapes → storedRule cards shapes bookings i rest ≡ rest
-    stored-passed t = rw (lt-leb cards (storedCardAt bookings i) c, lt-leb shapes (storedShapeAt bookings i) t) refl
-
 -- ---- the numbers
--- The numbers that a stored list is refused with, and those that a list of both desks is.
-abbrev pub StoredNumber : ℕ → Type 0
-StoredNumber number = (30 ≤ number) × (number ≤ 33)
+-- The numbers that any list is refused with, and those that a list of both desks is.
+abbrev pub ListNumber : ℕ → Type 0
+ListNumber number = (30 ≤ number) × (number ≤ 33)
 
 abbrev pub BookingNumber : ℕ → Type 0
-BookingNumber number = StoredNumber number ⊎ ((65 ≤ number) × (number ≤ 66))
+BookingNumber number = ListNumber number ⊎ ((65 ≤ number) × (number ≤ 66))
 
-module _ (Number : ℕ → Type 0) (low : (n : ℕ) → StoredNumber n → Number n) (rule : ℕ → Reading ℕ → Reading ℕ)
+module _ (Number : ℕ → Type 0) (low : (n : ℕ) → ListNumber n → Number n) (rule : ℕ → Reading ℕ → Reading ℕ)
     (each : (i : ℕ) (rest : Reading ℕ) → Numbered Number rest → Numbered Number (rule i rest)) where
   each-numbers : (n i : ℕ) (done : Reading ℕ) → Numbered Number done → Numbered Number (readEach rule n i done)
   unfolding readEach
   each-numbers zero i done h = h
   each-numbers (suc n) i done h = each i _ (each-numbers n (suc i) done h)
 
-  list-numbers : (width : ℕ) (bookings : List ℕ) → Numbered Number (readList width rule bookings)
+  pub list-numbers : (width : ℕ) (bookings : List ℕ) → Numbered Number (readList width rule bookings)
   unfolding readList
   list-numbers width bookings =
       let size = eqb (length bookings) (1 + width * getD bookings 0 0) in
@@ -159,15 +143,6 @@ module _ (Number : ℕ → Type 0) (low : (n : ℕ) → StoredNumber n → Numbe
       (refuse-numbered Number 31 0 (ltb maxBookings (getD bookings 0 0)) _ (low 31 (omega arith, omega arith))
       (refuse-numbered Number 30 0 (not size) _ empty
       (each-numbers (getD bookings 0 0) 0 (accepted (getD bookings 0 0)) tt)))
-
-pub stored-numbers : (cards shapes : ℕ) (bookings : List ℕ)
-    → Numbered StoredNumber (readStored cards shapes bookings)
-stored-numbers cards shapes bookings =
-    list-numbers StoredNumber (λ n h. h) (storedRule cards shapes bookings) (λ i rest h.
-    refuse-numbered StoredNumber 32 (storedCardIndex i) (leb cards (storedCardAt bookings i)) _
-    (omega arith, omega arith)
-    (refuse-numbered StoredNumber 33 (storedShapeIndex i) (leb shapes (storedShapeAt bookings i)) _
-    (omega arith, omega arith) h)) 2 bookings
 
 pub bookings-numbers : (cards shapes : ℕ) (bookings : List ℕ)
     → Numbered BookingNumber (readBookings cards shapes bookings)

@@ -1,7 +1,7 @@
 -- Bookings that stand before, and looking one up along the chain of its card.
 --   booking-same, same-is, is-same   bookings with the same words are the same, and what the test says
 --   before-more, before-exact, before-other, before-same, repeated-exact   what the tests among the first bookings mean
---   repeated-told                the look-up of a booking tells whether it is a repeat
+--   repeated-told, told-repeated   the look-up of a booking tells whether it is a repeat
 --   booked-exact                 a pair is booked by a desk exactly if one of all bookings is that
 --   Looking          the look-up stands nth a booking of the card: what is below it decides
 --   look-start, look-found, look-next, look-none   it starts, finds the booking, goes on, and ends
@@ -10,7 +10,7 @@
 use Prim.Native.Nat.{ℕ, zero, suc, _+_, _-_, _≤_, _<_}
 use mathlib.Core.Path.{_≡_, refl, sym, ap, subst, _∙_}
 use mathlib.Core.Logic.{_↔_, ⊎-elim}
-use mathlib.Core.Bool.{true, false, _||_}
+use mathlib.Core.Bool.{Bool, true, false, _||_}
 use mathlib.Core.List.{List}
 use native.Mathlib.Omega.{arith}
 use lib.ListN.{getD, set, length-set}
@@ -21,7 +21,7 @@ use Rattle.words.proofs.Bools.{and-first, and-second, and-both, or-cases, or-le
 use Rattle.words.proofs.Bools.{eq-or-ne, last-or-below, bools-equal, is-false}
 use Rattle.words.proofs.Chains.{last-le, last-is, last-here, last-other, chained-more, chained-same}
 use Rattle.bookings.specs.Bookings.{Booking, same, cardAt, bookingAt, bookedBefore, repeated, Booked}
-use Rattle.bookings.specs.Steps.{EnterAsked, Entered}
+use Rattle.bookings.specs.Steps.{LookupAsked, Entered}
 
 -- ---- two bookings
 pub booking-same : {a b : Booking} → a .desk ≡ b .desk → a .card ≡ b .card → a .shape ≡ b .shape → a ≡ b
@@ -30,7 +30,7 @@ booking-same {a} {b} d c s =
     ∙ ap (λ (x : ℕ). record { desk = b .desk; card = x; shape = a .shape }) c
     ∙ ap (λ (x : ℕ). record { desk = b .desk; card = b .card; shape = x }) s
 
-pub same-is : (a b : Booking) → same a b ≡ true → a ≡ b
+same-is : (a b : Booking) → same a b ≡ true → a ≡ b
 same-is a b e =
     let rest = and-second (eqb (a .desk) (b .desk)) _ e in
     booking-same
@@ -38,7 +38,7 @@ same-is a b e =
     (eqb-true (a .card) (b .card) (and-first (eqb (a .card) (b .card)) _ rest))
     (eqb-true (a .shape) (b .shape) (and-second (eqb (a .card) (b .card)) _ rest))
 
-pub is-same : (a b : Booking) → a ≡ b → same a b ≡ true
+is-same : (a b : Booking) → a ≡ b → same a b ≡ true
 is-same a b e =
     and-both (eqb (a .desk) (b .desk)) _ (eq-eqb (a .desk) (b .desk) (ap (λ (x : Booking). x .desk) e))
     (and-both (eqb (a .card) (b .card)) _ (eq-eqb (a .card) (b .card) (ap (λ (x : Booking). x .card) e))
@@ -90,6 +90,10 @@ repeated-exact nth i = before-exact nth (nth i) i
 pub repeated-told : (nth : ℕ → Booking) (i : ℕ) (b : Booking) → b ≡ nth i → repeated nth i ≡ bookedBefore nth b i
 unfolding repeated
 repeated-told nth i b e = rw e refl
+
+pub told-repeated : (nth : ℕ → Booking) (i : ℕ) (b : Booking) (again : Bool) → b ≡ nth i
+    → again ≡ bookedBefore nth b i → repeated nth i ≡ again
+told-repeated nth i b again e told = repeated-told nth i b e ∙ sym told
 
 pub booked-exact : (bookings : List ℕ) (d n t : ℕ)
     → (bookedBefore (bookingAt bookings) (record { desk = d; card = n; shape = t }) (getD bookings 0 0) ≡ true)
@@ -176,7 +180,7 @@ module _ {bookings : List ℕ} {b : Booking} where
 
 -- ---- what the look-up leaves
 module _ {bookings : List ℕ} {k : ℕ} {b : Booking} {first next : List ℕ}
-    (asked : EnterAsked bookings k (b .card) first next) where
+    (asked : LookupAsked bookings k (b .card) first next) where
   pub entered-again : bookedBefore (bookingAt bookings) b k ≡ true → Entered bookings k b first next first next true
   entered-again booked = record {
     told = sym booked;

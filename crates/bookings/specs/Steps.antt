@@ -1,12 +1,12 @@
 -- What the code's answer says of the reading of a booking list, and what its parts ask and leave; no part of a promise.
 -- bookingReading   the reading that an answer stands for
--- Sized            a list that has the words of so many bookings, each of so many words
+-- ListOf           a list that has the words of so many bookings, each of so many words
 -- WordsIn          the words of booking i stand in a list
--- Counted          what looking at a list's count and length finds
+-- CountRead        what looking at a list's count and length finds
 -- PairsAsked       what reading the bookings of a list asks
--- EnterAsked       the first bookings of a list are chained by their cards, and there is room for one more
+-- BookingsIn       the bookings of a list are of cards and shapes of a sheet
+-- LookupAsked      the first bookings of a list are chained by their cards, and there is room for one more
 -- Entered          what looking a booking up among them tells and leaves: it is there, or is chained too
--- TidyAsked        what tidying a stored list asks
 -- Assumes nothing.
 use Prim.Native.Nat.{ℕ, suc, _+_, _*_, _≤_, _<_}
 use mathlib.Core.Path.{_≡_}
@@ -16,18 +16,17 @@ use lib.ListN.{length, getD}
 use Rattle.words.specs.Limits.{maxBookings, maxCards}
 use Rattle.words.specs.Reading.{Reading, accepted, turnedDown}
 use Rattle.words.specs.Chain.{Chained}
-use Rattle.bookings.specs.Bookings.{Booking, readList, bookingAt, cardAt, bookedBefore}
-use Rattle.bookings.specs.Stored.{storedCardAt}
+use Rattle.bookings.specs.Bookings.{Booking, readList, bookingAt, cardAt, shapeAt, bookedBefore}
 use Rattle.bookings.specs.declared.BookingRead.{BookingRead}
 use Rattle.bookings.specs.declared.BookingRead.the-variants as list
 
 -- What reading the booking list finds.
 abbrev pub bookingReading : BookingRead → Reading ℕ
-bookingReading (list.Listed count) = accepted count
+bookingReading (list.Count count) = accepted count
 bookingReading (list.Refused number place) = turnedDown number place
 
 -- The list has the words of so many bookings, and these are not too many.
-pub record Sized (width : ℕ) (bookings : List ℕ) (count : ℕ) : Type 0 where
+pub record ListOf (width : ℕ) (bookings : List ℕ) (count : ℕ) : Type 0 where
   pub few : count ≤ maxBookings
   pub size : length bookings ≡ 1 + width * count
 
@@ -38,18 +37,22 @@ pub record WordsIn (width : ℕ) (bookings : List ℕ) (i : ℕ) : Type 0 where
 
 -- A list with the words that its count asks for, which is then read one by one; or one that is refused, whatever the
 -- rule for each booking.
-abbrev pub Counted : ℕ → List ℕ → BookingRead → Type 0
-Counted width bookings (list.Listed count) = Sized width bookings count × (count ≡ getD bookings 0 0)
-Counted width bookings (list.Refused number place) =
+abbrev pub CountRead : ℕ → List ℕ → BookingRead → Type 0
+CountRead width bookings (list.Count count) = ListOf width bookings count × (count ≡ getD bookings 0 0)
+CountRead width bookings (list.Refused number place) =
     (rule : ℕ → Reading ℕ → Reading ℕ) → readList width rule bookings ≡ turnedDown number place
 
 -- A list of so many bookings; the cards are those of a script.
 pub record PairsAsked (cards : ℕ) (bookings : List ℕ) (count : ℕ) : Type 0 where
-  pub sized : Sized 3 bookings count
+  pub sized : ListOf 3 bookings count
   pub few-cards : cards ≤ maxCards
 
+-- The first k bookings are of cards and shapes of a sheet.
+abbrev pub BookingsIn : List ℕ → ℕ → ℕ → ℕ → Type 0
+BookingsIn bookings cards shapes k = (i : ℕ) → i < k → (cardAt bookings i < cards) × (shapeAt bookings i < shapes)
+
 -- The first k bookings of a list are chained by their cards, and there is room for a further one of a card.
-pub record EnterAsked (bookings : List ℕ) (k card : ℕ) (first next : List ℕ) : Type 0 where
+pub record LookupAsked (bookings : List ℕ) (k card : ℕ) (first next : List ℕ) : Type 0 where
   pub chained : Chained (cardAt bookings) first next k
   pub words : 1 + 3 * k ≤ length bookings
   pub few : k < maxBookings
@@ -66,10 +69,3 @@ pub record Entered (bookings : List ℕ) (k : ℕ) (b : Booking) (first next aft
   pub stays : again ≡ true → Chained (cardAt bookings) after-first after-next k
   pub more : again ≡ false → (key : ℕ → ℕ) → ((j : ℕ) → j < k → key j ≡ cardAt bookings j) → key k ≡ b .card
       → Chained key after-first after-next (k + 1)
-
--- A stored list of so many bookings of a script's cards, and a buffer with a word more for each.
-pub record TidyAsked (bookings : List ℕ) (count : ℕ) (out : List ℕ) : Type 0 where
-  pub sized : Sized 2 bookings count
-  pub counted : count ≡ getD bookings 0 0
-  pub cards : (i : ℕ) → i < count → storedCardAt bookings i < maxCards
-  pub room : length out ≡ 1 + 3 * count

@@ -1,10 +1,6 @@
 // A list of bookings of both desks (a pre-typing of each): its words, and reading it.
 //   lookup    looking a booking up among those before it
-//   stored    a stored list, of two words a booking
-//   tidying   writing a stored list without its repeats
 mod lookup;
-mod stored;
-mod tidying;
 
 ghost use mathlib.Core.Path.{_≡_};
 ghost use Prim.Native.Nat.{_*_, _≤_};
@@ -12,17 +8,17 @@ ghost use Rattle.words.specs.Limits.{maxCards, maxBookings};
 ghost use Rattle.words.specs.Reading.{accepted};
 ghost use Rattle.bookings.specs.Bookings.{deskIndex, cardIndex, shapeIndex, deskAt, cardAt, shapeAt};
 ghost use Rattle.bookings.specs.Bookings.{bookingRule, readEach, readBookings};
-ghost use Rattle.bookings.specs.Steps.{bookingReading, WordsIn, Counted, PairsAsked};
-use lookup::enter_booking;
-pub use stored::read_stored;
-pub use tidying::tidy;
+ghost use Rattle.bookings.specs.Steps.{bookingReading, WordsIn, CountRead, PairsAsked};
+pub use lookup::enter_booking;
+use words::Card;
 use words::MAX_BOOKINGS;
 use words::MAX_CARDS;
+use words::Shape;
 use words::wide;
 
 // What reading a booking list finds: its count, or number and place.
 pub enum BookingRead {
-    Listed(u16),
+    Count(u16),
     Refused(u16, usize),
 }
 
@@ -59,25 +55,25 @@ pub fn desk_at(bookings: &[u16], i: usize) -> u16
 }
 
 // Its card.
-pub fn card_at(bookings: &[u16], i: usize) -> u16
+pub fn card_at(bookings: &[u16], i: usize) -> Card
     requires { ⌜ WordsIn 3 (now bookings) i ⌝ }
-    ensures { λ r. ⌜ r ≡ cardAt (now (bookings .entry)) i ⌝ }
+    ensures { λ r. ⌜ r .0 ≡ cardAt (now (bookings .entry)) i ⌝ }
 {
-    bookings[card_index(i)]
+    Card(bookings[card_index(i)])
 }
 
 // Its shape.
-pub fn shape_at(bookings: &[u16], i: usize) -> u16
+pub fn shape_at(bookings: &[u16], i: usize) -> Shape
     requires { ⌜ WordsIn 3 (now bookings) i ⌝ }
-    ensures { λ r. ⌜ r ≡ shapeAt (now (bookings .entry)) i ⌝ }
+    ensures { λ r. ⌜ r .0 ≡ shapeAt (now (bookings .entry)) i ⌝ }
 {
-    bookings[shape_index(i)]
+    Shape(bookings[shape_index(i)])
 }
 
 // The count of a list with so many words for each booking, where it has the words that the count asks for.
-fn list_count(width: usize, bookings: &[u16]) -> BookingRead
+pub fn list_count(width: usize, bookings: &[u16]) -> BookingRead
     requires { ⌜ width ≤ 3 ⌝ }
-    ensures { λ r. ⌜ Counted width (now (bookings .entry)) r ⌝ }
+    ensures { λ r. ⌜ CountRead width (now (bookings .entry)) r ⌝ }
 {
     if bookings.len() == 0 {
         return BookingRead::Refused(30, 0);
@@ -89,7 +85,7 @@ fn list_count(width: usize, bookings: &[u16]) -> BookingRead
     if bookings.len() != 1 + width * wide(count) {
         return BookingRead::Refused(30, 0);
     }
-    BookingRead::Listed(count)
+    BookingRead::Count(count)
 }
 
 // Reads so many bookings, one by one.
@@ -108,11 +104,11 @@ fn read_pairs(cards: u16, shapes: u16, count: u16, bookings: &[u16]) -> BookingR
             return BookingRead::Refused(66, desk_index(i));
         }
         let card = card_at(bookings, i);
-        if cards <= card {
+        if cards <= card.0 {
             return BookingRead::Refused(32, card_index(i));
         }
         let shape = shape_at(bookings, i);
-        if shapes <= shape {
+        if shapes <= shape.0 {
             return BookingRead::Refused(33, shape_index(i));
         }
         if enter_booking(bookings, i, desk, card, shape, &mut first, &mut next) {
@@ -120,7 +116,7 @@ fn read_pairs(cards: u16, shapes: u16, count: u16, bookings: &[u16]) -> BookingR
         }
         i += 1;
     }
-    BookingRead::Listed(count)
+    BookingRead::Count(count)
 }
 
 // Reads a booking list for the cards of a script and so many shapes.
@@ -131,6 +127,6 @@ pub fn read_bookings(cards: u16, shapes: u16, bookings: &[u16]) -> BookingRead
     let counted = list_count(3, bookings);
     match counted {
         BookingRead::Refused(number, place) => BookingRead::Refused(number, place),
-        BookingRead::Listed(count) => read_pairs(cards, shapes, count, bookings),
+        BookingRead::Count(count) => read_pairs(cards, shapes, count, bookings),
     }
 }

@@ -7,7 +7,7 @@ use Prim.Native.Nat.{ℕ, _+_, _≤_, _<_}
 use mathlib.Core.Path.{_≡_, sym, _∙_}
 use mathlib.Core.List.{List, _++_}
 use native.Mathlib.Omega.{arith}
-use lib.ListN.{length, take, drop, getD, set, drop-of-length-le}
+use lib.ListN.{length, take, drop, getD, set}
 use lib.Seq.{take-all, take-length, take-suc, drop-cons, set-at, append-snoc, length-take-le}
 use native.Mathlib.Numerals.{add-one}
 use Rattle.capi.specs.Numbers.{copied}
@@ -28,5 +28,4 @@ module _ (words buffer : List ℕ) where
   pub room-filled :
       length buffer ≤ length words →
       take (length buffer) words ++ drop (length buffer) buffer ≡ copied words buffer
-  room-filled h =
-      rw (drop-of-length-le buffer {i = length buffer} (omega arith), drop-of-length-le buffer {i = length words} h)
+  room-filled h = rw (length-take-le (length buffer) words h)

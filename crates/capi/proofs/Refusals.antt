@@ -10,7 +10,10 @@ use mathlib.Core.List.{List, [], _∷_}
 use native.Mathlib.Omega.{arith}
 use Rattle.words.specs.Said.{refusal}
 use Rattle.words.specs.Reading.{Reading, accepted, turnedDown}
+use Rattle.words.specs.Answered.{Answered, Unchanged}
+use Rattle.words.specs.Writes.{Writes}
 use Rattle.words.proofs.Said.{values-refusal}
+use Rattle.words.proofs.Answered.{answered-refused}
 use Rattle.words.proofs.Readings.{said-turned, Numbered, numbered-turned, numbered-map, then-numbered}
 use Rattle.template.specs.Template.{readTemplate, templateValues, templateSays}
 use Rattle.template.proofs.Numbers.{TemplateNumber, template-numbers}
@@ -18,18 +21,20 @@ use Rattle.script.specs.Script.{readScript, readWith, scriptValues, scriptSays}
 use Rattle.script.proofs.Reading.{ScriptNumber, script-numbers}
 use Rattle.sheet.specs.Sheet.{Sheet}
 use Rattle.typing.specs.Demand3.{Outcome, pairs, notMet}
-use Rattle.typing.specs.Calls.{LargestAnswered, LargestSays, SmallestAnswered, SmallestSays, outcomeSaid}
-use Rattle.typing.specs.Calls.{largestReading, smallestReading, Grids, bothReading, BothAnswered, BothSays}
+use Rattle.typing.specs.Calls.{LargestFound, LargestSays, SmallestFound, SmallestSays, outcomeSaid}
+use Rattle.typing.specs.Calls.{largestReading, smallestReading, Grids, bothReading, BothFound, BothSays}
 use Rattle.typing.specs.Judge.{JudgeSays}
-use Rattle.typing.specs.Tidy.{tidyReading, TidyAnswered, TidySays}
+use Rattle.typing.specs.Tidy.{tidyReading, TidySays}
 use Rattle.typing.proofs.Numbers.{LargestNumber, largest-numbers, SmallestNumber, smallest-numbers, both-numbers}
 use Rattle.typing.proofs.Numbers.{JudgeNumber, judge-numbers, TidyNumber, tidy-numbers}
 use Rattle.capi.proofs.Told.{Plain, plain-number}
-use Rattle.counts.specs.Fit.{Question, fitQuestion, Answers, FitSays}
+use Rattle.counts.specs.Fit.{Question, fitQuestion, FitFound, FitSays}
 use Rattle.counts.proofs.Numbers.{FitNumber, fit-numbers}
 use Rattle.bookings.specs.Bookings.{Booked}
-use Rattle.bookings.proofs.Reading.{StoredNumber, BookingNumber}
-use Rattle.typing.specs.Answer.{BothSaid}
+use Rattle.stored.specs.Tidied.{tidied}
+use Rattle.stored.proofs.StoredLists.{StoredNumber}
+use Rattle.bookings.proofs.Reading.{BookingNumber}
+use Rattle.typing.specs.Answer.{BothSaid, bothRefused}
 
 -- ---- the numbers of the readers are plain
 -- from 1 to 49
@@ -76,7 +81,7 @@ fit-number n h = ⊎-elim (template-number n) (λ b. low-plain n (omega (arith, 
 
 -- One refusal of both calls.
 abbrev twice : ℕ → ℕ → BothSaid
-twice number place = record { largest = refusal number (place ∷ []); smallest = refusal number (place ∷ []) }
+twice number place = bothRefused (refusal number (place ∷ []))
 
 -- ---- of each operation
 module _ (number place : ℕ) where
@@ -102,7 +107,9 @@ module _ (number place : ℕ) where
       (script-numbers (t .kinds) script)))
       (said-turned scriptValues (readWith template script) number place e)
 
-  fit-by : (r : Reading Question) → Numbered FitNumber r → Answers r (refusal number (place ∷ [])) → Plain number
+  fit-by : (r : Reading Question) → Numbered FitNumber r
+      → Answered r (λ refused. refusal number (place ∷ []) ≡ refused) (λ q. FitFound q (refusal number (place ∷ [])))
+      → Plain number
   fit-by (turnedDown n p) h e = same-number n p e (fit-number n h)
   fit-by (accepted q) h e =
       ⊎-elim (λ yes. values-refusal (sym (yes .1))) (λ no. values-refusal (sym (no .1))) e
@@ -112,34 +119,29 @@ module _ (number place : ℕ) where
   fit-plain template shape counts e =
       fit-by (fitQuestion template shape counts) (fit-numbers template shape counts) e
 
-  largest-by : (r : Reading Sheet) (before after : List ℕ) → Numbered LargestNumber r
-      → LargestAnswered r before after (refusal number (place ∷ [])) → Plain number
-  largest-by (turnedDown n p) before after h e = same-number n p (e .0) (largest-number n h)
-  largest-by (accepted s) before after h e = values-refusal (sym (e .says))
-
   pub largest-plain : (template script before after : List ℕ)
       → LargestSays template script before after (refusal number (place ∷ [])) → Plain number
   largest-plain template script before after e =
-      largest-by (largestReading template script before) before after (largest-numbers template script before) e
+      answered-refused LargestNumber (largestReading template script before) before after number (place ∷ [])
+      (largest-numbers template script before) (λ n same. largest-number number n)
+      (λ s r (f : LargestFound s after (refusal number (place ∷ []))). values-refusal (sym (f .says))) e
 
   -- 50 has two words for its place
   outcome-none : {A : Type 0} (o : Outcome) → refusal number (place ∷ []) ≡ outcomeSaid o → A
   outcome-none (pairs m) e = values-refusal (sym e)
   outcome-none (notMet n t) e = let z : _≡_ {A = ℕ} 0 1 = cc in absurd (omega arith)
 
-  smallest-by : (r : Reading Sheet) (Wanted : ℕ → ℕ → Type 0) (before after : List ℕ) → Numbered SmallestNumber r
-      → SmallestAnswered r Wanted before after (refusal number (place ∷ [])) → Plain number
-  smallest-by (turnedDown n p) Wanted before after h e = same-number n p (e .0) (smallest-number n h)
-  smallest-by (accepted s) Wanted before after h e = outcome-none (e .outcome) (e .says)
-
   pub smallest-plain : (template script bookings : List ℕ) (desk : ℕ) (before after : List ℕ)
       → SmallestSays template script bookings desk before after (refusal number (place ∷ [])) → Plain number
   smallest-plain template script bookings desk before after e =
-      smallest-by (smallestReading template script bookings desk before) (Booked bookings desk) before after
-      (smallest-numbers template script bookings desk before) e
+      answered-refused SmallestNumber (smallestReading template script bookings desk before) before after number
+      (place ∷ []) (smallest-numbers template script bookings desk before) (λ n same. smallest-number number n)
+      (λ s r (f : SmallestFound s (Booked bookings desk) after (refusal number (place ∷ []))).
+      outcome-none (f .outcome) (f .says)) e
 
   both-by : (r : Reading Sheet) (Wanted : ℕ → ℕ → Type 0) (before after : Grids) → Numbered SmallestNumber r
-      → BothAnswered r Wanted before after (twice number place) → Plain number
+      → Answered r (λ refused. Unchanged before after (twice number place) (bothRefused refused))
+      (λ s. BothFound s Wanted (after .small) (after .large) (twice number place)) → Plain number
   both-by (turnedDown n p) Wanted before after h e =
       same-number n p (ap (λ (x : BothSaid). x .largest) (e .0)) (smallest-number n h)
   both-by (accepted s) Wanted before after h e = outcome-none (e .smallest .outcome) (e .smallest .says)
@@ -156,13 +158,10 @@ module _ (number place : ℕ) where
       (judge-number number) (λ two. absurd (omega (arith, two .1)))
       (judge-numbers template script bookings desk grid number (place ∷ []) e)
 
-  tidy-by : (r : Reading Sheet) (bookings before after : List ℕ) → Numbered TidyNumber r
-      → TidyAnswered r bookings before after (refusal number (place ∷ [])) → Plain number
-  tidy-by (turnedDown n p) bookings before after h e = same-number n p (e .0) (tidy-number n h)
-  tidy-by (accepted s) bookings before after h e = values-refusal (sym (e .says))
-
   pub tidy-plain : (template script bookings before after : List ℕ)
       → TidySays template script bookings before after (refusal number (place ∷ [])) → Plain number
   tidy-plain template script bookings before after e =
-      tidy-by (tidyReading template script bookings before) bookings before after
-      (tidy-numbers template script bookings before) e
+      answered-refused TidyNumber (tidyReading template script bookings before) before after number (place ∷ [])
+      (tidy-numbers template script bookings before) (λ n same. tidy-number number n)
+      (λ s r (f : Writes (tidied bookings) before after (refusal number (place ∷ []))).
+      values-refusal (sym (f .says))) e

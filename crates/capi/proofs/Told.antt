@@ -31,7 +31,7 @@ pub plain-number : (number : ℕ) → (number ≡ 0 → ⊥) → (number ≡ 50 
 plain-number number some unmet failing =
     (ne-eqb number 0 some, rw (ne-eqb number 50 unmet, ne-eqb number 62 failing) refl)
 
-pub plain-other : (number : ℕ) → Plain number → eqb number 50 ≡ false
+plain-other : (number : ℕ) → Plain number → eqb number 50 ≡ false
 plain-other number plain = is-false (λ e. never-both (or-left (eqb number 50) _ e) (plain .1))
 
 -- The numbers of values, and of a refusal at one place.

@@ -25,10 +25,10 @@ use Rattle.capi.specs.declared.PrepLargest.{PrepLargest}
 use Rattle.capi.specs.declared.PrepSmallest.{PrepSmallest}
 use Rattle.capi.specs.declared.PrepBoth.{PrepBoth}
 use Rattle.capi.specs.declared.PrepJudge.{PrepJudge}
-use Rattle.capi.specs.declared.PrepTidy.{PrepTidy}
+use Rattle.capi.specs.declared.PrepWritten.{PrepWritten}
 use Rattle.capi.specs.Numbers.{Numbers, said, Tells, TellsBoth, copied, templateNumbers, fitNumbers}
 use Rattle.capi.specs.Numbers.{scriptNumbers, largestNumbers, smallestNumbers, largePart, smallPart, judgeNumbers}
-use Rattle.capi.specs.Numbers.{tidyNumbers}
+use Rattle.capi.specs.Numbers.{writtenNumbers}
 use Rattle.capi.proofs.Told.{numbers-unique}
 
 -- ---- a struct, from its numbers
@@ -78,8 +78,8 @@ bothOf large small =
 abbrev judgeOf : Numbers → PrepJudge
 judgeOf n = record { number = n .number; card = n .card; shape = n .shape; place = n .place }
 
-abbrev tidyOf : Numbers → PrepTidy
-tidyOf n = record { number = n .number; place = n .place; words = getD (n .found) 0 0 }
+abbrev writtenOf : Numbers → PrepWritten
+writtenOf n = record { number = n .number; place = n .place; written = getD (n .found) 0 0 }
 
 -- ---- the functions
 pub template-no-choice : (words : List ℕ) (a b : PrepTemplate) → Tells (λ x. x ≡ templateSays words) (templateNumbers a)
@@ -140,10 +140,10 @@ module _ (template script : List ℕ) where
       (said (judgeNumbers a)) (said (judgeNumbers b)) x y in
       ap judgeOf (numbers-unique (judgeNumbers a) (judgeNumbers b) refl same p q)
 
-  pub tidy-no-choice : (bookings before g h : List ℕ) (a b : PrepTidy)
-      → Tells (TidySays template script bookings before g) (tidyNumbers a)
-      → Tells (TidySays template script bookings before h) (tidyNumbers b) → (a ≡ b) × (g ≡ h)
+  pub tidy-no-choice : (bookings before g h : List ℕ) (a b : PrepWritten)
+      → Tells (TidySays template script bookings before g) (writtenNumbers a)
+      → Tells (TidySays template script bookings before h) (writtenNumbers b) → (a ≡ b) × (g ≡ h)
   tidy-no-choice bookings before g h a b (x, p) (y, q) =
       let (same, buffers) = tidy-one-answer template script bookings before g h
-      (said (tidyNumbers a)) (said (tidyNumbers b)) x y in
-      (ap tidyOf (numbers-unique (tidyNumbers a) (tidyNumbers b) refl same p q), buffers)
+      (said (writtenNumbers a)) (said (writtenNumbers b)) x y in
+      (ap writtenOf (numbers-unique (writtenNumbers a) (writtenNumbers b) refl same p q), buffers)

@@ -1,19 +1,21 @@
 -- What the numbers of an answer say (docs/FORMAT.md, "Operations"): number 0 is no refusal, and each other number is a
 -- refusal's. What an answer does not say is 0, so that no number is left to choice.
 -- Numbers           a refusal's number, its place, its card and shape, and the values
--- paired, isPaired  the refusals whose place is a card and a shape
+-- plain             the numbers of a struct without a card and a shape
+-- isPaired          the refusals whose place is a card and a shape
 -- said, unsaid      what the numbers say, and those that then say nothing
 -- Zeros, Tells      a list of zeros; the numbers say something that holds, and the others are 0
 -- templateNumbers ..   the numbers of each struct
--- copied            a buffer after words are copied to its start
+-- copied            a buffer after words are copied to its front
 -- Assumes nothing.
 use Prim.Native.Nat.{ℕ}
 use mathlib.Core.Path.{_≡_}
-use mathlib.Core.Bool.{Bool, false, _||_, cond}
-use mathlib.Core.List.{List, [], _∷_, _++_}
-use lib.ListN.{length, take, drop}
+use mathlib.Core.Bool.{Bool, _||_, cond}
+use mathlib.Core.List.{List, [], _∷_}
+use lib.ListN.{length, take}
 use lib.Dec.{eqb}
 use Rattle.words.specs.Said.{Said, values, refusal}
+use Rattle.words.specs.Writes.{atFront}
 use Rattle.typing.specs.Answer.{BothSaid}
 use Rattle.capi.specs.declared.PrepTemplate.{PrepTemplate}
 use Rattle.capi.specs.declared.PrepFit.{PrepFit}
@@ -22,7 +24,7 @@ use Rattle.capi.specs.declared.PrepLargest.{PrepLargest}
 use Rattle.capi.specs.declared.PrepSmallest.{PrepSmallest}
 use Rattle.capi.specs.declared.PrepBoth.{PrepBoth}
 use Rattle.capi.specs.declared.PrepJudge.{PrepJudge}
-use Rattle.capi.specs.declared.PrepTidy.{PrepTidy}
+use Rattle.capi.specs.declared.PrepWritten.{PrepWritten}
 
 -- The numbers of an answer; a struct without a card and a shape has 0 for them.
 pub record Numbers : Type 0 where
@@ -32,17 +34,13 @@ pub record Numbers : Type 0 where
   pub shape : ℕ
   pub found : List ℕ
 
--- The refusals whose place is a card and a shape.
-abbrev pub paired : List ℕ
-paired = 50 ∷ 62 ∷ []
+-- Of a struct that has neither: number, place and values.
+abbrev plain : ℕ → ℕ → List ℕ → Numbers
+plain number place found = record { number = number; place = place; card = 0; shape = 0; found = found }
 
--- Whether a number is one of a list's.
-abbrev pub isIn : ℕ → List ℕ → Bool
-isIn n [] = false
-isIn n (x ∷ xs) = eqb n x || isIn n xs
-
+-- Whether a refusal's place is a card and a shape.
 abbrev pub isPaired : ℕ → Bool
-isPaired n = isIn n paired
+isPaired n = eqb n 50 || eqb n 62
 
 -- The values where the number is 0; else the refusal, at its card and shape or at its place.
 abbrev pub said : Numbers → Said
@@ -67,22 +65,19 @@ Tells Allowed r = Allowed (said r) × Zeros (unsaid r)
 
 -- The counts of kinds and of shapes.
 abbrev pub templateNumbers : PrepTemplate → Numbers
-templateNumbers r =
-    record { number = r .number; place = r .place; card = 0; shape = 0; found = r .kinds ∷ r .shapes ∷ [] }
+templateNumbers r = plain (r .number) (r .place) (r .kinds ∷ r .shapes ∷ [])
 
 -- Whether the counts fit: 1 or 0.
 abbrev pub fitNumbers : PrepFit → Numbers
-fitNumbers r = record { number = r .number; place = r .place; card = 0; shape = 0; found = r .fits ∷ [] }
+fitNumbers r = plain (r .number) (r .place) (r .fits ∷ [])
 
 -- The counts of cards and of links.
 abbrev pub scriptNumbers : PrepScript → Numbers
-scriptNumbers r =
-    record { number = r .number; place = r .place; card = 0; shape = 0; found = r .cards ∷ r .links ∷ [] }
+scriptNumbers r = plain (r .number) (r .place) (r .cards ∷ r .links ∷ [])
 
 -- Rounds, pairs struck, cards with some link and no shape.
 abbrev pub largestNumbers : PrepLargest → Numbers
-largestNumbers r =
-    record { number = r .number; place = r .place; card = 0; shape = 0; found = r .rounds ∷ r .struck ∷ r .bare ∷ [] }
+largestNumbers r = plain (r .number) (r .place) (r .rounds ∷ r .struck ∷ r .bare ∷ [])
 
 -- The number of pairs, or the card and shape of the pair that is not met.
 abbrev pub smallestNumbers : PrepSmallest → Numbers
@@ -95,14 +90,7 @@ smallPart r = record { number = r .number; place = r .place; card = r .card; sha
 
 -- and the largest's: 50, bookings that are not met, refuses the smallest only.
 abbrev pub largePart : PrepBoth → Numbers
-largePart r =
-    record {
-      number = cond (eqb (r .number) 50) 0 (r .number);
-      place = r .place;
-      card = 0;
-      shape = 0;
-      found = r .rounds ∷ r .struck ∷ r .bare ∷ [];
-    }
+largePart r = plain (cond (eqb (r .number) 50) 0 (r .number)) (r .place) (r .rounds ∷ r .struck ∷ r .bare ∷ [])
 
 abbrev pub TellsBoth : (BothSaid → Type 0) → PrepBoth → Type 0
 TellsBoth Allowed r =
@@ -114,10 +102,10 @@ TellsBoth Allowed r =
 abbrev pub judgeNumbers : PrepJudge → Numbers
 judgeNumbers r = record { number = r .number; place = r .place; card = r .card; shape = r .shape; found = [] }
 
--- The number of words that are written.
-abbrev pub tidyNumbers : PrepTidy → Numbers
-tidyNumbers r = record { number = r .number; place = r .place; card = 0; shape = 0; found = r .words ∷ [] }
+-- How many words or bytes were written.
+abbrev pub writtenNumbers : PrepWritten → Numbers
+writtenNumbers r = plain (r .number) (r .place) (r .written ∷ [])
 
--- The buffer's own words stay where there are no words for them.
+-- As many words as there is room for stand at the buffer's front, and the rest of it is as before.
 abbrev pub copied : List ℕ → List ℕ → List ℕ
-copied words buffer = take (length buffer) words ++ drop (length words) buffer
+copied words buffer = atFront (take (length buffer) words) buffer

@@ -9,26 +9,27 @@ ghost use Rattle.typing.specs.Calls.{LargestSays, SmallestSays, BothSays};
 ghost use Rattle.typing.specs.Judge.{JudgeSays};
 ghost use Rattle.typing.specs.Tidy.{TidySays};
 ghost use Rattle.capi.specs.Numbers.{Tells, TellsBoth, templateNumbers, fitNumbers, scriptNumbers};
-ghost use Rattle.capi.specs.Numbers.{largestNumbers, smallestNumbers, judgeNumbers, tidyNumbers, copied};
-use calls::both_typings;
-use calls::judge;
+ghost use Rattle.capi.specs.Numbers.{largestNumbers, smallestNumbers, judgeNumbers, writtenNumbers, copied};
+use both::both_typings;
 use calls::largest;
 use calls::smallest;
-use calls::tidy_bookings;
 use counts::FitAnswer;
 use counts::fit_counts;
-use script::Card;
 use script::ScriptAnswer;
 use script::links_of_card;
 use script::read_script;
-use template::Shape;
 use template::TemplateAnswer;
 use template::read_template;
+use tidy::tidy_bookings;
 use typing::BothAnswer;
 use typing::JudgeAnswer;
 use typing::LargestAnswer;
+use typing::Settled;
 use typing::SmallestAnswer;
-use typing::TidyAnswer;
+use verdict::judge;
+use words::Card;
+use words::Shape;
+use words::WriteAnswer;
 
 // A template's counts of kinds and of shapes; or a refusal's number and place.
 #[repr(C)]
@@ -98,12 +99,12 @@ pub struct PrepJudge {
     pub place: usize,
 }
 
-// The number of words of a tidied list; or a refusal's number and place.
+// How many words or bytes were written; or a refusal's number and place.
 #[repr(C)]
-pub struct PrepTidy {
+pub struct PrepWritten {
     pub number: u16,
     pub place: usize,
-    pub words: usize,
+    pub written: usize,
 }
 
 // Read a template.
@@ -215,12 +216,12 @@ pub extern "C" fn prep_largest(template: &[u16], script: &[u16], grid: &mut [u8]
 {
     let answer = largest(template, script, grid);
     match answer {
-        LargestAnswer::Typed(rounds, struck, bare) => PrepLargest {
+        LargestAnswer::Typed(found) => PrepLargest {
             number: 0,
             place: 0,
-            rounds,
-            struck,
-            bare,
+            rounds: found.rounds,
+            struck: found.struck,
+            bare: found.bare,
         },
         LargestAnswer::Refused(number, place) => PrepLargest {
             number,
@@ -246,19 +247,21 @@ pub extern "C" fn prep_smallest(
 {
     let answer = smallest(template, script, bookings, desk, grid);
     match answer {
-        SmallestAnswer::Pairs(pairs) => PrepSmallest {
-            number: 0,
-            card: 0,
-            shape: 0,
-            place: 0,
-            pairs,
-        },
-        SmallestAnswer::NotMet(card, shape) => PrepSmallest {
-            number: 50,
-            card: card.0,
-            shape: shape.0,
-            place: 0,
-            pairs: 0,
+        SmallestAnswer::Settled(found) => match found {
+            Settled::Pairs(pairs) => PrepSmallest {
+                number: 0,
+                card: 0,
+                shape: 0,
+                place: 0,
+                pairs,
+            },
+            Settled::NotMet(card, shape) => PrepSmallest {
+                number: 50,
+                card: card.0,
+                shape: shape.0,
+                place: 0,
+                pairs: 0,
+            },
         },
         SmallestAnswer::Refused(number, place) => PrepSmallest {
             number,
@@ -286,26 +289,32 @@ pub extern "C" fn prep_both_typings(
 {
     let answer = both_typings(template, script, bookings, desk, small, large);
     match answer {
-        BothAnswer::Typed(rounds, struck, bare, pairs) => PrepBoth {
-            number: 0,
-            card: 0,
-            shape: 0,
-            place: 0,
-            rounds,
-            struck,
-            bare,
-            pairs,
-        },
-        BothAnswer::NotMet(rounds, struck, bare, card, shape) => PrepBoth {
-            number: 50,
-            card: card.0,
-            shape: shape.0,
-            place: 0,
-            rounds,
-            struck,
-            bare,
-            pairs: 0,
-        },
+        BothAnswer::Typed(found) => {
+            let large = found.largest;
+            let small = found.smallest;
+            match small {
+                Settled::Pairs(pairs) => PrepBoth {
+                    number: 0,
+                    card: 0,
+                    shape: 0,
+                    place: 0,
+                    rounds: large.rounds,
+                    struck: large.struck,
+                    bare: large.bare,
+                    pairs,
+                },
+                Settled::NotMet(card, shape) => PrepBoth {
+                    number: 50,
+                    card: card.0,
+                    shape: shape.0,
+                    place: 0,
+                    rounds: large.rounds,
+                    struck: large.struck,
+                    bare: large.bare,
+                    pairs: 0,
+                },
+            }
+        }
         BothAnswer::Refused(number, place) => PrepBoth {
             number,
             card: 0,
@@ -361,21 +370,21 @@ pub extern "C" fn prep_tidy_bookings(
     script: &[u16],
     bookings: &[u16],
     out: &mut [u16],
-) -> PrepTidy
+) -> PrepWritten
     ensures { λ r. ⌜ Tells (TidySays (now (template .entry)) (now (script .entry)) (now (bookings .entry))
-        (now (out .entry)) (now (out .exit))) (tidyNumbers r) ⌝ }
+        (now (out .entry)) (now (out .exit))) (writtenNumbers r) ⌝ }
 {
     let answer = tidy_bookings(template, script, bookings, out);
     match answer {
-        TidyAnswer::Written(words) => PrepTidy {
+        WriteAnswer::Written(written) => PrepWritten {
             number: 0,
             place: 0,
-            words,
+            written,
         },
-        TidyAnswer::Refused(number, place) => PrepTidy {
+        WriteAnswer::Refused(number, place) => PrepWritten {
             number,
             place,
-            words: 0,
+            written: 0,
         },
     }
 }

@@ -21,8 +21,9 @@ use lib.Seq.{length-take-le, getD-take, getD-drop}
 use Rattle.words.specs.Said.{Said, values, refusal}
 use Rattle.words.specs.Limits.{maxLabels, maxDepth}
 use Rattle.words.specs.Sizes.{tableSize}
-use Rattle.words.specs.Reading.{Reading, accepted, turnedDown}
+use Rattle.words.specs.Reading.{accepted}
 use Rattle.words.proofs.Bools.{never-both}
+use Rattle.words.proofs.Answered.{told-unique}
 use Rattle.bags.specs.Part.{Part}
 use Rattle.bags.specs.Named.{named}
 use Rattle.bags.specs.Bag.{count}
@@ -35,10 +36,10 @@ use Rattle.template.proofs.Accepted.{template-accepted}
 use Rattle.counts.specs.declared.FitAnswer.{FitAnswer}
 use Rattle.counts.specs.declared.FitAnswer.the-variants.{Yes, No, Refused}
 use Rattle.counts.specs.Answer.{fitSaid}
-use Rattle.counts.specs.Fit.{Question, firstOver, fitQuestion, Fitting, Answers, FitSays}
-use Rattle.counts.specs.Trees.{treeAt}
+use Rattle.counts.specs.Fit.{Question, firstOver, fitQuestion, Fitting, FitFound, FitSays}
+use Rattle.trees.specs.Trees.{treeAt}
 use Rattle.counts.specs.Machine.{Testable, Spread}
-use Rattle.counts.proofs.Agreement.{shape-tree}
+use Rattle.trees.proofs.Agreement.{shape-tree}
 
 -- What is asked of a template that is read, where nothing is refused.
 abbrev pub question : List ℕ → Template → ℕ → List ℕ → Question
@@ -153,7 +154,7 @@ module _ (words : List ℕ) (shape : ℕ) (counts : List ℕ) where
               (shape-fits words t e shape below counts labels kinds at same (omega arith) spread where-at)
 
           answered :
-              (said : Said) → Answers (accepted (question words t shape counts)) said → FitSays words shape counts said
+              (said : Said) → FitFound (question words t shape counts) said → FitSays words shape counts said
           answered said a = rw (fit-asked (omega arith)) a
 
           pub fit-yes : r ≡ true → FitSays words shape counts (fitSaid Yes)
@@ -163,7 +164,7 @@ module _ (words : List ℕ) (shape : ℕ) (counts : List ℕ) where
           fit-no h = answered (fitSaid No) (inr (λ f. never-both (by-test .0 f) h, refl))
 
 -- What an answer says tells the answer.
-pub fit-said-unique : (a b : FitAnswer) → fitSaid a ≡ fitSaid b → a ≡ b
+fit-said-unique : (a b : FitAnswer) → fitSaid a ≡ fitSaid b → a ≡ b
 fit-said-unique Yes Yes e = refl
 fit-said-unique Yes No e = absurd (let z : _≡_ {A = ℕ} 0 1 = cc in omega arith)
 fit-said-unique Yes (Refused n p) e = absurd (let z : _≡_ {A = ℕ} 0 1 = cc in omega arith)
@@ -183,31 +184,28 @@ module _ (a : Question) (said : Said) where
   one-word : {A : Type 0} → said ≡ values (1 ∷ []) → said ≡ values (0 ∷ []) → A
   one-word e f = let z : _≡_ {A = ℕ} 1 0 = cc in absurd (omega arith)
 
-  pub yes-exact : Answers (accepted a) said → (said ≡ values (1 ∷ [])) ↔ Fitting a
+  pub yes-exact : FitFound a said → (said ≡ values (1 ∷ [])) ↔ Fitting a
   yes-exact (inl p) = (λ e. p .0, λ f. p .1)
   yes-exact (inr p) = (λ e. one-word e (p .1), λ f. absurd (p .0 f))
 
-  pub no-exact : Answers (accepted a) said → (said ≡ values (0 ∷ [])) ↔ (Fitting a → ⊥)
+  pub no-exact : FitFound a said → (said ≡ values (0 ∷ [])) ↔ (Fitting a → ⊥)
   no-exact (inl p) = (λ e. one-word (p .1) e, λ n. absurd (n (p .0)))
   no-exact (inr p) = (λ e. p .0, λ n. p .1)
 
 -- Questions that fit alike have one answer.
 pub answers-alike :
-    (a b : Question) (x y : Said) → Fitting a ↔ Fitting b → Answers (accepted a) x → Answers (accepted b) y → x ≡ y
+    (a b : Question) (x y : Said) → Fitting a ↔ Fitting b → FitFound a x → FitFound b y → x ≡ y
 answers-alike a b x y h (inl p) (inl q) = p .1 ∙ sym (q .1)
 answers-alike a b x y h (inl p) (inr q) = absurd (q .0 (h .0 (p .0)))
 answers-alike a b x y h (inr p) (inl q) = absurd (p .0 (h .1 (q .0)))
 answers-alike a b x y h (inr p) (inr q) = p .1 ∙ sym (q .1)
 
-answers-unique : (asked : Reading Question) (x y : Said) → Answers asked x → Answers asked y → x ≡ y
-answers-unique (turnedDown number place) x y p q = p ∙ sym q
-answers-unique (accepted a) x y p q = answers-alike a a x y (λ f. f, λ f. f) p q
-
 -- The contract leaves no choice, of what is said and of the answers.
 pub fit-one-answer :
     (words : List ℕ) (shape : ℕ) (counts : List ℕ) (x y : Said) → FitSays words shape counts x →
     FitSays words shape counts y → x ≡ y
-fit-one-answer words shape counts x y p q = answers-unique (fitQuestion words shape counts) x y p q
+fit-one-answer words shape counts x y p q =
+    told-unique (fitQuestion words shape counts) x y (λ a r. answers-alike a a x y (λ f. f, λ f. f)) p q
 
 pub fit-answer-unique :
     (words : List ℕ) (shape : ℕ) (counts : List ℕ) (a b : FitAnswer) → FitSays words shape counts (fitSaid a) →

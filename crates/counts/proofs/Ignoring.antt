@@ -1,5 +1,5 @@
 -- "Fit counts" goes by the kinds that a shape looks at: open shapes and closed ones.
--- Counted      a list has a count for each kind each way, none over 8,192
+-- CountsFor      a list has a count for each kind each way, none over 8,192
 -- AlikeFor     two lists agree on each kind each way that a shape looks at
 -- seen-same    a shape sees the same counts in such lists
 -- fit-ignores  what is said of the one and of the other is the same
@@ -26,12 +26,12 @@ use Rattle.bags.proofs.Looking.{looks-cases, seen-alike, listed-outgoing, liste
 use Rattle.bags.proofs.Opening.{FitsNamed, open-exact, closed-counts}
 use Rattle.template.specs.Template.{opens, Template, readTemplate}
 use Rattle.template.proofs.Accepted.{template-accepted}
-use Rattle.counts.specs.Fit.{Answers, FitSays}
+use Rattle.counts.specs.Fit.{FitFound, FitSays}
 use Rattle.counts.proofs.Counts.{over-none}
 use Rattle.counts.proofs.Fitting.{question, fit-asked, yes-exact, no-exact, answers-alike}
 
 -- So many counts each way, each at most 8,192.
-pub record Counted (kinds : ℕ) (counts : List ℕ) : Type 0 where
+pub record CountsFor (kinds : ℕ) (counts : List ℕ) : Type 0 where
   pub each-way : length counts ≡ 2 * kinds
   pub small : (i : ℕ) → i < length counts → getD counts i 0 ≤ maxCount
 
@@ -80,14 +80,14 @@ module _
 module _ (words : List ℕ) (t : Template) (e : readTemplate words ≡ accepted t) (shape : ℕ) (below : shape < t .shapes)
   where
     answers-of :
-        (counts : List ℕ) (said : Said) → Counted (t .kinds) counts → FitSays words shape counts said →
-        Answers (accepted (question words t shape counts)) said
+        (counts : List ℕ) (said : Said) → CountsFor (t .kinds) counts → FitSays words shape counts said →
+        FitFound (question words t shape counts) said
     answers-of counts said c says =
         rw (fit-asked words shape counts t e below (c .each-way) (omega (arith, over-none counts (c .small)))) at says
 
     -- For a template that is read and one of its shapes.
     pub fit-ignores :
-        (counts other : List ℕ) → Counted (t .kinds) counts → Counted (t .kinds) other →
+        (counts other : List ℕ) → CountsFor (t .kinds) counts → CountsFor (t .kinds) other →
         AlikeFor (opens words shape) (getD (t .parts) shape Part.nothing) (t .kinds) counts other →
         (x y : Said) → FitSays words shape counts x → FitSays words shape other y → x ≡ y
     fit-ignores counts other c d alike x y says others =
@@ -99,7 +99,7 @@ module _ (words : List ℕ) (t : Template) (e : readTemplate words ≡ accepted 
         (subst (Fits (t .shapes) p) same, subst (Fits (t .shapes) p) (sym same))
         (answers-of counts x c says) (answers-of other y d others)
 
-    module _ (counts : List ℕ) (c : Counted (t .kinds) counts) (said : Said) (says : FitSays words shape counts said)
+    module _ (counts : List ℕ) (c : CountsFor (t .kinds) counts) (said : Said) (says : FitSays words shape counts said)
       where
         abbrev part : Part
         part = getD (t .parts) shape Part.nothing

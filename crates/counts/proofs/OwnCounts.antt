@@ -18,13 +18,13 @@ use Rattle.bags.specs.Proposition.{labelCount}
 use Rattle.bags.proofs.Naming.{OfKindBelow}
 use Rattle.bags.proofs.Looking.{listed-outgoing, listed-incoming}
 use Rattle.script.specs.Link.{neighbours}
-use Rattle.script.specs.Counts.{wayCount, cardCounts}
-use Rattle.script.proofs.Reading.{Accepted}
-use Rattle.script.proofs.Counts.{way-count, way-count-bound, card-counts-length, card-counts-out, card-counts-in}
+use Rattle.links.specs.Counts.{wayCount, cardCounts}
+use Rattle.script.proofs.Reading.{ScriptAccepted}
+use Rattle.links.proofs.Counts.{way-count, way-count-bound, card-counts-length, card-counts-out, card-counts-in}
 
 -- A card of a script that is read.
-module _ {kinds cards links : ℕ} {script : List ℕ} (few : kinds ≤ maxKinds) (read : Accepted kinds script cards links)
-    (n : ℕ) where
+module _ {kinds cards links : ℕ} {script : List ℕ} (few : kinds ≤ maxKinds)
+    (read : ScriptAccepted kinds script cards links) (n : ℕ) where
   abbrev counts : List ℕ
   counts = cardCounts script n links kinds
 

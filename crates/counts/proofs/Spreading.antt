@@ -19,8 +19,8 @@ use Rattle.bags.specs.Label.{Way, outgoing, incoming, labelOf}
 use Rattle.bags.specs.Bag.{count}
 use Rattle.bags.specs.Look.{listed}
 use Rattle.bags.proofs.Looking.{listed-outgoing, listed-incoming, listed-none}
-use Rattle.template.proofs.Laws.{label-kind}
-use Rattle.template.proofs.Trees.{no-entry}
+use Rattle.parts.proofs.Codes.{label-kind}
+use Rattle.parts.proofs.Trees.{no-entry}
 use Rattle.counts.specs.Machine.{Spread}
 
 -- Where the counts of a way start in a list with the counts of so many kinds each way.

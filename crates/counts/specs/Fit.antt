@@ -3,7 +3,7 @@
 -- firstOver              where the first count over 8,192 stands
 -- asked, fitQuestion     the question, or the first refusal: a line each, with number, place and test
 -- Fitting                the counts that the shape looks at fit it
--- Answers                which answer a question has: yes exactly where they fit, no exactly where they do not
+-- FitFound               which answer a question has: yes exactly where they fit, no exactly where they do not
 -- FitSays                what "Fit counts" says
 -- Assumes nothing.
 use mathlib.Core.Bool.{Bool, not, cond}
@@ -13,9 +13,10 @@ use mathlib.Core.Logic.{_⊎_}
 use mathlib.Core.List.{List, [], _∷_}
 use lib.ListN.{length, getD}
 use lib.Dec.{ltb, leb, eqb}
-use Rattle.words.specs.Said.{Said, values, refusal}
+use Rattle.words.specs.Said.{Said, values}
 use Rattle.words.specs.Limits.{maxCount}
-use Rattle.words.specs.Reading.{Reading, accepted, turnedDown, refuse, then}
+use Rattle.words.specs.Reading.{Reading, accepted, refuse, then}
+use Rattle.words.specs.Answered.{Answered}
 use Rattle.bags.specs.Part.{Part}
 use Rattle.bags.specs.Bag.{Fits}
 use Rattle.bags.specs.Look.{seen, listed}
@@ -61,11 +62,11 @@ Fitting question =
     (seen (question .isOpen) (question .part) (listed (question .kinds) (question .counts)))
 
 -- Yes where they are, no where they are not.
-abbrev pub Answers : Reading Question → Said → Type 0
-Answers (turnedDown number place) said = said ≡ refusal number (place ∷ [])
-Answers (accepted question) said =
+abbrev pub FitFound : Question → Said → Type 0
+FitFound question said =
     (Fitting question × (said ≡ values (1 ∷ []))) ⊎ ((Fitting question → ⊥) × (said ≡ values (0 ∷ [])))
 
 -- What is said of a template, a shape and counts.
 abbrev pub FitSays : List ℕ → ℕ → List ℕ → Said → Type 0
-FitSays template shape counts said = Answers (fitQuestion template shape counts) said
+FitSays template shape counts said =
+    Answered (fitQuestion template shape counts) (λ refused. said ≡ refused) (λ question. FitFound question said)

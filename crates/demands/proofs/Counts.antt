@@ -20,8 +20,8 @@ use Rattle.bags.proofs.Naming.{names-kind}
 use Rattle.bags.proofs.Looking.{looks-cases, seen-alike, looked-count, listed-none}
 use Rattle.template.specs.Template.{opens, Template, readTemplate}
 use Rattle.script.specs.Link.{neighbours}
-use Rattle.script.specs.Counts.{cardCounts}
-use Rattle.script.proofs.Counts.{card-counts-length}
+use Rattle.links.specs.Counts.{cardCounts}
+use Rattle.links.proofs.Counts.{card-counts-length}
 use Rattle.sheet.specs.Sheet.{Sheet, partOf, opensOf, neighboursOf}
 use Rattle.sheet.proofs.Accepted.{SheetAccepted}
 use Rattle.counts.specs.Fit.{FitSays}
@@ -29,7 +29,7 @@ use Rattle.counts.proofs.Counts.{over-none}
 use Rattle.counts.proofs.OwnCounts.{own-outgoing, own-named, own-low}
 use Rattle.counts.proofs.Fitting.{question, fit-asked, yes-exact, no-exact}
 use Rattle.typing.proofs.Instance.{countsOf, none-past}
-use Rattle.demands.specs.Demands.{Formed}
+use Rattle.demands.specs.Formed.{Formed}
 use Rattle.demands.proofs.Formed.{formed-template, formed-read}
 
 -- ---- any counts

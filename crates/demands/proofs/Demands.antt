@@ -2,71 +2,64 @@
 --   first-demand    faults get their refusals, and nothing else is refused
 --   second-demand   counts and sound typings are the paper's
 --   third-demand    the smallest and the largest typing
---   judge-demand    grids of other makers (of lists that are tidied: Tidying)
---   apart-demand    what one desk books changes nothing for the other
 -- Assumes nothing.
-use Prim.Native.Nat.{ℕ, _≤_}
-use mathlib.Core.Path.{_≡_, refl, sym, ap, _∙_, subst}
-use mathlib.Core.Logic.{_⊎_, inl, inr, ⊎-elim, _↔_}
+use Prim.Native.Nat.{ℕ}
+use mathlib.Core.Path.{_≡_, refl, sym, ap, _∙_}
+use mathlib.Core.Logic.{_⊎_, inl, inr, _↔_}
 use mathlib.Core.List.{List, [], _∷_}
 use native.Mathlib.Omega.{arith}
 use lib.ListN.{length}
 use Rattle.words.specs.Said.{Said, values, refusal}
-use Rattle.words.specs.Reading.{accepted, turnedDown, saidOf}
+use Rattle.words.specs.Reading.{saidOf}
+use Rattle.words.specs.Answered.{Unchanged}
+use Rattle.words.specs.Writes.{Writes}
 use Rattle.words.proofs.Bools.{never-both, is-false}
-use Rattle.words.proofs.Readings.{accepted-same, numbered-turned}
+use Rattle.words.proofs.Readings.{numbered-turned}
 use Rattle.template.specs.Template.{readTemplate, templateValues, templateSays}
 use Rattle.template.proofs.Numbers.{template-numbers}
 use Rattle.template.proofs.RoundTrip.{templates-are}
-use Rattle.script.specs.Script.{readWith, scriptValues, scriptSays}
+use Rattle.script.specs.Script.{readWith, scriptValues, scriptSays, cardLinks}
 use Rattle.bags.specs.Bag.{Bag, Bags}
 use Rattle.bags.proofs.Adequate.{met-is}
 use Rattle.board.specs.Grid.{on, tally}
 use Rattle.board.specs.Board.{Board}
 use Rattle.sheet.specs.Sheet.{Sheet, partOf, neighboursOf, size}
 use Rattle.bookings.specs.Bookings.{cardIndex, Booked}
-use Rattle.bookings.specs.Tidied.{tidied}
+use Rattle.stored.specs.Tidied.{tidied}
 use Rattle.counts.specs.Fit.{fitQuestion}
 use Rattle.counts.proofs.Ignoring.{open-fits}
 use Rattle.counts.proofs.Numbers.{fit-numbers}
 use Rattle.input.specs.Input.{readInput}
 use Rattle.input.proofs.Inputs.{input-numbers}
 use Rattle.input.proofs.RoundTrip.{inputs-are}
-use Rattle.typing.specs.Typing.{Pairs, Has, Met, Holds, Typing, SoundTyping}
+use Rattle.typing.specs.Typing.{Pairs, Has, Met, Typing, SoundTyping}
 use Rattle.typing.specs.Smallest.{IsClosure}
 use Rattle.typing.specs.Demand3.{Outcome, pairs, notMet, Refused, Demand3}
-use Rattle.typing.specs.Answer.{BothSaid, DesksSaid}
-use Rattle.typing.specs.Calls.{largestReading, smallestReading, bothReading, outcomeSaid, BothAnswered, BothFound}
-use Rattle.typing.specs.Calls.{LargestFound, LargestSays, SmallestFound, SmallestSays}
-use Rattle.typing.specs.Judge.{Verdict, over, unmet, unheld, passes, verdictSaid, Passes, JudgeFound, JudgeSays}
-use Rattle.typing.specs.Desks.{desksReading, DesksFound, DesksAnswered}
-use Rattle.typing.specs.Tidy.{tidyReading, TidyFound}
+use Rattle.typing.specs.Answer.{BothSaid, bothRefused, DesksSaid, desksRefused}
+use Rattle.typing.specs.Calls.{largestReading, smallestReading, bothReading, outcomeSaid, BothFound}
+use Rattle.typing.specs.Calls.{Leaves, LargestFound, SmallestFound}
+use Rattle.typing.specs.Judge.{Verdict, over, unmet, unheld, passes, verdictSaid, JudgeFound}
+use Rattle.typing.specs.Desks.{desksReading, DesksFound}
+use Rattle.typing.specs.Tidy.{tidyReading}
 use Rattle.typing.proofs.Numbers.{largest-numbers, smallest-numbers, both-numbers, desks-numbers, tidy-numbers}
 use Rattle.typing.proofs.Numbers.{JudgeRefusal, judge-numbers}
 use Rattle.typing.proofs.Represents.{Represents}
 use Rattle.typing.proofs.Largest.{largest-over, largest-bound, largest-unique, some-largest, bare-alike}
 use Rattle.typing.proofs.Existence.{represented}
 use Rattle.typing.proofs.Apart.{apart}
-use Rattle.typing.proofs.DesksApart.{desks-apart, desks-apart-both, desks-apart-set, desks-apart-both-set}
-use Rattle.typing.proofs.Judging.{judge-exact, judge-takes-smallest, judge-takes-largest, judge-between, judge-some}
-use Rattle.demands.specs.Demands.{TemplateListed, ScriptListed, FitListed, LargestListed, SmallestListed}
-use Rattle.demands.specs.Demands.{FromTo, TidyListed, JudgeListed, PrinterListed, FirstDemand, Formed}
-use Rattle.demands.specs.Demands.{Neighbourhood, RuleTwo, SecondDemand}
-use Rattle.demands.specs.Demands.{TurnedDown, LargestTyping, TwoTypings, ThirdDemand, BookingsFormed}
-use Rattle.demands.specs.Demands.{JudgedGrids, JudgeDemand, ApartDemand}
+use Rattle.demands.specs.Formed.{Formed}
+use Rattle.demands.specs.Listed.{FromTo, TemplateListed, ScriptListed, FitListed, LargestListed, SmallestListed}
+use Rattle.demands.specs.Listed.{TidyListed, JudgeListed, PrinterListed, Says50}
+use Rattle.demands.specs.Demands.{FirstDemand, Neighbourhood, RuleTwo, SecondDemand}
+use Rattle.demands.specs.Demands.{LargestTyping, TwoTypings, ThirdDemand}
 use Rattle.demands.proofs.Formed.{formed-sheet, sheets-are, bookings-are, largest-taken, smallest-taken}
-use Rattle.demands.proofs.Formed.{listed-taken, both-taken, desks-taken, stored-are, tidy-taken}
+use Rattle.demands.proofs.Formed.{both-taken, desks-taken, stored-are, tidy-taken}
+use Rattle.demands.proofs.Links.{script-said, past-card, own-links, side-by-side}
 use Rattle.demands.proofs.Counts.{counts-fit-exactly, card-fits-exactly}
 use Rattle.demands.proofs.Listed.{no-values, said-listed, fit-refused, largest-refused, smallest-refused}
-use Rattle.demands.proofs.Listed.{both-refused, desks-refused, tidy-refused, script-numbered}
+use Rattle.demands.proofs.Listed.{both-refused, desks-refused, tidy-refused, pairs-or-50, script-numbered}
 
 -- ---- the first demand
--- An outcome is a number of pairs, or the bookings are turned down.
-pairs-or-down : (said : Said) (o : Outcome) → said ≡ outcomeSaid o
-    → ((m : ℕ) × (said ≡ values (m ∷ []))) ⊎ TurnedDown said
-pairs-or-down said (pairs m) e = inl (m, e)
-pairs-or-down said (notMet n t) e = inr (n, t, e)
-
 -- A verdict is that the grid is accepted, or one of its three faults.
 accepted-or-faulty : (said : Said) (v : Verdict) → said ≡ verdictSaid v
     → (said ≡ values []) ⊎ ((number : ℕ) × (at : List ℕ) × FromTo 61 63 number × (said ≡ refusal number at))
@@ -83,7 +76,7 @@ judge-number number at (inl (inr (inr e))) = inr (omega arith, omega arith)
 judge-number number at (inr (e, two)) = inr (omega arith, omega arith)
 
 pub first-demand : FirstDemand
-unfolding templateSays scriptSays
+unfolding templateSays scriptSays cardLinks
 first-demand = record {
   template-exact = templates-are;
   sheet-exact = sheets-are;
@@ -98,13 +91,13 @@ first-demand = record {
   largest-first = λ template script before after said number at e x. rw e at x;
   smallest-first = λ template script bookings desk before after said number at e x. rw e at x;
   both-first = λ template script bookings desk before after said number at e x.
-      let y : BothAnswered (turnedDown number at) (Booked bookings desk) before after said = rw e at x in (
+      let y : Unchanged before after said (bothRefused (refusal number (at ∷ []))) = rw e at x in (
         ap (λ (z : BothSaid). z .largest) (y .0),
         ap (λ (z : BothSaid). z .smallest) (y .0),
         y .1,
       );
   desks-first = λ template script bookings before after said number at e x.
-      let y : DesksAnswered (turnedDown number at) bookings before after said = rw e at x in (
+      let y : Unchanged before after said (desksRefused (refusal number (at ∷ []))) = rw e at x in (
         ap (λ (z : DesksSaid). z .largest) (y .0),
         ap (λ (z : DesksSaid). z .radio) (y .0),
         ap (λ (z : DesksSaid). z .television) (y .0),
@@ -138,19 +131,27 @@ first-demand = record {
       (desks-numbers template script bookings before) bookings before after
       (λ s e. let (f, l, radio, television, large) = desks-taken template script bookings before s .0 e in
       (radio, television)) said x number at;
+  template-accepts = λ template t f. ap (saidOf templateValues) (templates-are template t .1 f);
+  script-accepts = script-said;
+  links-refused = λ template script card number at e. rw e refl;
+  links-past = past-card;
+  links-exact = λ template script s f card h. (
+    own-links template script s f card h,
+    side-by-side template script s f card h,
+  );
   largest-accepts = λ template script before after said s f full x.
       let found : LargestFound s after said = rw (largest-taken template script before s .1 (f, full)) at x in
       (found .rounds, found .struck, found .bare, found .says);
   smallest-accepts = λ template script bookings desk before after said s f b ours full x.
       let found : SmallestFound s (Booked bookings desk) after said =
       rw (smallest-taken template script bookings desk before s .1 (f, b, ours, full)) at x in
-      pairs-or-down said (found .outcome) (found .says);
+      pairs-or-50 said (found .outcome) (found .says);
   judge-accepts = λ template script bookings desk grid said s f b ours full x.
       let found : JudgeFound s bookings desk grid said =
       rw (smallest-taken template script bookings desk grid s .1 (f, b, ours, full)) at x in
       accepted-or-faulty said (found .verdict) (found .says);
   tidy-accepts = λ template script bookings before after said s f b long x.
-      let found : TidyFound bookings before after said =
+      let found : Writes (tidied bookings) before after said =
       rw (tidy-taken template script bookings before s .1 (f, b, long)) at x in
       (length (tidied bookings), found .says);
   tidy-listed = λ template script bookings before after number at.
@@ -185,21 +186,27 @@ second-demand = record {
 
 -- ---- the third demand
 -- The bookings are turned down exactly where the outcome is.
-turned-refused : (said : Said) (o : Outcome) → said ≡ outcomeSaid o → TurnedDown said → Refused o
+turned-refused : (said : Said) (o : Outcome) → said ≡ outcomeSaid o → Says50 said → Refused o
 turned-refused said (pairs m) e (card, shape, f) = no-values (sym f ∙ e)
 turned-refused said (notMet n t) e d = tt
 
-refused-turned : (said : Said) (o : Outcome) → said ≡ outcomeSaid o → Refused o → TurnedDown said
+refused-turned : (said : Said) (o : Outcome) → said ≡ outcomeSaid o → Refused o → Says50 said
 refused-turned said (pairs m) e never = absurd never
 refused-turned said (notMet n t) e d = (n, t, e)
 
 -- Of bookings that are not turned down the pairs of the closure are counted.
 pairs-are : (s : Sheet) (Wanted : ℕ → ℕ → Type 0) (large small : List ℕ) (r m b : ℕ) (said : Said) (o : Outcome)
-    → said ≡ outcomeSaid o → Demand3 s Wanted large r m b small o → (TurnedDown said → ⊥)
+    → said ≡ outcomeSaid o → Demand3 s Wanted large r m b small o → (Says50 said → ⊥)
     → (X : Pairs) → IsClosure s Wanted X → said ≡ values (tally X (size s) ∷ [])
 pairs-are s Wanted large small r m b said (pairs k) e d taken X c =
     e ∙ ap (λ (x : ℕ). values (x ∷ [])) (d .pairs-counted k X refl c)
 pairs-are s Wanted large small r m b said (notMet n t) e d taken X c = absurd (taken (n, t, e))
+
+-- The closure of the bookings that the call found.
+some-closure : (s : Sheet) (Wanted : ℕ → ℕ → Type 0) (small : List ℕ) (o : Outcome) → Leaves s Wanted small o
+    → (X : Pairs) × IsClosure s Wanted X
+some-closure s Wanted small (pairs m) l = (on small, l .closure)
+some-closure s Wanted small (notMet n t) l = (l .set, l .closure)
 
 -- Numbers that are said are told by it.
 same-first : {r m b x y z : ℕ} → values (r ∷ m ∷ b ∷ []) ≡ values (x ∷ y ∷ z ∷ []) → (r ≡ x) × (m ≡ y)
@@ -233,7 +240,7 @@ two-typings s bookings desk large small said x =
     let d = x .demand in
     let o = x .smallest .outcome in
     let e = x .smallest .says in
-    let taken : (TurnedDown (said .smallest) → ⊥) → Refused o → ⊥ =
+    let taken : (Says50 (said .smallest) → ⊥) → Refused o → ⊥ =
     λ never r. never (refused-turned (said .smallest) o e r) in
     record {
       turned-down = (
@@ -245,6 +252,7 @@ two-typings s bookings desk large small said x =
       between = λ never. d .between (taken never);
       pairs = pairs-are s (Booked bookings desk) large small (x .largest .rounds) (x .largest .struck)
           (x .largest .bare) (said .smallest) o e d;
+      some-pairs = some-closure s (Booked bookings desk) small o (x .smallest .leaves);
     }
 
 -- A board stands for each well-formed sheet.
@@ -277,74 +285,3 @@ third-demand = record {
         two-typings s bookings 1 (after .large) (after .television) _ (found .television),
       );
 }
-
--- ---- grids of other makers
-module _ (template script bookings : List ℕ) (desk : ℕ) (s : Sheet) (f : Formed template script s)
-    (b : BookingsFormed (s .cards) (s .shapes) bookings) (ours : desk ≤ 1) where
-  -- the judge and the call for the smallest take each grid of the right size
-  takes : (grid : List ℕ) → length grid ≡ size s → smallestReading template script bookings desk grid ≡ accepted s
-  takes grid full = smallest-taken template script bookings desk grid s .1 (f, b, ours, full)
-
-  exactly : (grid : List ℕ) → length grid ≡ size s → (said : Said) → JudgeSays template script bookings desk grid said
-      → (said ≡ values []) ↔ (SoundTyping s grid × Holds s (Booked bookings desk) (on grid))
-  exactly grid full said x =
-      let exact = judge-exact template script bookings desk grid said x in (
-        λ e.
-            let (q, asked, p) = exact .0 e in
-            let same : q ≡ s = accepted-same (sym asked ∙ takes grid full) in
-            let w = subst (λ (z : Sheet). Passes z (Booked bookings desk) grid) same p in
-            (w .sound, w .holds),
-        λ (w, holds). exact .1 (s, takes grid full, record { sound = w; holds = holds }),
-      )
-
-  -- bookings that are not turned down have a number of pairs
-  pairs-said : (before small : List ℕ) (said : Said) → length before ≡ size s
-      → SmallestSays template script bookings desk before small said → (TurnedDown said → ⊥)
-      → (m : ℕ) × (said ≡ values (m ∷ []))
-  pairs-said before small said full x taken =
-      let found : SmallestFound s (Booked bookings desk) small said = rw (takes before full) at x in
-      ⊎-elim (λ h. h) (λ d. absurd (taken d)) (pairs-or-down said (found .outcome) (found .says))
-
-  judged : JudgedGrids template script bookings desk s
-  judged = record {
-    exact = exactly;
-    takes-ours = λ large-before small-before large small of-large of-small fl fs x y taken said.
-        let (m, e) = pairs-said small-before small of-small fs y taken in
-        let y′ : SmallestSays template script bookings desk small-before small (values (m ∷ [])) = rw e at y in
-        let found : LargestFound s large of-large = rw (largest-taken template script large-before s .1 (f, fl)) at x in
-        let x′ = subst (λ (a : Said). LargestSays template script large-before large a) (found .says) x in (
-          judge-takes-smallest template script bookings desk small-before small m y′ said,
-          judge-takes-largest template script bookings desk small-before small m y′ large-before large (found .rounds)
-              (found .struck) (found .bare) x′ said,
-        );
-    between = λ large-before small-before large small of-large of-small fl fs x y grid z.
-        let (q, asked, p) = judge-exact template script bookings desk grid (values []) z .0 refl in
-        let (g, c, own, full) = smallest-taken template script bookings desk grid q .0 asked in
-        let same : q ≡ s = accepted-same (sym (formed-sheet template script q g) ∙ formed-sheet template script s f) in
-        let sized : length grid ≡ size s = full ∙ ap size same in
-        judge-between template script bookings desk grid z small-before large-before small large of-small of-large
-        (fs ∙ sym sized) (fl ∙ sym sized) y x s (formed-sheet template script s f);
-    some = λ before small said full x.
-        let some = judge-some template script bookings desk before small said s (takes before full) x in (
-          λ g (n, t, e). some .0 g n t e,
-          λ taken. some .1 (λ n t e. taken (n, t, e)),
-        );
-  }
-
-pub judge-demand : JudgeDemand
-judge-demand = judged
-
--- ---- two desks
-pub apart-demand : ApartDemand
-apart-demand template script s f desk ours one other formed same-formed =
-    let one-taken = listed-taken template script one s .1 (f, formed) in
-    let other-taken = listed-taken template script other s .1 (f, same-formed) in (
-      λ words. record {
-        smallest = desks-apart template script desk ours one other s one-taken other-taken words;
-        both = desks-apart-both template script desk ours one other s one-taken other-taken words;
-      },
-      λ same. record {
-        smallest = desks-apart-set template script desk ours one other s one-taken other-taken same;
-        both = desks-apart-both-set template script desk ours one other s one-taken other-taken same;
-      },
-    )

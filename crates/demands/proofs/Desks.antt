@@ -95,7 +95,7 @@ desk-taken-for before after found x =
     values-refusal (smallest-one-answer template script metBookings 2 before after before _ _ x (third-desk before) .0)
 
 -- ---- both desks in one call
-pub only-desks : (before after : DeskGrids) (said : DesksSaid) → length (before .radio) ≡ 6
+only-desks : (before after : DeskGrids) (said : DesksSaid) → length (before .radio) ≡ 6
     → length (before .television) ≡ 6 → length (before .large) ≡ 6
     → DesksSays template script metBookings before after said
     → (said ≡ record { largest = largestAnswer; radio = smallestAnswer; television = noneAnswer })

@@ -1,6 +1,6 @@
 -- What is well-formed is just what is read (docs/FORMAT.md, "Templates", "Scripts", "Bookings").
 --   sheets-are     a template and a script; stored-are, bookings-are: a stored list, and one of both desks
---   formed-template, formed-sheet, formed-read   what reading such words finds
+--   formed-template, formed-with, formed-sheet, formed-read   what reading such words finds
 --   largest-taken, listed-taken, smallest-taken, both-taken, desks-taken   what the calls take: these, one of the two
 --                  desks, and grids with a byte for each pair
 --   tidy-taken     what the tidying pass takes: these, and a buffer with a word and three for each booking
@@ -15,22 +15,22 @@ use Rattle.words.proofs.Bools.{never-both, is-false}
 use Rattle.words.proofs.Readings.{then-accepted}
 use Rattle.template.specs.Template.{Template, readTemplate}
 use Rattle.template.proofs.RoundTrip.{templates-are}
-use Rattle.script.specs.Script.{ScriptCounts, countsOf, readScript}
+use Rattle.script.specs.Script.{ScriptCounts, countsOf, readScript, readWith}
 use Rattle.script.proofs.RoundTrip.{scripts-are}
 use Rattle.sheet.specs.Sheet.{Sheet, size, sheetOf, readSheet}
 use Rattle.sheet.specs.Opened.{templateAs}
 use Rattle.sheet.proofs.Accepted.{SheetAccepted, mapped-accepted, sheet-asked, sheet-made}
 use Rattle.bookings.specs.Bookings.{Booking, bookingAt, readBookings}
-use Rattle.bookings.specs.Stored.{readStored}
+use Rattle.stored.specs.Stored.{readStored}
 use Rattle.bookings.proofs.Repeats.{booking-same, repeated-exact}
 use Rattle.bookings.proofs.Accepted.{listed-exact}
-use Rattle.bookings.proofs.StoredLists.{stored-exact}
+use Rattle.stored.proofs.StoredLists.{stored-exact}
 use Rattle.typing.specs.Calls.{withList, withStored, withGrid, listedReading, bookedReading, largestReading}
 use Rattle.typing.specs.Calls.{smallestReading, Grids, bothReading}
 use Rattle.typing.specs.Desks.{DeskGrids, desksReading}
 use Rattle.typing.specs.Tidy.{tidyReading}
 use Rattle.typing.proofs.Booked.{grid-asked, grid-taken, desk-asked, desk-taken, buffer-asked, buffer-taken}
-use Rattle.demands.specs.Demands.{Formed, StoredFormed, BookingsFormed}
+use Rattle.demands.specs.Formed.{Formed, StoredFormed, BookingsFormed}
 
 module _ (words list : List ℕ) (s : Sheet) where
   sheet-formed : readSheet words list ≡ accepted s → Formed words list s
@@ -65,6 +65,9 @@ module _ (words list : List ℕ) (s : Sheet) where
 
     formed-script : readScript (f .kinds) list ≡ accepted counts
     formed-script = scripts-are (f .kinds) list counts .1 (f .links, f .script-formed, f .count, f .script-written)
+
+    pub formed-with : readWith words list ≡ accepted counts
+    formed-with = rw (formed-template, formed-script) refl
 
     -- the sheet is the one that is read
     same-sheet : sheetOf words shaped counts list ≡ s

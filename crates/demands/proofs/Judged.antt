@@ -1,30 +1,31 @@
 -- The samples of docs/FORMAT.md, "Judge a grid": what they say is allowed, and by `judge-one-answer` nothing else is.
 --   judge-worked     a right verdict on a grid of six bytes may be said
 --   last-shape-sound, no-shapes-sound   the two sound typings of the samples
---   accepted-sample, unmet-sample, unheld-sample, other-sample   four of them, for the refutations of wrong answers
+--   accepted-sample, none-sample, unmet-sample, unheld-sample   four of them, for the refutations of wrong answers
+--   first-sample     the first pair of all is not met
 --   _&_, samples-judged   a row of a table and the others; all samples
 -- Assumes nothing.
 use Prim.Native.Nat.{ℕ, zero, suc, _≤_, _<_}
-use mathlib.Core.Path.{_≡_, refl, sym, subst, subst₂}
+use mathlib.Core.Path.{_≡_, refl, sym, subst₂}
 use mathlib.Core.Logic.{_⊎_, inl, inr}
 use mathlib.Core.Bool.{false}
 use mathlib.Core.List.{List, [], _∷_}
 use native.Mathlib.Omega.{arith}
 use lib.ListN.{length, getD}
 use Rattle.words.specs.Said.{values, refusal}
-use Rattle.words.specs.Reading.{Reading, accepted}
+use Rattle.words.specs.Reading.{accepted}
 use Rattle.words.proofs.Bools.{never-both, false-true}
 use Rattle.script.specs.Link.{fromAt, kindAt, toAt}
-use Rattle.sheet.specs.Sheet.{Sheet, place}
+use Rattle.sheet.specs.Sheet.{place}
 use Rattle.bookings.specs.Bookings.{deskAt, cardAt, shapeAt, readEach, readList, repeated, bookedBefore}
 use Rattle.board.specs.Grid.{on, bit, tally}
 use Rattle.board.specs.Machine.{all}
 use Rattle.typing.specs.Needs.{endTest, linkTest, metTest}
 use Rattle.typing.specs.Typing.{Has, Met, Holds, Typing, SoundTyping}
 use Rattle.typing.specs.Calls.{listedReading, smallestReading}
-use Rattle.typing.specs.Judge.{Verdict, over, unmet, unheld, passes, verdictSaid, Judged, JudgeAnswered, JudgeSays}
+use Rattle.typing.specs.Judge.{Verdict, over, unmet, unheld, passes, verdictSaid, Judged, JudgeSays}
 use Rattle.demands.specs.Worked.{template, script, metBookings, unmetBookings, lastShape, noShapes}
-use Rattle.demands.specs.Judged.{overGrid, unmetGrid, eachBooks, AllAllowed, judgements}
+use Rattle.demands.specs.Judged.{overGrid, unmetGrid, firstGrid, eachBooks, AllAllowed, judgements}
 use Rattle.demands.proofs.Worked.{worked, worked-read, below-six, each-pair, board, stands}
 use Rattle.demands.proofs.Worked.{Just, one-just, one-other, two-radio, largest-found, met-listed}
 use Rattle.demands.proofs.Worked.{unmet-listed, listed-asked}
@@ -34,8 +35,7 @@ judge-worked : (bookings : List ℕ) (desk : ℕ) (grid : List ℕ) (v : Verdict
     → smallestReading template script bookings desk grid ≡ accepted worked
     → Judged worked bookings desk grid v → JudgeSays template script bookings desk grid (verdictSaid v)
 judge-worked bookings desk grid v asked right =
-    subst (λ (r : Reading Sheet). JudgeAnswered r bookings desk grid (verdictSaid v)) (sym asked)
-    (record { verdict = v; says = refl; right = right })
+    rw asked (record { verdict = v; says = refl; right = right })
 
 -- ---- grids
 last-shape-sound : SoundTyping worked lastShape
@@ -82,7 +82,7 @@ accepted-sample = judge-worked metBookings 0 lastShape passes (met-asked lastSha
   holds = held-just lastShape (one-just 0 2 1) refl;
 })
 
-none-sample : JudgeSays template script metBookings 1 noShapes (values [])
+pub none-sample : JudgeSays template script metBookings 1 noShapes (values [])
 none-sample = judge-worked metBookings 1 noShapes passes
     (listed-asked metBookings 1 met-listed (omega arith) noShapes refl) (record {
       sound = no-shapes-sound;
@@ -128,6 +128,29 @@ unmet-sample = judge-worked metBookings 0 unmetGrid (unmet 1 0) (met-asked unmet
       (λ l. absurd (omega arith)) (λ l. absurd (omega arith));
 })
 
+-- (0, 0) asks for shape 0 at card 1, which has no shape.
+first-computed : board .met (on firstGrid) 0 ≡ false
+unfolding metTest linkTest endTest on all tally bit fromAt kindAt toAt
+first-computed = refl
+
+first-typing : Typing worked firstGrid
+first-typing = record {
+  full = refl;
+  bytes = below-six (λ p. (getD firstGrid p 0 ≡ 0) ⊎ (getD firstGrid p 0 ≡ 1))
+      (inr refl) (inl refl) (inl refl) (inl refl) (inl refl) (inr refl);
+}
+
+pub first-sample : JudgeSays template script metBookings 0 firstGrid (refusal 62 (0 ∷ 0 ∷ []))
+unfolding on
+first-sample = judge-worked metBookings 0 firstGrid (unmet 0 0) (met-asked firstGrid refl) (record {
+  typing = first-typing;
+  card-in = omega arith;
+  shape-in = omega arith;
+  has = refl;
+  not-met = λ m. never-both (stands .met-exact (on firstGrid) 0 0 (omega arith) (omega arith) .1 m) first-computed;
+  lowest = λ m u lm lu l. absurd (omega arith);
+})
+
 pub unheld-sample : JudgeSays template script unmetBookings 0 lastShape (refusal 63 (2 ∷ []))
 unfolding on deskAt cardAt shapeAt
 unheld-sample = judge-worked unmetBookings 0 lastShape (unheld 0)
@@ -140,7 +163,7 @@ unheld-sample = judge-worked unmetBookings 0 lastShape (unheld 0)
     })
 
 -- Television's booking is the second of the list, and the first is radio's.
-pub other-sample : JudgeSays template script eachBooks 1 lastShape (refusal 63 (5 ∷ []))
+other-sample : JudgeSays template script eachBooks 1 lastShape (refusal 63 (5 ∷ []))
 unfolding on deskAt cardAt shapeAt
 other-sample = judge-worked eachBooks 1 lastShape (unheld 1)
     (listed-asked eachBooks 1 each-listed (omega arith) lastShape refl) (record {

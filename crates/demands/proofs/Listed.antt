@@ -3,6 +3,7 @@
 --   no-values                                    a refusal is no value
 --   said-listed, fit-refused, largest-refused, smallest-refused, both-refused, desks-refused, tidy-refused   from the
 --                                                numbers of the readings
+--   pairs-or-50                                  an outcome is a number of pairs, or 50
 --   script-numbered                              the numbers that a script with its template is refused with
 -- Assumes nothing.
 use Prim.Native.Nat.{ℕ}
@@ -10,23 +11,26 @@ use mathlib.Core.Path.{_≡_, refl, sym, ap, _∙_, subst}
 use mathlib.Core.Logic.{_⊎_, inl, inr}
 use mathlib.Core.List.{List, [], _∷_}
 use lib.ListN.{length, replicate}
-use Rattle.words.specs.Said.{values, refusal}
+use Rattle.words.specs.Said.{Said, values, refusal}
 use Rattle.words.specs.Reading.{Reading, accepted, turnedDown, saidOf}
 use Rattle.words.proofs.Said.{values-refusal, refusal-number}
 use Rattle.words.proofs.Readings.{Numbered, then-numbered, numbered-map}
+use Rattle.words.specs.Answered.{Answered, Unchanged}
+use Rattle.words.specs.Writes.{Writes}
+use Rattle.words.proofs.Answered.{answered-refused}
 use Rattle.template.specs.Template.{readTemplate}
 use Rattle.template.proofs.Numbers.{TemplateNumber, template-numbers}
 use Rattle.script.specs.Script.{readScript, readWith}
 use Rattle.script.proofs.Reading.{ScriptNumber, script-numbers}
 use Rattle.sheet.specs.Sheet.{Sheet, size}
 use Rattle.bookings.specs.Bookings.{Booked}
-use Rattle.counts.specs.Fit.{Question, Answers}
+use Rattle.stored.specs.Tidied.{tidied}
+use Rattle.counts.specs.Fit.{Question, FitFound}
 use Rattle.typing.specs.Demand3.{Outcome, pairs, notMet}
-use Rattle.typing.specs.Answer.{BothSaid, DesksSaid}
-use Rattle.typing.specs.Calls.{Grids, Leaves, outcomeSaid, LargestAnswered, SmallestAnswered, BothAnswered}
-use Rattle.typing.specs.Desks.{DeskGrids, DesksAnswered}
-use Rattle.typing.specs.Tidy.{TidyAnswered}
-use Rattle.demands.specs.Demands.{ScriptListed}
+use Rattle.typing.specs.Answer.{BothSaid, bothRefused, DesksSaid, desksRefused}
+use Rattle.typing.specs.Calls.{Grids, Leaves, outcomeSaid, LargestFound, SmallestFound, BothFound}
+use Rattle.typing.specs.Desks.{DeskGrids, DesksFound}
+use Rattle.demands.specs.Listed.{ScriptListed, Says50}
 
 pub no-values : {B : Type 0} {xs at : List ℕ} {number : ℕ} → refusal number at ≡ values xs → B
 no-values e = values-refusal (sym e)
@@ -39,25 +43,29 @@ module _ (Number : ℕ → Type 0) where
   said-listed found (turnedDown n p) number at h e = subst Number (refusal-number e) h
 
   pub largest-refused : (r : Reading Sheet) → Numbered Number r → (before after : List ℕ) (number : ℕ) (at : List ℕ)
-      → LargestAnswered r before after (refusal number at) → Number number × (after ≡ before)
-  largest-refused (accepted s) h before after number at x = no-values (x .says)
-  largest-refused (turnedDown n p) h before after number at x =
-      (subst Number (sym (refusal-number (x .0))) h, x .1)
+      → Answered r (Unchanged before after (refusal number at)) (λ s. LargestFound s after (refusal number at))
+      → Number number × (after ≡ before)
+  largest-refused r h before after number at x =
+      answered-refused Number r before after number at h (λ n e. (n, e))
+      (λ s e (f : LargestFound s after (refusal number at)). no-values (f .says)) x
 
   pub tidy-refused : (r : Reading Sheet) → Numbered Number r → (bookings before after : List ℕ) (number : ℕ)
-      (at : List ℕ) → TidyAnswered r bookings before after (refusal number at) → Number number × (after ≡ before)
-  tidy-refused (accepted s) h bookings before after number at x = no-values (x .says)
-  tidy-refused (turnedDown n p) h bookings before after number at x =
-      (subst Number (sym (refusal-number (x .0))) h, x .1)
+      (at : List ℕ)
+      → Answered r (Unchanged before after (refusal number at))
+      (λ s. Writes (tidied bookings) before after (refusal number at))
+      → Number number × (after ≡ before)
+  tidy-refused r h bookings before after number at x =
+      answered-refused Number r before after number at h (λ n e. (n, e))
+      (λ s e (f : Writes (tidied bookings) before after (refusal number at)). no-values (f .says)) x
 
   pub fit-refused : (r : Reading Question) → Numbered Number r → (number : ℕ) (at : List ℕ)
-      → Answers r (refusal number at) → Number number
+      → Answered r (λ refused. refusal number at ≡ refused) (λ q. FitFound q (refusal number at)) → Number number
   fit-refused (accepted q) h number at (inl x) = no-values (x .1)
   fit-refused (accepted q) h number at (inr x) = no-values (x .1)
   fit-refused (turnedDown n p) h number at x = subst Number (sym (refusal-number x)) h
 
   -- a refusal of the smallest: a listed one, or 50, which leaves zeros
-  abbrev pub SmallestRefused : ℕ → (List ℕ) → List ℕ → Type 0
+  abbrev SmallestRefused : ℕ → (List ℕ) → List ℕ → Type 0
   SmallestRefused number before after =
       (Number number × (after ≡ before)) ⊎ ((number ≡ 50) × (after ≡ replicate (length before) 0))
 
@@ -70,15 +78,17 @@ module _ (Number : ℕ → Type 0) where
 
   pub smallest-refused : (r : Reading Sheet) → Numbered Number r → (Wanted : ℕ → ℕ → Type 0) (before after : List ℕ)
       → ((s : Sheet) → r ≡ accepted s → length before ≡ size s) → (number : ℕ) (at : List ℕ)
-      → SmallestAnswered r Wanted before after (refusal number at) → SmallestRefused number before after
-  smallest-refused (accepted s) h Wanted before after full number at x =
-      inr (found-refused s Wanted before after number at (full s refl) (x .outcome) (x .says) (x .leaves))
-  smallest-refused (turnedDown n p) h Wanted before after full number at x =
-      inl (subst Number (sym (refusal-number (x .0))) h, x .1)
+      → Answered r (Unchanged before after (refusal number at)) (λ s. SmallestFound s Wanted after (refusal number at))
+      → SmallestRefused number before after
+  smallest-refused r h Wanted before after full number at x =
+      answered-refused Number r before after number at h (λ n e. inl (n, e))
+      (λ s e (f : SmallestFound s Wanted after (refusal number at)).
+      inr (found-refused s Wanted before after number at (full s e) (f .outcome) (f .says) (f .leaves))) x
 
   pub both-refused : (r : Reading Sheet) → Numbered Number r → (Wanted : ℕ → ℕ → Type 0) (before after : Grids)
       → ((s : Sheet) → r ≡ accepted s → length (before .small) ≡ size s) → (said : BothSaid)
-      → BothAnswered r Wanted before after said → (number : ℕ) (at : List ℕ)
+      → Answered r (λ refused. Unchanged before after said (bothRefused refused))
+      (λ s. BothFound s Wanted (after .small) (after .large) said) → (number : ℕ) (at : List ℕ)
       → ((said .largest ≡ refusal number at) → Number number × (after ≡ before))
       × ((said .smallest ≡ refusal number at) → (Number number × (after ≡ before))
       ⊎ ((number ≡ 50) × (after .small ≡ replicate (length (before .small)) 0)))
@@ -97,7 +107,8 @@ module _ (Number : ℕ → Type 0) where
   pub desks-refused : (r : Reading Sheet) → Numbered Number r → (bookings : List ℕ) (before after : DeskGrids)
       → ((s : Sheet) → r ≡ accepted s
       → (length (before .radio) ≡ size s) × (length (before .television) ≡ size s)) → (said : DesksSaid)
-      → DesksAnswered r bookings before after said → (number : ℕ) (at : List ℕ)
+      → Answered r (λ refused. Unchanged before after said (desksRefused refused))
+      (λ s. DesksFound s bookings after said) → (number : ℕ) (at : List ℕ)
       → ((said .largest ≡ refusal number at) → Number number × (after ≡ before))
       × ((said .radio ≡ refusal number at) → (Number number × (after ≡ before))
       ⊎ ((number ≡ 50) × (after .radio ≡ replicate (length (before .radio)) 0)))
@@ -120,6 +131,12 @@ module _ (Number : ℕ → Type 0) where
         λ e. inl (subst Number (refusal-number (sym radio ∙ e)) h, x .1),
         λ e. inl (subst Number (refusal-number (sym television ∙ e)) h, x .1),
       )
+
+-- An outcome is a number of pairs, or 50.
+pub pairs-or-50 : (said : Said) (o : Outcome) → said ≡ outcomeSaid o
+    → ((m : ℕ) × (said ≡ values (m ∷ []))) ⊎ Says50 said
+pairs-or-50 said (pairs m) e = inl (m, e)
+pairs-or-50 said (notMet n t) e = inr (n, t, e)
 
 -- A script is refused with a template's number or one of its own.
 pub script-numbered : (words list : List ℕ) → Numbered ScriptListed (readWith words list)

@@ -17,7 +17,7 @@ use Rattle.words.proofs.Bools.{never-both}
 use Rattle.bags.specs.Part.{Part, at-most}
 use Rattle.bags.specs.Look.{listed}
 use Rattle.bags.proofs.Decide.{list-decided}
-use Rattle.template.specs.Reading.{readLink, readPart}
+use Rattle.parts.specs.Reading.{readLink, readPart}
 use Rattle.template.specs.Template.{openAt, partAt, readShape, readShapes, shapePlace, readTemplate, templateSays}
 use Rattle.counts.specs.Fit.{firstOver, fitQuestion, FitSays}
 use Rattle.counts.proofs.Fitting.{fit-one-answer}

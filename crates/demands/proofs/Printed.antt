@@ -2,50 +2,49 @@
 --   worked-prints, unmet-prints, both-unmet-prints   the right text is what the contract asks for
 --   worked-only, unmet-only                and no other text is
 --   parts-swapped, part-left-out           one desk's part for the other's; after a 50 of radio's none of television's
+--   numbers-swapped                        pairs struck and cards with no shape exchanged in the first line
+--   largest-under-smallest                 the largest typing's cards under television's number of pairs
+--   refused-anyhow                         a refusal of these files
 -- Assumes nothing.
 use Prim.Native.Nat.{ℕ}
 use mathlib.Core.Path.{_≡_, refl, sym, ap, ap₂, _∙_, subst}
-use mathlib.Core.List.{List, _++_}
+use mathlib.Core.List.{List, [], _∷_, _++_}
 use native.Mathlib.Omega.{arith}
 use lib.ListN.{length, getD}
 use Rattle.words.specs.Reading.{accepted}
-use Rattle.input.specs.Input.{inputOf, readInput, wordAt, wordsFrom, sectionEnd, sectionWords, scriptStart}
-use Rattle.input.specs.Input.{bookingsStart, inputEnd}
+use Rattle.input.specs.Input.{inputOf, readFront, readInput, wordAt, wordsFrom, sectionEnd, sectionWords}
+use Rattle.input.specs.Input.{scriptStart, bookingsStart, inputEnd}
 use Rattle.typing.specs.Calls.{outcomeSaid}
 use Rattle.typing.specs.Demand3.{Outcome, pairs, notMet}
 use Rattle.typing.specs.Desks.{DesksFound}
-use Rattle.text.specs.Text.{digitsBy, digits, twoNumbers, largestLine, smallestLine, notMetLine, shapesText, cardLine}
+use Rattle.text.specs.Text.{digitsBy, digits, twoNumbers, largestLine, smallestLine, notMetLine, refusedLine}
+use Rattle.text.specs.Text.{shapesText, cardLine}
 use Rattle.text.specs.Text.{cardLines}
 use Rattle.board.specs.Grid.{on}
-use Rattle.printer.specs.Printed.{largestText, smallestText, SheetPrinted, Prints}
+use Rattle.sheet_text.specs.Printed.{largestText, smallestText, SheetPrinted}
+use Rattle.sheet_text.proofs.Unique.{outcome-said-unique}
+use Rattle.printer.specs.Printed.{Prints}
 use Rattle.printer.proofs.Unique.{prints-unique}
 use Rattle.demands.specs.Worked.{template, script, metBookings, unmetBookings, bothUnmet, lastShape, noShapes}
 use Rattle.demands.specs.Worked.{largestAnswer}
 use Rattle.demands.specs.Printed.{workedInput, unmetInput, bothUnmetInput, workedText, unmetText, bothUnmetText}
-use Rattle.demands.specs.Printed.{largestPart, pairPart, nonePart, noPart}
+use Rattle.demands.specs.Printed.{threeCards, largestPart, pairPart, nonePart, noPart}
 use Rattle.demands.proofs.Worked.{worked, smallest-found, not-met-found, none-found, together, all-inside}
 use Rattle.demands.proofs.Worked.{one-just, one-other, two-radio, two-television, met-listed, unmet-listed}
 use Rattle.demands.proofs.Worked.{both-unmet-listed}
 
 -- The three files are read from the bytes.
 worked-input : readInput workedInput ≡ accepted (inputOf template script metBookings)
-unfolding readInput sectionWords sectionEnd scriptStart bookingsStart inputEnd wordsFrom wordAt
+unfolding readFront readInput sectionWords sectionEnd scriptStart bookingsStart inputEnd wordsFrom wordAt
 worked-input = refl
 
 both-unmet-input : readInput bothUnmetInput ≡ accepted (inputOf template script bothUnmet)
-unfolding readInput sectionWords sectionEnd scriptStart bookingsStart inputEnd wordsFrom wordAt
+unfolding readFront readInput sectionWords sectionEnd scriptStart bookingsStart inputEnd wordsFrom wordAt
 both-unmet-input = refl
 
 unmet-input : readInput unmetInput ≡ accepted (inputOf template script unmetBookings)
-unfolding readInput sectionWords sectionEnd scriptStart bookingsStart inputEnd wordsFrom wordAt
+unfolding readFront readInput sectionWords sectionEnd scriptStart bookingsStart inputEnd wordsFrom wordAt
 unmet-input = refl
-
--- What is said of an outcome tells the outcome.
-outcome-of : (o q : Outcome) → outcomeSaid o ≡ outcomeSaid q → o ≡ q
-outcome-of (pairs m) (pairs k) e = cc
-outcome-of (pairs m) (notMet n t) e = cc
-outcome-of (notMet n t) (pairs m) e = cc
-outcome-of (notMet n t) (notMet m u) e = cc
 
 -- All typings of the sheet, printed with their numbers.
 printed : (bookings radio television : List ℕ) (o q : Outcome)
@@ -59,8 +58,8 @@ printed bookings radio television o q found =
     let rounds : large .rounds ≡ 4 = cc in
     let struck : large .struck ≡ 5 = cc in
     let bare : large .bare ≡ 2 = cc in
-    let one = outcome-of o (found .radio .smallest .outcome) (found .radio .smallest .says) in
-    let other = outcome-of q (found .television .smallest .outcome) (found .television .smallest .says) in
+    let one = outcome-said-unique o (found .radio .smallest .outcome) (found .radio .smallest .says) in
+    let other = outcome-said-unique q (found .television .smallest .outcome) (found .television .smallest .says) in
     record {
       grids = record { radio = radio; television = television; large = lastShape };
       said = record { largest = largestAnswer; radio = outcomeSaid o; television = outcomeSaid q };
@@ -136,3 +135,22 @@ parts-swapped h =
 pub part-left-out : Prints unmetInput (largestPart ++ noPart) → ⊥
 part-left-out h =
     let z : _≡_ {A = ℕ} (length (largestPart ++ noPart)) (length unmetText) = ap length (unmet-only _ h) in omega arith
+
+-- "largest 4 2 5", whatever comes after it.
+pub numbers-swapped : (rest : List ℕ) → Prints workedInput
+    ((108 ∷ 97 ∷ 114 ∷ 103 ∷ 101 ∷ 115 ∷ 116 ∷ 32 ∷ 52 ∷ 32 ∷ 50 ∷ 32 ∷ 53 ∷ 10 ∷ []) ++ rest) → ⊥
+numbers-swapped rest h =
+    let z : _≡_ {A = ℕ} 50 53 = ap (λ (l : List ℕ). getD l 10 0) (worked-only _ h) in omega arith
+
+-- "smallest 0" and then the cards of the largest typing, of which one has a shape.
+pub largest-under-smallest : Prints workedInput
+    (largestPart ++ (pairPart ++ ((115 ∷ 109 ∷ 97 ∷ 108 ∷ 108 ∷ 101 ∷ 115 ∷ 116 ∷ 32 ∷ 48 ∷ 10 ∷ []) ++ threeCards)))
+    → ⊥
+largest-under-smallest h =
+    let z : _≡_ {A = ℕ} 32 10 = ap (λ (l : List ℕ). getD l 111 0) (worked-only _ h) in omega arith
+
+-- Any refusal, as of a template that is read from another word on.
+pub refused-anyhow : (number place : ℕ) → Prints workedInput (refusedLine number place) → ⊥
+unfolding refusedLine
+refused-anyhow number place h =
+    let z : _≡_ {A = ℕ} 114 108 = ap (λ (l : List ℕ). getD l 0 0) (worked-only _ h) in omega arith

@@ -7,15 +7,15 @@ use mathlib.Core.Path.{_≡_, refl}
 use mathlib.Core.List.{[], _∷_}
 use native.Mathlib.Omega.{arith}
 use Rattle.words.specs.Said.{refusal}
-use Rattle.template.specs.Reading.{readLink, readRun, readPart}
+use Rattle.parts.specs.Reading.{readLink, readRun, readPart}
 use Rattle.template.specs.Template.{openAt, partAt, readShape, readShapes, readTemplate, templateSays}
 use Rattle.script.specs.Link.{fromAt, kindAt, toAt, above, greater}
 use Rattle.script.specs.Script.{readLinks, readScript, scriptSays}
 use Rattle.counts.specs.Fit.{firstOver, fitQuestion}
 use Rattle.sheet.specs.Sheet.{readSheet}
 use Rattle.bookings.specs.Bookings.{deskAt, cardAt, shapeAt, readEach, readList, repeated, bookedBefore}
-use Rattle.bookings.specs.Stored.{storedCardAt, storedShapeAt}
-use Rattle.input.specs.Input.{wordAt, sectionEnd, scriptStart, bookingsStart, inputEnd, readInput}
+use Rattle.stored.specs.Stored.{storedCardAt, storedShapeAt}
+use Rattle.input.specs.Input.{wordAt, sectionEnd, scriptStart, bookingsStart, inputEnd, readFront, readInput}
 use Rattle.demands.specs.Worked.{lastShape}
 use Rattle.typing.specs.Judge.{over, JudgeSays}
 use Rattle.demands.specs.Refusals.{plain, alone, AllGet, refusals, others, listed, numbersOf}
@@ -38,7 +38,8 @@ over-alone = record {
 pub every-number-happens : AllGet refusals
 unfolding readTemplate openAt partAt readShape readShapes readPart readRun readLink templateSays readScript readLinks
     fromAt kindAt toAt above greater scriptSays firstOver fitQuestion readSheet deskAt cardAt shapeAt readEach readList
-    repeated bookedBefore storedCardAt storedShapeAt wordAt sectionEnd scriptStart bookingsStart inputEnd readInput
+    repeated bookedBefore storedCardAt storedShapeAt wordAt sectionEnd scriptStart bookingsStart inputEnd readFront
+    readInput
 every-number-happens =
     refl & refl & refl & refl & refl & refl & refl & refl & refl & refl & refl & refl & refl & refl & refl &
     refl & refl & refl & (refl, refl) & (refl, refl) & (refl, refl) & (refl, refl) & (refl, refl) & refl & refl
@@ -48,8 +49,10 @@ every-number-happens =
 pub other-faults-happen : AllGet others
 unfolding readTemplate openAt partAt readShape readShapes readPart readRun readLink templateSays readScript readLinks
     fromAt kindAt toAt above greater scriptSays firstOver fitQuestion readSheet deskAt cardAt shapeAt readEach readList
-    repeated bookedBefore storedCardAt storedShapeAt wordAt sectionEnd scriptStart bookingsStart inputEnd readInput
+    repeated bookedBefore storedCardAt storedShapeAt wordAt sectionEnd scriptStart bookingsStart inputEnd readFront
+    readInput
 other-faults-happen =
     refl & refl & refl & refl & refl & refl & refl & refl & refl & refl & refl & refl & refl & refl & refl & refl &
-    refl & refl & refl & refl & refl & refl & (refl, refl) & (refl, refl) & refl & (refl, refl) & refl & refl & refl
-    & refl & refl & refl & refl & (refl, refl) & refl & tt
+    refl & refl & refl & refl & refl & refl & refl & refl & refl & refl & refl & refl & refl & refl & refl & refl &
+    refl & (refl, refl) & (refl, refl) & refl & (refl, refl) & refl & refl & refl & refl & refl & refl & refl & refl
+    & (refl, refl) & refl & tt

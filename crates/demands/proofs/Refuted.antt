@@ -10,8 +10,12 @@
 --   unmet-accepted           a number of pairs for bookings that cannot
 --   five-refused, refusal-changes          a refusal that changes a byte of the grid
 --   list-first, size-first   the list of bookings is looked at before the grid: 30 is allowed, 40 is not
+--   longer-large             both typings are written though the grid for the largest is too long
+--   all-zeros                a largest typing without any pair
 --   unsound-accepted, unheld-accepted   a grid is accepted that is not sound, or has not a booking
+--   first-passed             a grid is accepted whose first pair alone is not met
 --   sound-refused            a grid is refused that is sound and has the bookings
+--   other-booking-asked      a grid is refused that has not what the other desk books
 --   higher-pair              62 that names a pair above the lowest that is not met
 --   shape-named              63 at the booking's shape instead of its card
 --   wrong-fit                "no" to counts that fit
@@ -29,7 +33,7 @@ use Rattle.words.specs.Said.{Said, values, refusal}
 use Rattle.words.proofs.Said.{values-refusal}
 use Rattle.board.specs.Grid.{on}
 use Rattle.board.proofs.Tally.{tally-none}
-use Rattle.template.specs.Reading.{readLink, readRun, readPart}
+use Rattle.parts.specs.Reading.{readLink, readRun, readPart}
 use Rattle.template.specs.Template.{openAt, partAt, readShape, readShapes, readTemplate, templateSays}
 use Rattle.bookings.specs.Bookings.{readList}
 use Rattle.script.specs.Link.{linked}
@@ -41,26 +45,27 @@ use Rattle.counts.specs.Fit.{FitSays}
 use Rattle.counts.proofs.Fitting.{fit-one-answer}
 use Rattle.typing.specs.Typing.{Pairs}
 use Rattle.typing.specs.Largest.{bare, bareCards}
-use Rattle.typing.specs.Calls.{largestReading, LargestSays, SmallestSays}
+use Rattle.typing.specs.Answer.{BothSaid}
+use Rattle.typing.specs.Calls.{largestReading, LargestSays, SmallestSays, Grids, BothSays}
 use Rattle.typing.proofs.Booked.{grid-asked}
 use Rattle.typing.specs.Judge.{JudgeSays}
 use Rattle.typing.proofs.Existence.{largest-one-answer, smallest-one-answer}
 use Rattle.typing.proofs.Judging.{judge-one-answer}
-use Rattle.typing.proofs.Values.{largest-values}
+use Rattle.words.proofs.Answered.{answered-values}
 use Rattle.demands.specs.Worked.{template, script, metBookings, unmetBookings, lastShape, noShapes}
 use Rattle.demands.specs.Worked.{largestAnswer, smallestAnswer, notMetAnswer}
 use Rattle.demands.proofs.Worked.{worked-read, worked-links, worked-fit, worked-largest, worked-smallest}
-use Rattle.demands.specs.Judged.{unmetGrid}
-use Rattle.demands.proofs.Worked.{worked-not-met}
-use Rattle.demands.proofs.Judged.{accepted-sample, unmet-sample, unheld-sample}
+use Rattle.demands.specs.Judged.{unmetGrid, firstGrid}
+use Rattle.demands.proofs.Worked.{worked-not-met, met-listed}
+use Rattle.demands.proofs.Judged.{accepted-sample, none-sample, unmet-sample, first-sample, unheld-sample}
 
 -- ---- the right answers are the only ones
 module _ (before : List ℕ) (six : length before ≡ 6) (after : List ℕ) (said : Said) where
-  pub only-largest : LargestSays template script before after said → (said ≡ largestAnswer) × (after ≡ lastShape)
+  only-largest : LargestSays template script before after said → (said ≡ largestAnswer) × (after ≡ lastShape)
   only-largest x =
       largest-one-answer template script before after lastShape said largestAnswer x (worked-largest before six)
 
-  pub only-met : SmallestSays template script metBookings 0 before after said
+  only-met : SmallestSays template script metBookings 0 before after said
       → (said ≡ smallestAnswer) × (after ≡ lastShape)
   only-met x = smallest-one-answer template script metBookings 0 before after lastShape said smallestAnswer x
       (worked-smallest before six)
@@ -83,6 +88,13 @@ pub sevens-untouched : (said : Said) → LargestSays template script sevens seve
 sevens-untouched said = grid-untouched sevens said refl (λ e.
     let z : _≡_ {A = ℕ} 7 0 = ap (λ (g : List ℕ). getD g 0 0) e in omega arith)
 
+-- No pair in the largest typing, whatever else is said.
+pub all-zeros : (before : List ℕ) (said : Said) → length before ≡ 6
+    → LargestSays template script before noShapes said → ⊥
+all-zeros before said six x =
+    let e = only-largest before six noShapes said x .1 in
+    let z : _≡_ {A = ℕ} 0 1 = ap (λ (g : List ℕ). getD g 5 0) e in omega arith
+
 -- Three rounds, whatever else is said and written.
 pub three-rounds : (before after : List ℕ) (struck bare : ℕ) → length before ≡ 6
     → LargestSays template script before after (values (3 ∷ struck ∷ bare ∷ [])) → ⊥
@@ -100,7 +112,7 @@ no-links s X none =
 pub blanks-counted : (words list before after : List ℕ) (rounds struck counted : ℕ) → getD list 1 0 ≡ 0
     → 0 < counted → LargestSays words list before after (values (rounds ∷ struck ∷ counted ∷ [])) → ⊥
 blanks-counted words list before after rounds struck counted none some x =
-    let (s, asked, found) = largest-values (largestReading words list before) before after _ x in
+    let (s, asked, found) = answered-values (largestReading words list before) before after _ x in
     let (kinds, read, same) = sheet-read words list s (grid-asked before (readSheet words list) s asked .0) in
     let few : s .links ≡ 0 = read .links .links ∙ ap (λ (w : List ℕ). getD w 1 0) same ∙ none in
     let said = found .says in
@@ -136,7 +148,7 @@ unmet-accepted before after found six x =
     let z : _≡_ {A = ℕ} 0 1 = cc in omega arith
 
 -- A grid of five bytes is refused with 40, and not a byte of it changes.
-pub five-refused : (before after : List ℕ) (said : Said) → length before ≡ 5
+five-refused : (before after : List ℕ) (said : Said) → length before ≡ 5
     → LargestSays template script before after said → (said ≡ refusal 40 (0 ∷ [])) × (after ≡ before)
 five-refused before after said five x = rw (worked-read, five) at x
 
@@ -145,7 +157,7 @@ pub refusal-changes : (before after : List ℕ) (said : Said) → length before 
 refusal-changes before after said five changed x = changed (five-refused before after said five x .1)
 
 -- An empty list of bookings and a grid of a wrong size, here of five bytes: 30 is said, so 40 is not allowed.
-pub list-first : (before : List ℕ) → SmallestSays template script [] 0 before before (refusal 30 (0 ∷ []))
+list-first : (before : List ℕ) → SmallestSays template script [] 0 before before (refusal 30 (0 ∷ []))
 unfolding readList
 list-first before = rw worked-read (refl, refl)
 
@@ -153,6 +165,15 @@ pub size-first : (before after : List ℕ) → SmallestSays template script [] 0
 size-first before after x =
     let e = smallest-one-answer template script [] 0 before after before _ _ x (list-first before) .0 in
     let z : _≡_ {A = ℕ} 40 30 = cc in omega arith
+
+-- A grid of seven bytes for the largest: nothing is said but 40, and no byte changes.
+seven-refused : (before after : Grids) (said : BothSaid) → length (before .small) ≡ 6 → length (before .large) ≡ 7
+    → BothSays template script metBookings 0 before after said → after ≡ before
+seven-refused before after said six seven x = (rw (met-listed, six, seven) at x) .1
+
+pub longer-large : (before after : Grids) (said : BothSaid) → length (before .small) ≡ 6 → length (before .large) ≡ 7
+    → (after ≡ before → ⊥) → BothSays template script metBookings 0 before after said → ⊥
+longer-large before after said six seven changed x = changed (seven-refused before after said six seven x)
 
 -- The judge accepts a grid with two pairs that are not met, or without the booked pair.
 pub unsound-accepted : JudgeSays template script metBookings 0 unmetGrid (values []) → ⊥
@@ -163,6 +184,19 @@ unsound-accepted x =
 pub unheld-accepted : JudgeSays template script unmetBookings 0 lastShape (values []) → ⊥
 unheld-accepted x =
     let e = judge-one-answer template script unmetBookings 0 lastShape _ _ x unheld-sample in
+    values-refusal e
+
+-- It passes over the first pair.
+pub first-passed : JudgeSays template script metBookings 0 firstGrid (values []) → ⊥
+first-passed x =
+    let e = judge-one-answer template script metBookings 0 firstGrid _ _ x first-sample in
+    values-refusal e
+
+-- It asks television's grid for what radio books.
+pub other-booking-asked : (number : ℕ) (place : List ℕ)
+    → JudgeSays template script metBookings 1 noShapes (refusal number place) → ⊥
+other-booking-asked number place x =
+    let e = judge-one-answer template script metBookings 1 noShapes _ _ none-sample x in
     values-refusal e
 
 -- It refuses the grid that both typings are.

@@ -22,8 +22,8 @@ use lib.ListN.{getD}
 use Rattle.words.specs.Said.{Said, values, refusal}
 use Rattle.words.proofs.Said.{values-refusal}
 use Rattle.bookings.specs.Bookings.{deskAt, cardAt, shapeAt, readEach, readList, repeated, bookedBefore}
-use Rattle.bookings.specs.Stored.{storedCardAt, storedShapeAt}
-use Rattle.bookings.specs.Tidied.{different, firsts, tidied}
+use Rattle.stored.specs.Stored.{storedCardAt, storedShapeAt}
+use Rattle.stored.specs.Tidied.{different, firsts, tidied}
 use Rattle.typing.specs.Calls.{SmallestSays}
 use Rattle.typing.specs.Tidy.{TidySays}
 use Rattle.typing.proofs.Existence.{smallest-one-answer}

@@ -8,9 +8,9 @@
 --   met-closure, unmet-closure          the closures of the two bookings
 --   smallest-found, not-met-found, none-found   what follows from them, and from none
 --   met-listed, unmet-listed, both-unmet-listed, listed-asked   the lists are read, for each desk
---   worked-template, worked-script, worked-links, worked-fit   what the other operations say of it, by computation
+--   worked-links, worked-fit   what the other operations say of it, by computation
 --   all-inside, together  the bookings of a list that is read are in the sheet; what follows from those of each desk
---   worked-largest, worked-smallest, worked-not-met, worked-none, worked-both, worked-both-not-met, worked-desks   the
+--   worked-largest, worked-smallest, worked-not-met, worked-none, worked-both, worked-both-none, worked-both-not-met, worked-desks   the
 --                         right answers are allowed
 -- Assumes nothing.
 use Prim.Native.Nat.{ℕ, zero, suc, _+_, _*_, _/_, _%_, _≤_, _<_}
@@ -25,7 +25,7 @@ use lib.ListN.{length, getD, replicate}
 use borrow.Author.Tests.{eqb-true}
 use Rattle.words.specs.Limits.{maxLabels}
 use Rattle.words.specs.Said.{Said, values}
-use Rattle.words.specs.Reading.{Reading, accepted}
+use Rattle.words.specs.Reading.{accepted}
 use Rattle.words.proofs.Bools.{never-both, or-cases, false-true, false-of-not}
 use Rattle.words.proofs.Places.{place-in, card-of, shape-of}
 use Rattle.bags.specs.Part.{Part, Parts, at-most}
@@ -33,11 +33,11 @@ use Rattle.bags.specs.Named.{named}
 use Rattle.bags.specs.Label.{outgoing}
 use Rattle.bags.specs.Look.{listed}
 use Rattle.bags.specs.Interval.{fits}
-use Rattle.template.specs.Reading.{readLink, readRun, readPart}
-use Rattle.template.specs.Template.{openAt, partAt, readShape, readShapes, shapePlace, readTemplate, templateSays}
+use Rattle.parts.specs.Reading.{readLink, readRun, readPart}
+use Rattle.template.specs.Template.{openAt, partAt, readShape, readShapes, shapePlace, readTemplate}
 use Rattle.template.specs.Machine.{Tabled}
 use Rattle.script.specs.Link.{fromAt, kindAt, toAt, farAt, above, greater, cardWords, below, neighbours, linked}
-use Rattle.script.specs.Script.{readLinks, readScript, scriptSays, cardLinks, linksStart}
+use Rattle.script.specs.Script.{readLinks, readScript, cardLinks, linksStart}
 use Rattle.sheet.specs.Sheet.{Sheet, partOf, opensOf, place, readSheet}
 use Rattle.sheet.proofs.Accepted.{SheetAccepted, sheet-made}
 use Rattle.counts.specs.Fit.{firstOver, fitQuestion, FitSays}
@@ -54,7 +54,7 @@ use Rattle.typing.specs.Largest.{Largest, bare, bareCards}
 use Rattle.typing.specs.Smallest.{Closure, booked, follow, IsClosure}
 use Rattle.typing.specs.Demand3.{pairs, notMet}
 use Rattle.typing.specs.Calls.{listedReading, bookedReading, largestReading, smallestReading, LargestFound}
-use Rattle.typing.specs.Calls.{LargestAnswered, LargestSays, SmallestFound, SmallestSays, Grids, bothReading, BothSays}
+use Rattle.typing.specs.Calls.{LargestSays, SmallestFound, SmallestSays, Grids, bothReading, BothSays}
 use Rattle.typing.specs.Desks.{DeskGrids, DesksFound, DesksSays}
 use Rattle.typing.proofs.Represents.{Represents, Alike, pair-in}
 use Rattle.typing.proofs.Boards.{board-lawful}
@@ -91,15 +91,6 @@ read = sheet-made template script
     (record { kinds = 2; shapes = 2; parts = worked .parts }) (record { cards = 3; links = 3 }) refl refl
 
 -- ---- the operations that make no typing
-pub worked-template : templateSays template ≡ values (2 ∷ 2 ∷ [])
-unfolding templateSays readTemplate openAt partAt readShape readShapes readPart readRun readLink
-worked-template = refl
-
-pub worked-script : scriptSays template script ≡ values (3 ∷ 3 ∷ [])
-unfolding scriptSays readTemplate openAt partAt readShape readShapes readPart readRun readLink readScript readLinks
-    fromAt kindAt toAt above greater
-worked-script = refl
-
 -- The links of each card, and the word of the script at which they start; there is no card 3.
 pub worked-links : (cardLinks template script 0 ≡ 0 ∷ 0 ∷ 2 ∷ 0 ∷ 1 ∷ 1 ∷ [])
     × (cardLinks template script 1 ≡ 1 ∷ 0 ∷ 0 ∷ [])
@@ -126,12 +117,12 @@ worked-fit =
     ))
 
 -- ---- numbers below a small one
-pub below-two : (P : ℕ → Type 0) → P 0 → P 1 → (k : ℕ) → k < 2 → P k
+below-two : (P : ℕ → Type 0) → P 0 → P 1 → (k : ℕ) → k < 2 → P k
 below-two P a b zero l = a
 below-two P a b (suc zero) l = b
 below-two P a b (suc (suc k)) l = absurd (omega arith)
 
-pub below-three : (P : ℕ → Type 0) → P 0 → P 1 → P 2 → (k : ℕ) → k < 3 → P k
+below-three : (P : ℕ → Type 0) → P 0 → P 1 → P 2 → (k : ℕ) → k < 3 → P k
 below-three P a b c zero l = a
 below-three P a b c (suc k) l = below-two (λ j. P (suc j)) b c k (le-of-suc-le-suc l)
 
@@ -242,15 +233,14 @@ largest-found = record {
   counted = two-bare;
 }
 
-pub largest-asked : (before : List ℕ) → length before ≡ 6 → largestReading template script before ≡ accepted worked
+largest-asked : (before : List ℕ) → length before ≡ 6 → largestReading template script before ≡ accepted worked
 largest-asked before l = rw (worked-read, l) refl
 
 -- The right answer of "Largest" is allowed.
 pub worked-largest : (before : List ℕ) → length before ≡ 6
     → LargestSays template script before lastShape largestAnswer
 worked-largest before l =
-    subst (λ (r : Reading Sheet). LargestAnswered r before lastShape largestAnswer) (sym (largest-asked before l))
-    largest-found
+    rw (largest-asked before l) largest-found
 
 -- ---- closures
 -- Just the pair of card c and shape u is booked.
@@ -258,7 +248,7 @@ pub record Just (Wanted : ℕ → ℕ → Type 0) (c u : ℕ) : Type 0 where
   pub some : Wanted c u
   pub only : (n t : ℕ) → Wanted n t → (n ≡ c) × (t ≡ u)
 
-pub just-inside : {Wanted : ℕ → ℕ → Type 0} {c u : ℕ} → Just Wanted c u → c < 3 → u < 2 → BookedIn worked Wanted
+just-inside : {Wanted : ℕ → ℕ → Type 0} {c u : ℕ} → Just Wanted c u → c < 3 → u < 2 → BookedIn worked Wanted
 just-inside just lc lu n t b = let (e, f) = just .only n t b in (omega (arith, e), omega (arith, f))
 
 -- A list of one booking books just that pair for its desk, and nothing for the other.
@@ -505,6 +495,11 @@ both-asked : (bookings : List ℕ) (desk : ℕ) (before : Grids) → length (bef
     → bothReading template script bookings desk before ≡ accepted worked
 both-asked bookings desk before l e = rw (e, l) refl
 
+-- The bookings of a list that is read are in the sheet.
+pub all-inside : (bookings : List ℕ) → listedReading template script bookings ≡ accepted worked
+    → (desk : ℕ) → BookedIn worked (Booked bookings desk)
+all-inside bookings listed = list-asked bookings (readSheet template script) worked listed .1
+
 -- The right answers of "Both" are allowed: each grid and each answer is that of its own call.
 pub worked-both : (before : Grids) → length (before .small) ≡ 6 → length (before .large) ≡ 6
     → BothSays template script metBookings 0 before (record { small = lastShape; large = lastShape })
@@ -514,6 +509,15 @@ worked-both before small large =
     (listed-asked metBookings 0 met-listed (omega arith) (before .small) small))
     (both-found stands (just-inside (one-just 0 2 1) (omega arith) (omega arith)) largest-found
     (smallest-found (one-just 0 2 1)))
+
+pub worked-both-none : (before : Grids) → length (before .small) ≡ 6 → length (before .large) ≡ 6
+    → BothSays template script metBookings 1 before (record { small = noShapes; large = lastShape })
+    (record { largest = largestAnswer; smallest = noneAnswer })
+worked-both-none before small large =
+    rw (both-asked metBookings 1 before large
+    (listed-asked metBookings 1 met-listed (omega arith) (before .small) small))
+    (both-found stands (all-inside metBookings met-listed 1) largest-found
+    (none-found (one-other 0 2 1 1 (λ e. absurd (omega (arith, e))))))
 
 pub worked-both-not-met : (before : Grids) → length (before .small) ≡ 6 → length (before .large) ≡ 6
     → BothSays template script unmetBookings 0 before (record { small = noShapes; large = lastShape })
@@ -535,11 +539,6 @@ together inside r t = record {
   radio = both-found stands (inside 0) largest-found r;
   television = both-found stands (inside 1) largest-found t;
 }
-
--- The bookings of a list that is read are in the sheet.
-pub all-inside : (bookings : List ℕ) → listedReading template script bookings ≡ accepted worked
-    → (desk : ℕ) → BookedIn worked (Booked bookings desk)
-all-inside bookings listed = list-asked bookings (readSheet template script) worked listed .1
 
 -- The right answer of the call for both desks is allowed.
 pub worked-desks : (before : DeskGrids) → length (before .radio) ≡ 6 → length (before .television) ≡ 6

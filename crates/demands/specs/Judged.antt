@@ -1,7 +1,7 @@
 -- The samples of docs/FORMAT.md, "Judge a grid", on the worked sheet: bookings, a desk, a grid, and what is
 -- said.
 -- Sample, Allowed, AllAllowed   a sample; the contract allows what it says; all samples
--- overGrid, unmetGrid           a byte over 1; two pairs that are not met
+-- overGrid, unmetGrid, firstGrid   a byte over 1; two pairs that are not met; the first pair of all is not met
 -- eachBooks                     a booking of each desk
 -- judgements                    the samples
 -- Assumes nothing.
@@ -30,6 +30,10 @@ overGrid = 0 ∷ 2 ∷ 0 ∷ 0 ∷ 0 ∷ 1 ∷ []
 -- Card 2 has shape 1; card 1 has both shapes, and neither is met.
 abbrev pub unmetGrid : List ℕ
 unmetGrid = 0 ∷ 0 ∷ 1 ∷ 1 ∷ 0 ∷ 1 ∷ []
+
+-- Card 2 has shape 1; card 0 has shape 0, which asks card 1 for the same.
+abbrev pub firstGrid : List ℕ
+firstGrid = 1 ∷ 0 ∷ 0 ∷ 0 ∷ 0 ∷ 1 ∷ []
 
 -- Radio books card 2 for shape 1, and television card 0 for shape 0.
 abbrev pub eachBooks : List ℕ

@@ -180,6 +180,9 @@ others =
     ∷ row 4 (4 ∷ []) (template (1 ∷ 1 ∷ 1 ∷ 17 ∷ []))
     -- an open shape without its part
     ∷ row 4 (4 ∷ []) (template (1 ∷ 1 ∷ 1 ∷ 18 ∷ []))
+    -- the last code below the groups, and the last below the links
+    ∷ row 5 (3 ∷ []) (template (1 ∷ 1 ∷ 1 ∷ 15 ∷ []))
+    ∷ row 5 (3 ∷ []) (template (1 ∷ 1 ∷ 1 ∷ 255 ∷ []))
     -- the first code past the open shape's
     ∷ row 5 (3 ∷ []) (template (1 ∷ 1 ∷ 1 ∷ 19 ∷ []))
     -- the first code past the incoming links
@@ -192,6 +195,8 @@ others =
     (1 ∷ 1 ∷ 13 ∷ 3 ∷ 3 ∷ 3 ∷ 3 ∷ 3 ∷ 3 ∷ 3 ∷ 3 ∷ 3 ∷ 3 ∷ 3 ∷ 3 ∷ 18 ∷ []))
     -- an incoming link of kind 1 where there is one kind
     ∷ row 7 (3 ∷ []) (template (1 ∷ 1 ∷ 4 ∷ 321 ∷ 0 ∷ 0 ∷ 1 ∷ []))
+    -- an incoming link of kind 63 where there are 63 kinds
+    ∷ row 7 (3 ∷ []) (template (63 ∷ 1 ∷ 4 ∷ 383 ∷ 0 ∷ 0 ∷ 1 ∷ []))
     -- kind 0 stands twice as an incoming one
     ∷ row 8 (9 ∷ []) (template (1 ∷ 1 ∷ 10 ∷ 17 ∷ 2 ∷ 320 ∷ 0 ∷ 0 ∷ 1 ∷ 320 ∷ 0 ∷ 0 ∷ 1 ∷ []))
     -- the low is over 8,192
@@ -204,12 +209,28 @@ others =
     ∷ row 11 (4 ∷ []) (template (1 ∷ 1 ∷ 4 ∷ 17 ∷ 18 ∷ 0 ∷ 0 ∷ []))
     -- a word is left after an open shape's part
     ∷ row 12 (8 ∷ []) (template (1 ∷ 1 ∷ 6 ∷ 18 ∷ 256 ∷ 0 ∷ 1 ∷ 1 ∷ 0 ∷ []))
+    -- a word is left after the first of two shapes
+    ∷ row 12 (4 ∷ []) (template (1 ∷ 2 ∷ 2 ∷ 0 ∷ 0 ∷ 1 ∷ 0 ∷ []))
     -- a word is left after the last shape
     ∷ row 12 (4 ∷ []) (template (1 ∷ 1 ∷ 1 ∷ 0 ∷ 0 ∷ []))
     -- a word too many for its count of links
     ∷ row 20 (0 ∷ []) (script plain (1 ∷ 0 ∷ 0 ∷ []))
+    -- one word
+    ∷ row 20 (0 ∷ []) (script plain (1 ∷ []))
+    -- 1,024 cards, and a word too many
+    ∷ row 20 (0 ∷ []) (script plain (1024 ∷ 0 ∷ 0 ∷ []))
+    -- 8,192 links that are not there
+    ∷ row 20 (0 ∷ []) (script plain (1 ∷ 8192 ∷ []))
+    -- a link of kind 1 that starts at card 1, where there is one of each
+    ∷ row 23 (2 ∷ []) (script plain (1 ∷ 1 ∷ 1 ∷ 1 ∷ 0 ∷ []))
     -- a link leads to card 1 where there is one card
     ∷ row 23 (4 ∷ []) (script plain (1 ∷ 1 ∷ 0 ∷ 0 ∷ 1 ∷ []))
+    -- a link of kind 1 that leads to card 1, where there is one of each
+    ∷ row 24 (3 ∷ []) (script plain (1 ∷ 1 ∷ 0 ∷ 1 ∷ 1 ∷ []))
+    -- a link that leads to a lower card than the one before it
+    ∷ row 25 (5 ∷ []) (script plain (2 ∷ 2 ∷ 0 ∷ 0 ∷ 1 ∷ 0 ∷ 0 ∷ 0 ∷ []))
+    -- the third link equals the second, which is above the first by the card that it leads to alone
+    ∷ row 25 (8 ∷ []) (script plain (2 ∷ 3 ∷ 0 ∷ 0 ∷ 0 ∷ 0 ∷ 0 ∷ 1 ∷ 0 ∷ 0 ∷ 1 ∷ []))
     -- a word too few for its count of bookings
     ∷ row 30 (0 ∷ []) (smallest plain alone (1 ∷ 0 ∷ 0 ∷ []) 0 (7 ∷ []))
     -- a grid of two bytes where there is one pair
@@ -220,6 +241,8 @@ others =
     ∷ row 40 (0 ∷ []) (tidy plain alone (1 ∷ 0 ∷ 0 ∷ []) (7 ∷ 7 ∷ 7 ∷ []))
     -- one count where there is one kind, which leaves and arrives
     ∷ row 41 (0 ∷ []) (fit plain 0 (0 ∷ []))
+    -- shape 1 where there is one shape, and no counts
+    ∷ row 42 (0 ∷ []) (fit plain 1 [])
     -- 8,193 arriving links
     ∷ row 43 (1 ∷ []) (fit plain 0 (0 ∷ 8193 ∷ []))
     -- a byte after the bookings

@@ -1,7 +1,8 @@
 -- The counts of a card's links, as they are counted off, are those of its neighbours.
 -- way-is        a label counts among a card's neighbours what its kind counts one way
 -- shapeAt       the part of a shape; shape-kinds, none-back: it names kinds of the template, and maybe no incoming one
--- card-under    the kinds of a card's links are the template's
+-- leaving-read  where the links from each card start
+-- own-rise, own-under   the kinds of a card's links rise, and are the template's
 -- ListedBack    the counts of incoming kinds are listed where they matter
 -- back-asked    what counting the links to a card asks
 -- listed-few, listed-back   how many counts are listed, and which
@@ -9,12 +10,12 @@
 -- pair-told     what is counted off fits a shape exactly if the card's neighbours do
 -- named-row     the row has the names of the part
 -- Assumes nothing.
-use Prim.Native.Nat.{ℕ, _+_, _-_, _*_, _≤_, _<_}
+use Prim.Native.Nat.{ℕ, _+_, _-_, _≤_, _<_}
 use mathlib.Core.Path.{_≡_, sym, ap, ap₂, subst, _∙_}
 use mathlib.Core.Bool.{Bool, true, false, cond}
 use mathlib.Core.List.{List}
 use native.Mathlib.Omega.{arith}
-use lib.ListN.{length, getD, take, drop}
+use lib.ListN.{length, getD, take}
 use lib.Seq.{length-take-le, getD-take}
 use Rattle.words.specs.Limits.{maxKinds, maxLabels, maxDepth}
 use Rattle.words.specs.Reading.{accepted}
@@ -27,21 +28,22 @@ use Rattle.bags.proofs.Naming.{OfKindBelow, names-kind, named-none}
 use Rattle.bags.proofs.Looking.{fits-alike}
 use Rattle.template.specs.Template.{openAt, partAt, shapePlace, opens, readTemplate}
 use Rattle.template.proofs.Accepted.{template-accepted}
-use Rattle.script.specs.Link.{toAt, neighbours, below}
+use Rattle.script.specs.Link.{toAt, cardWords, neighbours, below}
 use Rattle.script.specs.Script.{countsOf}
 use Rattle.words.specs.Chain.{Chained}
-use Rattle.script.specs.Index.{StartsOf, ArrivingAsked}
-use Rattle.script.specs.Counts.{wayCount}
-use Rattle.script.specs.Runs.{amount, KindsRise}
+use Rattle.links.specs.Index.{StartsOf, LeavingOf, CountArrivingAsked}
+use Rattle.links.specs.Counts.{wayCount}
+use Rattle.links.specs.Runs.{kindsIn, amount, KindsRise}
 use Rattle.script.proofs.Reading.{script-accepted}
-use Rattle.script.proofs.Cards.{part-within, below-le}
-use Rattle.script.proofs.Runs.{card-kind, card-rise, card-many, card-kinds, amount-counted, amount-listed}
+use Rattle.script.proofs.Cards.{below-le}
+use Rattle.links.proofs.Leaving.{card-kind, card-rise, card-many, card-kinds}
+use Rattle.links.proofs.Runs.{amount-counted, amount-listed}
 use Rattle.sheet.specs.declared.Extent.{Extent}
 use Rattle.sheet.specs.Opened.{templateAs, Opened}
 use Rattle.flat.specs.Meeting.{KindsUnder}
-use Rattle.counts.specs.Trees.{treeAt}
-use Rattle.counts.specs.Machine.{RowOf}
-use Rattle.counts.proofs.Agreement.{shape-tree}
+use Rattle.trees.specs.Trees.{treeAt}
+use Rattle.evaluator.specs.Rows.{RowOf}
+use Rattle.trees.proofs.Agreement.{shape-tree}
 use Rattle.counts.proofs.OwnCounts.{own-way}
 use Rattle.fits.specs.declared.Plan.{Plan}
 use Rattle.fits.specs.Plans.{PlanOf}
@@ -61,7 +63,7 @@ listed-short script e back n listed b = bool-case back (λ y. omega (arith, b .y
 -- What counting the links to a card asks.
 pub back-asked : (script first next : List ℕ) (e : Extent) (back : Bool) (n : ℕ) (counts : List ℕ) (links : ℕ) →
     BackAsked script first next e back n counts → back ≡ true → links ≡ e .links →
-    ArrivingAsked script first next links n counts
+    CountArrivingAsked script first next links n counts
 back-asked script first next e back n counts links b y q =
     let w = script-accepted (e .kinds) script (countsOf (e .cards) (e .links)) (b .read) in
     let a = b .arriving y in
@@ -111,54 +113,45 @@ module _ (template script : List ℕ) (e : Extent) (opened : Opened template scr
         named-none (shapeAt template at) (labelOf incoming k)
         (sym (named .names (labelOf incoming k) (omega (arith, few-kinds))) ∙ seen .no off k h)
 
-  module _ (n : ℕ) (l : n < e .cards) (starts : List ℕ) (s : StartsOf script starts (e .cards) (e .links)) (lo hi : ℕ)
-      (p : lo ≡ getD starts n 0) (q : hi ≡ getD starts (n + 1) 0) where
-    -- the words of the card's links
-    abbrev part : List ℕ
-    part = take (2 + 3 * hi - (2 + 3 * lo)) (drop (2 + 3 * lo) script)
+  -- where the links from each card start, of links that rise
+  pub leaving-read : (starts : List ℕ) → StartsOf script starts (e .cards) (e .links) →
+      LeavingOf script starts (e .cards) (e .links)
+  leaving-read starts s =
+      let w = script-accepted (e .kinds) script (countsOf (e .cards) (e .links)) (opened .script-read) in
+      record { ascending = w .ascending; starts-of = s }
 
-    low-is : lo ≡ below script n (e .links)
-    low-is = p ∙ s .exact n (omega arith)
-
-    high-is : hi ≡ below script (n + 1) (e .links)
-    high-is = q ∙ s .exact (n + 1) (omega arith)
-
-    pub part-rise : KindsRise part
-    part-rise =
+  -- the words of a card's links
+  module _ (n : ℕ) (own : List ℕ) (words-are : own ≡ cardWords script n (e .links)) where
+    pub own-rise : KindsRise own
+    own-rise =
         let w = script-accepted (e .kinds) script (countsOf (e .cards) (e .links)) (opened .script-read) in
-        card-rise script (e .links) (w .ascending) n lo hi low-is high-is
+        rw words-are (card-rise script (e .links) (w .ascending) n)
 
-    -- where the part lies in the script
-    pub part-inside : (lo ≤ hi) × (2 + 3 * hi ≤ length script)
-    part-inside =
+    pub own-under : KindsUnder own (e .kinds)
+    own-under =
         let w = script-accepted (e .kinds) script (countsOf (e .cards) (e .links)) (opened .script-read) in
-        let within = part-within script (e .links) (w .ascending) n lo hi low-is high-is in
-        (within .order, within .end)
-
-    pub card-under : KindsUnder part (e .kinds)
-    card-under =
-        let w = script-accepted (e .kinds) script (countsOf (e .cards) (e .links)) (opened .script-read) in
-        let size = card-rise script (e .links) (w .ascending) n lo hi low-is high-is .size in
-        let many = card-many script (e .links) (w .ascending) n lo hi low-is high-is in
-        record {
+        let size = card-rise script (e .links) (w .ascending) n .size in
+        let many = card-many script (e .links) (w .ascending) n in
+        let lo = below script n (e .links) in
+        rw words-are (record {
           few = few-kinds;
           below = λ i h.
-              let here : lo + i < hi = omega (arith, size, many) in
+              let here : lo + i < below script (n + 1) (e .links) = omega (arith, size, many) in
               omega (
                 arith,
-                card-kind script lo hi i (part-inside .1) here,
-                w .kind-below (lo + i) (omega (arith, high-is, below-le script (n + 1) (e .links))),
+                card-kind script (e .links) (w .ascending) n i here,
+                w .kind-below (lo + i) (omega (arith, below-le script (n + 1) (e .links))),
               );
-        }
+        })
 
     outward : (listed : List ℕ) → length listed ≤ maxKinds → (k : ℕ) → k < e .kinds →
-        amount part listed k ≡ labelCount (neighbours script n (e .links)) k
+        amount own listed k ≡ labelCount (neighbours script n (e .links)) k
     outward listed few k h =
         let w = script-accepted (e .kinds) script (countsOf (e .cards) (e .links)) (opened .script-read) in
-        let own : labelOf outgoing k ≡ k = omega arith in
-        amount-counted part listed k (omega (arith, few-kinds))
-        ∙ card-kinds script (e .links) (w .ascending) n lo hi low-is high-is k
-        ∙ sym (way-is n outgoing k h) ∙ ap (labelCount (neighbours script n (e .links))) own
+        let same : labelOf outgoing k ≡ k = omega arith in
+        amount-counted own listed k (omega (arith, few-kinds))
+        ∙ ap (λ (ws : List ℕ). kindsIn ws k) words-are ∙ card-kinds script (e .links) (w .ascending) n k
+        ∙ sym (way-is n outgoing k h) ∙ ap (labelCount (neighbours script n (e .links))) same
 
     module _ (row : List ℕ) (t at : ℕ) (named : Named template row e t at) (back : Bool) (seen : WaysSeen row e back)
         (listed : List ℕ) (b : ListedBack script e back n listed) where
@@ -169,35 +162,35 @@ module _ (template script : List ℕ) (e : Extent) (opened : Opened template scr
       few-listed = listed-short script e back n listed b
 
       inward : (k : ℕ) → k < e .kinds → Names shape (labelOf incoming k) →
-          amount part listed (labelOf incoming k) ≡ labelCount (neighbours script n (e .links)) (labelOf incoming k)
+          amount own listed (labelOf incoming k) ≡ labelCount (neighbours script n (e .links)) (labelOf incoming k)
       inward k h m = bool-case back
           (λ y.
           let full = b .yes y in
           let place : labelOf incoming k - (maxLabels - length listed) ≡ k = omega arith in
-          amount-listed part listed (labelOf incoming k) (omega arith)
+          amount-listed own listed (labelOf incoming k) (omega arith)
           ∙ ap (λ (x : ℕ). getD listed x 0) place ∙ b .exact y k (omega (arith, few-kinds))
           ∙ sym (way-is n incoming k h))
           (λ o. absurd (none-back row t at named seen o k h m))
 
       named-alike : (k : ℕ) → Names shape k → OfKindBelow (e .kinds) k →
-          amount part listed k ≡ labelCount (neighbours script n (e .links)) k
+          amount own listed k ≡ labelCount (neighbours script n (e .links)) k
       named-alike k m (outgoing, kind, h, same) = outward listed few-listed k (omega arith)
       named-alike k m (incoming, kind, h, same) = rw same (inward kind h (subst (Names shape) same m))
 
       pair-alike : (isOpen : Bool) →
-          fits isOpen (e .kinds) shape (amount part listed)
+          fits isOpen (e .kinds) shape (amount own listed)
           ≡ fits isOpen (e .kinds) shape (labelCount (neighbours script n (e .links)))
       pair-alike isOpen =
-          fits-alike (amount part listed) (labelCount (neighbours script n (e .links))) isOpen shape (e .kinds)
+          fits-alike (amount own listed) (labelCount (neighbours script n (e .links))) isOpen shape (e .kinds)
           (outward listed few-listed) (λ k m. named-alike k m (shape-kinds row t at named k m))
 
       -- the same where the part's start is known otherwise
       pub pair-told : (start : ℕ) → start ≡ partAt template at → (isOpen fit : Bool) →
-          fit ≡ fits isOpen (e .kinds) (treeAt maxDepth template start .value) (amount part listed) →
+          fit ≡ fits isOpen (e .kinds) (treeAt maxDepth template start .value) (amount own listed) →
           fit ≡ fits isOpen (e .kinds) (treeAt maxDepth template start .value)
           (labelCount (neighbours script n (e .links)))
       pair-told start q isOpen fit h =
-          h ∙ subst (λ (x : ℕ). fits isOpen (e .kinds) (treeAt maxDepth template x .value) (amount part listed)
+          h ∙ subst (λ (x : ℕ). fits isOpen (e .kinds) (treeAt maxDepth template x .value) (amount own listed)
           ≡ fits isOpen (e .kinds) (treeAt maxDepth template x .value) (labelCount (neighbours script n (e .links))))
           (sym q) (pair-alike isOpen)
 

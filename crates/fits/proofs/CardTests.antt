@@ -20,15 +20,14 @@ use Rattle.bags.specs.Part.{Part, names}
 use Rattle.bags.specs.Interval.{interval, inside, othersZero, fits}
 use Rattle.bags.specs.declared.Span.{Span}
 use Rattle.bags.proofs.Decide.{others-all}
-use Rattle.script.specs.Runs.{kindIn, kindsIn, amount, KindsRise}
-use Rattle.script.proofs.Runs.{kinds-none, kinds-some, kind-at, amount-counted}
+use Rattle.links.specs.Runs.{kindIn, kindsIn, amount, KindsRise}
+use Rattle.links.proofs.Runs.{kinds-none, kinds-some, kind-at, amount-counted}
 use Rattle.flat.specs.Meeting.{KindsUnder, MetAs}
 use Rattle.flat.specs.declared.meet.Meeting.the-variants as meeting
-use Rattle.counts.specs.Trees.{treeAt}
-use Rattle.counts.specs.Machine.{RowOf}
-use Rattle.counts.proofs.Counts.{others-named, others-zero, others-not}
-use Rattle.counts.proofs.Evaluations.{fits-passed, fits-failed}
-use Rattle.counts.proofs.Wrapping.{core-names}
+use Rattle.trees.specs.Trees.{treeAt}
+use Rattle.evaluator.specs.Rows.{RowOf}
+use Rattle.evaluator.proofs.Testing.{others-named, others-zero, others-not, fits-passed, fits-failed}
+use Rattle.trees.proofs.Wrapping.{core-names}
 use Rattle.fits.specs.declared.Plan.{Plan}
 use Rattle.fits.specs.Plans.{FlatPlan}
 

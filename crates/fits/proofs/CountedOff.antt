@@ -26,9 +26,9 @@ use Rattle.template.specs.Template.{Template, opens, readTemplate}
 use Rattle.template.proofs.Accepted as shapes
 use Rattle.script.specs.Link.{neighbours}
 use Rattle.script.specs.Script.{countsOf}
-use Rattle.script.specs.Counts.{cardCounts}
+use Rattle.links.specs.Counts.{cardCounts}
 use Rattle.script.proofs.Reading as links
-use Rattle.script.proofs.Counts.{card-counts-length}
+use Rattle.links.proofs.Counts.{card-counts-length}
 use Rattle.sheet.specs.declared.Extent.{Extent}
 use Rattle.sheet.specs.Opened.{templateAs, Opened}
 use Rattle.counts.specs.Fit.{fitQuestion, Fitting, FitSays}
@@ -57,10 +57,10 @@ module _ (template script : List ℕ) (e : Extent) (opened : Opened template scr
     abbrev tested : Bool
     tested = fits (opens template t) (e .kinds) part around
 
-    template-is : shapes.Accepted template whole
+    template-is : shapes.TemplateAccepted template whole
     template-is = shapes.template-accepted template whole (opened .template-read)
 
-    script-is : links.Accepted (e .kinds) script (e .cards) (e .links)
+    script-is : links.ScriptAccepted (e .kinds) script (e .cards) (e .links)
     script-is = links.script-accepted (e .kinds) script (countsOf (e .cards) (e .links)) (opened .script-read)
 
     counted-asked : fitQuestion template t counts ≡ accepted (question template whole t counts)

@@ -18,19 +18,20 @@ use Rattle.words.proofs.Bools.{cond-case, le-or-lt}
 use Rattle.bags.specs.Label.{outgoing, incoming}
 use Rattle.bags.specs.Part.{Part, star, plus, optional, Names, Single}
 use Rattle.bags.proofs.Naming.{OfKindBelow, names-kind}
-use Rattle.template.specs.Reading.{Code, wrapped}
-use Rattle.template.specs.Template.{Placed, placed, noNames, partAt, shapePlace, sizesOf, Template, readTemplate}
-use Rattle.template.specs.Writer.{writePart, WithinLimits}
+use Rattle.parts.specs.Reading.{Code, wrapped, noNames}
+use Rattle.parts.specs.Placed.{Placed, placed}
+use Rattle.template.specs.Template.{partAt, shapePlace, sizesOf, Template, readTemplate}
+use Rattle.parts.specs.Writer.{writePart, WithinLimits}
 use Rattle.template.proofs.Accepted.{template-accepted}
-use Rattle.template.proofs.Laws.{code-single}
-use Rattle.template.proofs.RoundTripRead.{part-back}
-use Rattle.template.proofs.WriterPlaces.{stands-here, stands-after}
+use Rattle.parts.proofs.Codes.{code-single}
+use Rattle.parts.proofs.RoundTripRead.{part-back}
+use Rattle.parts.proofs.Stands.{stands-here, stands-after}
 use Rattle.flat.specs.Places.{Standing, SurveyAsked, Surveyed}
 use Rattle.flat.proofs.Appending.{part-words}
-use Rattle.counts.specs.Trees.{treeAt}
-use Rattle.counts.specs.Wrappers.{CoreAt}
-use Rattle.counts.proofs.Places.{tree-deep, tree-by}
-use Rattle.counts.proofs.Agreement.{tree-read}
+use Rattle.trees.specs.Trees.{treeAt}
+use Rattle.trees.specs.Wrappers.{CoreAt}
+use Rattle.trees.proofs.Places.{tree-deep, tree-by}
+use Rattle.trees.proofs.Agreement.{tree-read}
 use Rattle.fits.specs.declared.Plan.{Plan}
 use Rattle.fits.specs.Plans.{FlatPlan}
 
@@ -134,7 +135,7 @@ module _ (words : List ℕ) (end : ℕ) (inside : end ≤ length words) where
       }
 
   -- Below so many wrappers.
-  pub peel : (d left at : ℕ) → Core words left at end
+  peel : (d left at : ℕ) → Core words left at end
       → ((i : ℕ) → at ≤ i → i < at + d → (1 ≤ getD words i 0) × (getD words i 0 ≤ 3))
       → (rest : ℕ) × (rest + d ≡ left) × Core words rest (at + d) end
   peel zero left at c codes =

@@ -16,8 +16,8 @@ use Rattle.bags.specs.Part.{Part}
 use Rattle.bags.specs.Named.{named}
 use Rattle.template.specs.Template.{partAt, shapePlace}
 use Rattle.template.proofs.Accepted.{template-accepted}
-use Rattle.counts.specs.Trees.{treeAt}
-use Rattle.counts.proofs.Agreement.{shape-tree}
+use Rattle.trees.specs.Trees.{treeAt}
+use Rattle.trees.proofs.Agreement.{shape-tree}
 use Rattle.sheet.specs.declared.Extent.{Extent}
 use Rattle.sheet.specs.Opened.{templateAs, Known}
 use Rattle.fits.specs.Fitting.{Named}

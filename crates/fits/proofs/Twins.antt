@@ -19,30 +19,28 @@ use Rattle.bags.proofs.Looking.{fits-alike}
 use Rattle.template.specs.Template.{partAt, opens, readTemplate}
 use Rattle.script.specs.Link.{neighbours}
 use Rattle.script.specs.Script.{countsOf}
-use Rattle.script.specs.Index.{StartsOf}
-use Rattle.script.specs.Alike.{LeavingOf, TwinOf, TwinsOf, TwinsAsked}
+use Rattle.links.specs.Index.{StartsOf, LeavingOf}
+use Rattle.twins.specs.Twins.{TwinOf, TwinsOf, TwinsAsked}
 use Rattle.script.proofs.Reading.{script-accepted}
 use Rattle.sheet.specs.declared.Extent.{Extent}
 use Rattle.sheet.specs.Opened.{templateAs, Opened}
-use Rattle.counts.specs.Trees.{treeAt}
-use Rattle.counts.proofs.Agreement.{shape-tree}
+use Rattle.trees.specs.Trees.{treeAt}
+use Rattle.trees.proofs.Agreement.{shape-tree}
 use Rattle.fits.specs.Fitting.{Named, WaysSeen, byteAt}
-use Rattle.fits.proofs.CardCounts.{shapeAt, way-is, shape-kinds, none-back}
+use Rattle.fits.proofs.CardCounts.{shapeAt, way-is, shape-kinds, none-back, leaving-read}
 
 -- Of a sheet that is read: where its cards' links start, what finding their twins asks, and what is found.
 module _ (template script starts : List ℕ) (e : Extent) (opened : Opened template script e)
     (s : StartsOf script starts (e .cards) (e .links)) (cards : ℕ) (q : cards ≡ e .cards) where
-  leaving-read : LeavingOf script starts cards (e .links)
-  leaving-read =
-      let w = script-accepted (e .kinds) script (countsOf (e .cards) (e .links)) (opened .script-read) in
-      rw q (record { ascending = w .ascending; starts-of = s })
+  leaving : LeavingOf script starts cards (e .links)
+  leaving = rw q (leaving-read template script e opened starts s)
 
   pub twins-asked : (twins : List ℕ) → length twins ≡ maxCards → TwinsAsked script starts cards twins
   twins-asked twins size =
       let w = script-accepted (e .kinds) script (countsOf (e .cards) (e .links)) (opened .script-read) in
       record {
         links = e .links;
-        leaving = leaving-read;
+        leaving = leaving;
         few = omega (arith, w .cards-bound);
         room = omega (arith, w .cards-bound);
       }
@@ -50,7 +48,7 @@ module _ (template script starts : List ℕ) (e : Extent) (opened : Opened templ
   pub twins-found : (twins : List ℕ) →
       ((links : ℕ) → LeavingOf script starts cards links → TwinsOf script cards links twins) →
       TwinsOf script (e .cards) (e .links) twins
-  twins-found twins found = subst (λ (x : ℕ). TwinsOf script x (e .links) twins) q (found (e .links) leaving-read)
+  twins-found twins found = subst (λ (x : ℕ). TwinsOf script x (e .links) twins) q (found (e .links) leaving)
 
 module _ (template script : List ℕ) (e : Extent) (opened : Opened template script e) (m n : ℕ)
     (twin : TwinOf script (e .links) n m) where

@@ -23,13 +23,13 @@ use Rattle.bags.specs.Proposition.{labelCount}
 use Rattle.template.specs.Template.{partAt, shapePlace, opens, readTemplate}
 use Rattle.script.specs.Link.{neighbours}
 use Rattle.script.specs.Script.{countsOf, readScript}
-use Rattle.script.specs.Index.{StartsOf, ArrivalsOf}
-use Rattle.script.specs.Counts.{wayCount}
-use Rattle.script.specs.Alike.{TwinsOf}
+use Rattle.links.specs.Index.{StartsOf, ArrivalsOf}
+use Rattle.links.specs.Counts.{wayCount}
+use Rattle.twins.specs.Twins.{TwinsOf}
 use Rattle.sheet.specs.declared.Extent.{Extent}
 use Rattle.sheet.specs.Opened.{templateAs, Opened, Known}
-use Rattle.counts.specs.Trees.{treeAt}
-use Rattle.counts.specs.Machine.{RowOf}
+use Rattle.trees.specs.Trees.{treeAt}
+use Rattle.evaluator.specs.Rows.{RowOf}
 use Rattle.fits.specs.declared.Plan.{Plan}
 use Rattle.fits.specs.Plans.{PlanOf}
 
@@ -105,7 +105,7 @@ pub record PairReady (template script row places starts first next : List ℕ) (
   pub below : n < e .cards
 
 -- The byte of a shape for some counts: 1 where those that it looks at fit it, else 0.
-abbrev pub byteOf : Bool → ℕ → Part → (ℕ → ℕ) → ℕ
+abbrev byteOf : Bool → ℕ → Part → (ℕ → ℕ) → ℕ
 byteOf isOpen kinds part w = cond (fits isOpen kinds part w) 1 0
 
 -- The byte of card n under a shape, by the counts of its links.

@@ -13,12 +13,12 @@ use Rattle.words.specs.Limits.{maxKinds, maxLabels, maxTemplate, maxDepth}
 use Rattle.words.specs.Reading.{accepted}
 use Rattle.bags.specs.Interval.{fits}
 use Rattle.template.specs.Template.{openAt, partAt, shapePlace, Template, readTemplate}
-use Rattle.script.specs.Runs.{kindIn, amount, KindsRise}
+use Rattle.links.specs.Runs.{kindIn, amount, KindsRise}
 use Rattle.flat.specs.Places.{Surveyed}
 use Rattle.flat.specs.Meeting.{KindsUnder}
-use Rattle.counts.specs.Trees.{treeAt}
-use Rattle.counts.specs.Wrappers.{WrapAsked}
-use Rattle.counts.specs.Machine.{RowOf}
+use Rattle.trees.specs.Trees.{treeAt}
+use Rattle.trees.specs.Wrappers.{WrapAsked}
+use Rattle.evaluator.specs.Rows.{RowOf}
 use Rattle.fits.specs.declared.Plan.{Plan}
 
 -- A shape of a template that is read stands there, and no label has a place yet.

@@ -9,26 +9,27 @@ ghost use Rattle.bags.specs.Part.{Part};
 ghost use Rattle.bags.specs.Interval.{othersZero};
 ghost use Rattle.words.specs.Reading.{accepted};
 ghost use Rattle.template.specs.Template.{readTemplate};
-ghost use Rattle.script.specs.Runs.{kindsIn};
+ghost use Rattle.links.specs.Runs.{kindsIn};
 ghost use Rattle.sheet.specs.Opened.{templateAs};
 ghost use Rattle.flat.specs.Meeting.{KindsUnder};
-ghost use Rattle.counts.specs.Machine.{RowOf};
+ghost use Rattle.evaluator.specs.Rows.{RowOf};
 ghost use Rattle.fits.specs.Plans.{PlanAsked, PlanOf, NamesAsked, CardReady, CardFits};
 ghost use Rattle.fits.specs.Fitting.{GridReady, ShapeReady, WaysAsked, WaysSeen, BackAsked, CountedBack};
 ghost use Rattle.fits.specs.Fitting.{PairReady, PairFits, ColumnFitted, Fitted};
-use counts::core_fits;
-use counts::core_place;
-use counts::part_fits;
+use evaluator::part_fits;
 use flat::Meeting;
 use flat::Survey;
 use flat::meet_card;
 use flat::survey_part;
-use script::count_arriving;
-use script::find_twins;
+use links::count_arriving;
+use links::leaving_links;
 use sheet::Extent;
 use sheet::some_named;
 use template::open_at;
 use template::part_at;
+use trees::core_fits;
+use trees::core_place;
+use twins::find_twins;
 use words::MAX_CARDS;
 use words::MAX_KINDS;
 use words::MAX_LABELS;
@@ -169,18 +170,10 @@ fn pair_fits(
         plan back n ⌝ }
     ensures { λ r. ⌜ PairFits (now (template .entry)) (now (script .entry)) e plan n r ⌝ }
 {
-    let lo = 2 + 3 * wide(starts[n]);
-    let hi = 2 + 3 * wide(starts[n + 1]);
+    let own = leaving_links(script, starts, n);
     let mut arriving = [0u16; MAX_KINDS];
     let listed = count_back(script, first, next, e, back, n, &mut arriving);
-    card_fits(
-        template,
-        row,
-        places,
-        plan,
-        &script[lo..hi],
-        &arriving[0..listed],
-    )
+    card_fits(template, row, places, plan, own, &arriving[0..listed])
 }
 
 fn bit(fit: bool) -> u8

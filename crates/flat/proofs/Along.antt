@@ -25,11 +25,11 @@ use Rattle.bags.specs.Interval.{othersZero}
 use Rattle.bags.specs.Span.{top}
 use Rattle.bags.specs.declared.Span.{Span}
 use Rattle.bags.proofs.Spans.{span}
-use Rattle.script.specs.Runs.{kindIn, kindsIn, amount, RunOf, RunAsked}
-use Rattle.script.proofs.Runs.{kind-at, kinds-none, run-counted, amount-counted, amount-listed}
+use Rattle.links.specs.Runs.{kindIn, kindsIn, amount, RunOf, RunAsked}
+use Rattle.links.proofs.Runs.{kind-at, kinds-none, run-counted, amount-counted, amount-listed}
 use Rattle.flat.specs.Places.{Surveyed}
 use Rattle.flat.specs.Meeting.{MeetAsked, KindsUnder, MetAs, demanded, MetBelow, LinkMet, AllMet, LeavingAsked}
-use Rattle.flat.specs.Meeting.{LeavingAs, ArrivingAsked, ArrivingAs, Listed}
+use Rattle.flat.specs.Meeting.{LeavingAs, ArrivingAsked, ArrivingAs, LastLabels}
 use Rattle.flat.specs.declared.meet.Found.{Found}
 use Rattle.flat.specs.declared.meet.Leaving.the-variants as leaving
 use Rattle.flat.specs.declared.meet.Meeting.the-variants as meeting
@@ -151,7 +151,7 @@ module _ {words places : List ℕ} {isOpen : Bool} {links : List ℕ} {at : ℕ}
       )
 
 -- The labels before the last ones: the outgoing ones, and after them some that count 0.
-pub leaving-met : {words places links : List ℕ} {before : Span} {found : ℕ} (arriving : List ℕ)
+leaving-met : {words places links : List ℕ} {before : Span} {found : ℕ} (arriving : List ℕ)
     → LeavingAsked words places links → length arriving ≤ maxKinds
     → MetBelow words places (kindsIn links) maxKinds before found
     → MetBelow words places (amount links arriving) (maxLabels - length arriving) before found
@@ -168,7 +168,7 @@ pub record Arrived (words places arriving : List ℕ) (before : Span) (found₀ 
     : Type 0 where
   pub inside : k ≤ length arriving
   pub few : found ≤ maxKinds + k
-  pub met : (w : ℕ → ℕ) → Listed arriving w → MetBelow words places w (maxLabels - length arriving) before found₀
+  pub met : (w : ℕ → ℕ) → LastLabels arriving w → MetBelow words places w (maxLabels - length arriving) before found₀
       → MetBelow words places w (maxLabels - length arriving + k) after found
 
 pub arrived-start : (words places arriving : List ℕ) (before : Span) (found : ℕ) → found ≤ maxKinds
@@ -203,7 +203,7 @@ module _ {words places arriving : List ℕ} {before : Span} {found₀ k : ℕ} {
       subst (λ (b : ℕ). MetBelow words places w b now found) e (arrived .met w listed met)
 
 -- ---- a card
-amount-last : (links arriving : List ℕ) → Listed arriving (amount links arriving)
+amount-last : (links arriving : List ℕ) → LastLabels arriving (amount links arriving)
 amount-last links arriving k l =
     let first = maxLabels - length arriving in
     let e : first + k - first ≡ k = omega arith in

@@ -16,7 +16,7 @@ use lib.ListN.{length, length-append}
 use Rattle.bags.specs.Part.{Limit, Part, nothing, star, plus, optional, choice, all, link, Parts, none, more}
 use Rattle.bags.specs.Part.{RunNames, RunSingle}
 use Rattle.bags.specs.Flat.{RunFlat, RunHas}
-use Rattle.template.specs.Writer.{writePart, writeRun, RunWithinLimits}
+use Rattle.parts.specs.Writer.{writePart, writeRun, RunWithinLimits}
 
 -- The parts of one run, and then those of another.
 abbrev pub andThen : Parts → Parts → Parts

@@ -37,8 +37,8 @@ use Rattle.bags.proofs.Exact.{part-proper}
 use Rattle.board.specs.Grid.{bit, tally}
 use Rattle.board.proofs.Tally.{bit-true, bit-false, tally-zero, tally-hit, tally-miss, tally-le, tally-lt, tally-ext}
 use Rattle.board.proofs.Tally.{Lowest, none-or-lowest}
-use Rattle.script.specs.Runs.{kindIn, amount, KindsRise}
-use Rattle.script.proofs.Runs.{kinds-none, kinds-some, amount-counted}
+use Rattle.links.specs.Runs.{kindIn, amount, KindsRise}
+use Rattle.links.proofs.Runs.{kinds-none, kinds-some, amount-counted}
 use Rattle.flat.specs.Places.{lowAt, highAt, must, Surveyed}
 use Rattle.flat.specs.Meeting.{KindsUnder, linkAt, demanded, MetBelow, LinkMet, AllMet}
 
@@ -244,7 +244,7 @@ module _ {words : List ℕ} {p : Part} {places : List ℕ} {needed : ℕ} (s : S
       (λ b. b)
       (le-or-lt maxLabels k)
 
-  pub flat-at : (w : ℕ → ℕ) (i : ℕ)
+  flat-at : (w : ℕ → ℕ) (i : ℕ)
       → In i (interval p w) ↔ ((k : ℕ) → 0 < getD places k 0 → In i (linkAt words (getD places k 0) (w k)))
   unfolding linkAt
   flat-at w i = (
@@ -318,10 +318,10 @@ module _ {words : List ℕ} {p : Part} {places : List ℕ} {needed : ℕ} (s : S
             (eq-or-ne (lowAt words (getD places k 0)) 0))
 
   -- ---- names
-  pub place-named : (k : ℕ) → 0 < getD places k 0 → Names p k
+  place-named : (k : ℕ) → 0 < getD places k 0 → Names p k
   place-named k l = has-named p k _ _ (s .links k _ _ .1 (l, refl, refl))
 
-  pub named-place : (k : ℕ) → Names p k → 0 < getD places k 0
+  named-place : (k : ℕ) → Names p k → 0 < getD places k 0
   named-place k n = let (low, high, has) = named-has p k n in s .links k low high .0 has .0
 
   module _ (links arriving : List ℕ) (rise : KindsRise links) (few : length arriving ≤ maxKinds) (kinds : ℕ)

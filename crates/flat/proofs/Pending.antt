@@ -26,14 +26,14 @@ use Rattle.bags.specs.Part.{Parts, none, more, RunNames, RunSingle}
 use Rattle.bags.specs.Flat.{Flat, Has, RunFlat, RunHas}
 use Rattle.board.specs.Grid.{tally}
 use Rattle.board.proofs.Tally.{tally-none, tally-ext, tally-more}
-use Rattle.template.specs.Writer.{writeLimit, runLength, writePart, writeRun, RunWithinLimits}
-use Rattle.template.proofs.WriterPlaces.{Stands, stands-here, stands-after, stands-right}
-use Rattle.flat.specs.Places.{lowAt, highAt, must, Placed, Surveyed, Standing, codeSize, entered, mustAt}
+use Rattle.parts.specs.Writer.{writeLimit, runLength, writePart, writeRun, RunWithinLimits}
+use Rattle.parts.proofs.Stands.{Stands, stands-here, stands-after, stands-right}
+use Rattle.flat.specs.Places.{lowAt, highAt, must, LinkPlaces, Surveyed, Standing, codeSize, entered, mustAt}
 use Rattle.flat.proofs.Appending.{andThen, then-words, then-names, then-has, has-then, then-single, then-limits}
 use Rattle.flat.proofs.Appending.{then-flat, run-words}
 use Rattle.flat.proofs.Codes.{size-nothing, size-all, size-link, size-low, entered-link, entered-other}
 use Rattle.flat.proofs.Codes.{must-some, must-none, must-other}
-use Rattle.template.proofs.RoundTripWritten.{limit-read}
+use Rattle.parts.proofs.RoundTripWritten.{limit-read}
 
 -- ---- places
 
@@ -43,12 +43,12 @@ Linked words place low high = (0 < place) × (low ≡ lowAt words place) × (hig
 
 module _ (words places : List ℕ) (k : ℕ) where
   -- a label without a place
-  pub must-nowhere : getD places k 0 ≡ 0 → must words places k ≡ false
+  must-nowhere : getD places k 0 ≡ 0 → must words places k ≡ false
   unfolding must
   must-nowhere e = rw e
 
   -- a label with a place
-  pub must-there : (place : ℕ) → getD places k 0 ≡ place → 0 < place → must words places k ≡ ltb 0 (lowAt words place)
+  must-there : (place : ℕ) → getD places k 0 ≡ place → 0 < place → must words places k ≡ ltb 0 (lowAt words place)
   unfolding must
   must-there place e l = simp (e, lt-ltb 0 place l)
 
@@ -80,7 +80,7 @@ pub record Pending (words : List ℕ) (end : ℕ) (p : Part) (at : ℕ) (places 
     -- each link of the part is entered or in the run
     pub links : (k low : ℕ) (high : Limit) → Has p k low high
         ↔ (Linked words (getD places k 0) low high ⊎ RunHas ps k low high)
-    pub placed : Placed words places
+    pub placed : LinkPlaces words places
     pub count : needed ≡ tally (must words places) maxLabels
 
 -- Nothing is surveyed, and no label has a place.
@@ -108,7 +108,7 @@ pending-start {words} {core} {end} {p} places s full blank =
 
 module _ {words : List ℕ} {end : ℕ} {p : Part} {at : ℕ} {places : List ℕ} {needed : ℕ} where
   -- A nothing is passed.
-  pub pending-drop : {qs : Parts} → Pending words end p at places needed (more nothing qs)
+  pending-drop : {qs : Parts} → Pending words end p at places needed (more nothing qs)
       → Pending words end p (at + 1) places needed qs
   pending-drop {qs} h = record {
     standing = record {
@@ -129,7 +129,7 @@ module _ {words : List ℕ} {end : ℕ} {p : Part} {at : ℕ} {places : List ℕ
   }
 
   -- An all is opened: its parts are next.
-  pub pending-open : {rs qs : Parts} → Pending words end p at places needed (more (all rs) qs)
+  pending-open : {rs qs : Parts} → Pending words end p at places needed (more (all rs) qs)
       → Pending words end p (at + 2) places needed (andThen rs qs)
   pending-open {rs} {qs} h =
       let both = writeRun rs ++ writeRun qs in
@@ -197,7 +197,7 @@ module _ {words : List ℕ} {end : ℕ} {p : Part} {at : ℕ} {places : List ℕ
       (λ (n : k ≢ label). inl (subst (λ (m : ℕ). Linked words m a b) (entry-other k n) l))
       (eq-or-ne k label)
 
-  placed-next : end ≤ length words → Placed words (set places label at)
+  placed-next : end ≤ length words → LinkPlaces words (set places label at)
   placed-next inside = record {
     full = length-set places label at ∙ h .placed .full;
     inside = λ k l. ⊎-elim
@@ -244,7 +244,7 @@ module _ {words : List ℕ} {end : ℕ} {p : Part} {at : ℕ} {places : List ℕ
       ))
       (le-or-lt low 0)
 
-  pub pending-enter : end ≤ length words
+  pending-enter : end ≤ length words
       → Pending words end p (at + 4) (set places label at) (needed + mustAt words at) qs
   pending-enter inside = record {
     standing = record {

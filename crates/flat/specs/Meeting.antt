@@ -6,7 +6,7 @@
 -- MetBelow                  the labels below a bound are met
 -- LinkAsked, LinkMet        meeting one link; AllMet: what is left where a link is missing
 -- LeavingAsked, LeavingAs   going along the links from a card
--- Listed, ArrivingAsked, ArrivingAs   going along the counts of the last labels
+-- LastLabels, ArrivingAsked, ArrivingAs   going along the counts of the last labels
 -- Assumes nothing.
 use Prim.Native.Nat.{ℕ, _+_, _-_, _*_, _≤_, _<_}
 use mathlib.Core.Path.{_≡_}
@@ -21,8 +21,8 @@ use Rattle.bags.specs.Interval.{Interval, In, linkInterval, interval, othersZer
 use Rattle.bags.specs.Span.{view}
 use Rattle.bags.specs.declared.Span.{Span}
 use Rattle.board.specs.Grid.{bit, tally}
-use Rattle.script.specs.Runs.{kindIn, kindsIn, KindsRise}
-use Rattle.flat.specs.Places.{lowAt, highAt, must, Placed}
+use Rattle.links.specs.Runs.{kindIn, kindsIn, KindsRise}
+use Rattle.flat.specs.Places.{lowAt, highAt, must, LinkPlaces}
 use Rattle.flat.specs.declared.meet.Found.{Found}
 use Rattle.flat.specs.declared.meet.Leaving.{Leaving}
 use Rattle.flat.specs.declared.meet.Leaving.the-variants as leaving
@@ -31,7 +31,7 @@ use Rattle.flat.specs.declared.meet.Meeting.the-variants as meeting
 
 -- The places of links, a card's links sorted by kind, each of an outgoing kind, and counts of incoming kinds at most.
 pub record MeetAsked (words places links arriving : List ℕ) : Type 0 where
-  pub placed : Placed words places
+  pub placed : LinkPlaces words places
   pub rise : KindsRise links
   pub leaving : (i : ℕ) → 3 * i < length links → kindIn links i < maxKinds
   pub few : length arriving ≤ maxKinds
@@ -79,7 +79,7 @@ pub record AllMet (needed found : ℕ) (before after : Span) : Type 0 where
 
 -- The places of links, and a card's links sorted by kind, each of an outgoing kind.
 pub record LeavingAsked (words places links : List ℕ) : Type 0 where
-  pub placed : Placed words places
+  pub placed : LinkPlaces words places
   pub rise : KindsRise links
   pub leaving : (i : ℕ) → 3 * i < length links → kindIn links i < maxKinds
 
@@ -94,17 +94,17 @@ LeavingAs words places isOpen links (leaving.Met first) =
 
 -- The places of links, counts of incoming kinds at most, and no more links found than there are outgoing kinds.
 pub record ArrivingAsked (words places arriving : List ℕ) (found : ℕ) : Type 0 where
-  pub placed : Placed words places
+  pub placed : LinkPlaces words places
   pub few : length arriving ≤ maxKinds
   pub found-few : found ≤ maxKinds
 
 -- The list has the counts of the last labels.
-abbrev pub Listed : List ℕ → (ℕ → ℕ) → Type 0
-Listed arriving w = (k : ℕ) → k < length arriving → w (maxLabels - length arriving + k) ≡ getD arriving k 0
+abbrev pub LastLabels : List ℕ → (ℕ → ℕ) → Type 0
+LastLabels arriving w = (k : ℕ) → k < length arriving → w (maxLabels - length arriving + k) ≡ getD arriving k 0
 
 -- Where the labels before the last ones are met, all are.
 abbrev pub ArrivingAs : List ℕ → List ℕ → List ℕ → Found → Found → Type 0
 ArrivingAs words places arriving before after =
-    (w : ℕ → ℕ) → Listed arriving w
+    (w : ℕ → ℕ) → LastLabels arriving w
     → MetBelow words places w (maxLabels - length arriving) (before .span) (before .found)
     → MetBelow words places w maxLabels (after .span) (after .found)

@@ -1,7 +1,7 @@
 -- Where the links of a flat part stand in a template's words; no part of a promise.
 -- lowAt, highAt   the low and the high of the link at a place
 -- must            whether a label has a link that must be there: a place, and a low above 0
--- Placed          a list has the place of each label's link, or 0
+-- LinkPlaces      a list has the place of each label's link, or 0
 -- Surveyed        a part is flat, its links are placed, and so many of them must be there
 -- Standing        a part's words stand between two places, and the part obeys the format
 -- SurveyAsked, SurveyedAs   what a survey asks, and what its answer says
@@ -20,7 +20,7 @@ use Rattle.words.specs.Limits.{maxLabels, maxTemplate}
 use Rattle.bags.specs.Part.{Limit, Part, Names, Single, limitOf}
 use Rattle.bags.specs.Flat.{Flat, Has}
 use Rattle.board.specs.Grid.{bit, tally}
-use Rattle.template.specs.Writer.{writePart, WithinLimits}
+use Rattle.parts.specs.Writer.{writePart, WithinLimits}
 use Rattle.flat.specs.declared.survey.Survey.{Survey}
 use Rattle.flat.specs.declared.survey.Survey.the-variants as survey
 
@@ -36,14 +36,14 @@ unfoldable pub must : List ℕ → List ℕ → ℕ → Bool
 must words places k = ltb 0 (getD places k 0) && ltb 0 (lowAt words (getD places k 0))
 
 -- An entry for each label: the place of its link, whose words are there, or 0.
-pub record Placed (words : List ℕ) (places : List ℕ) : Type 0 where
+pub record LinkPlaces (words : List ℕ) (places : List ℕ) : Type 0 where
   pub full : length places ≡ maxLabels
   pub inside : (k : ℕ) → 0 < getD places k 0 → getD places k 0 + 3 < length words
 
 -- A flat part, the places of its links, and the number of those that must be there.
 pub record Surveyed (words : List ℕ) (p : Part) (places : List ℕ) (needed : ℕ) : Type 0 where
   pub flat : Flat p
-  pub placed : Placed words places
+  pub placed : LinkPlaces words places
   pub links : (k low : ℕ) (high : Limit) → Has p k low high
       ↔ ((0 < getD places k 0) × (low ≡ lowAt words (getD places k 0)) × (high ≡ highAt words (getD places k 0)))
   pub count : needed ≡ tally (must words places) maxLabels

@@ -3,7 +3,7 @@
 ghost use Prim.Native.Nat.{ℕ, _<_};
 ghost use mathlib.Core.Path.{_≡_};
 ghost use Rattle.bags.specs.Part.{Part};
-ghost use Rattle.script.specs.Runs.{amount};
+ghost use Rattle.links.specs.Runs.{amount};
 ghost use Rattle.flat.specs.Places.{Surveyed};
 ghost use Rattle.flat.specs.Meeting.{MeetAsked, KindsUnder, MetAs, demanded, LinkAsked, LinkMet, AllMet};
 ghost use Rattle.flat.specs.Meeting.{LeavingAsked, LeavingAs, ArrivingAsked, ArrivingAs};
@@ -11,7 +11,7 @@ use bags::Span;
 use bags::TOP;
 use bags::link_span;
 use bags::meet_span;
-use script::run_length;
+use links::run_length;
 use words::MAX_LABELS;
 use words::wide;
 

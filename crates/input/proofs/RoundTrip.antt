@@ -18,12 +18,13 @@ use lib.Dec.{ltb}
 use borrow.Author.Tests.{ltb-false}
 use lib.Seq.{take-at, drop-at, getD-at, take-suc, getD-drop, drop-drop}
 use Rattle.words.specs.Limits.{maxInput}
-use Rattle.words.specs.Reading.{accepted}
+use Rattle.words.specs.Bytes.{writeWords}
+use Rattle.words.specs.Reading.{Reading, accepted, refuse}
 use Rattle.words.proofs.Places.{card-of, shape-of}
-use Rattle.words.proofs.Readings.{accepted-same, passed}
+use Rattle.words.proofs.Readings.{accepted-same, passed, then-accepted}
 use Rattle.input.specs.Input.{wordAt, wordsFrom, sectionEnd, sectionWords, scriptStart, bookingsStart, inputEnd}
-use Rattle.input.specs.Input.{Input, inputOf, readInput}
-use Rattle.input.specs.Writer.{writeWords, section, inputWords, writeInput, InputFormed, Bytes}
+use Rattle.input.specs.Input.{Input, inputOf, readFront, readInput}
+use Rattle.input.specs.Writer.{section, inputWords, writeInput, InputFormed, Bytes}
 use Rattle.input.proofs.Inputs.{reads-sections, same-input}
 use Rattle.input.proofs.Words.{words-length}
 
@@ -40,7 +41,7 @@ word-at (w ∷ ws) (suc k) =
     let f : 2 * suc k + 1 ≡ suc (suc (2 * k + 1)) = omega arith in
     rw (f, e) (word-at ws k)
 
-pub words-from : (ws : List ℕ) (a n : ℕ) → a + n ≤ length ws → wordsFrom (writeWords ws) (2 * a) n ≡ take n (drop a ws)
+words-from : (ws : List ℕ) (a n : ℕ) → a + n ≤ length ws → wordsFrom (writeWords ws) (2 * a) n ≡ take n (drop a ws)
 unfolding wordsFrom
 words-from ws a zero l = refl
 words-from ws a (suc n) l =
@@ -153,7 +154,7 @@ words-split bytes at m (suc n) =
     ∙ append-assoc (wordsFrom bytes at m) (wordsFrom bytes (at + 2 * m) n) (wordAt bytes (at + 2 * (m + n)) ∷ []))
 
 -- A section of bytes, as words: its count and its words.
-pub words-section : (bytes : List ℕ) (at : ℕ)
+words-section : (bytes : List ℕ) (at : ℕ)
     → wordsFrom bytes at (1 + wordAt bytes at) ≡ section (sectionWords bytes at)
 unfolding wordsFrom sectionWords
 words-section bytes at =
@@ -193,7 +194,7 @@ word-back a b l =
     let some : 0 < 256 = omega arith in
     (ap (λ (x : ℕ). x % 256) e ∙ shape-of 256 some b a l, ap (λ (x : ℕ). x / 256) e ∙ card-of 256 some b a l)
 
-pub rewritten : (n : ℕ) (bytes : List ℕ) → length bytes ≡ 2 * n → Bytes bytes
+rewritten : (n : ℕ) (bytes : List ℕ) → length bytes ≡ 2 * n → Bytes bytes
     → bytes ≡ writeWords (wordsFrom bytes 0 n)
 unfolding wordsFrom
 rewritten zero [] e h = refl
@@ -212,17 +213,19 @@ module _ (bytes : List ℕ) (i : Input) (read : readInput bytes ≡ accepted i) 
   passed-all : (length bytes ≤ maxInput) × (length bytes ≡ inputEnd bytes)
       × (inputOf (sectionWords bytes 0) (sectionWords bytes (scriptStart bytes))
       (sectionWords bytes (bookingsStart bytes)) ≡ i)
-  unfolding readInput
+  unfolding readFront readInput
   passed-all =
-      let (long, e1) = passed 60 0 (ltb maxInput (length bytes)) _ i read in
-      let (no-template, e2) = passed 60 0 (ltb (length bytes) 2) _ i e1 in
-      let (no-script, e3) = passed 60 0 (ltb (length bytes) (scriptStart bytes + 2)) _ i e2 in
-      let (no-bookings, e4) = passed 60 0 (ltb (length bytes) (bookingsStart bytes + 2)) _ i e3 in
-      let (early, e5) = passed 60 0 (ltb (length bytes) (inputEnd bytes)) _ i e4 in
-      let (goes-on, e6) = passed 60 0 (ltb (inputEnd bytes) (length bytes)) _ i e5 in
+      let after : Input → Reading Input = λ j. refuse 60 0 (ltb (inputEnd bytes) (length bytes)) (accepted j) in
+      let (front, e0, rest) = then-accepted (readFront maxInput bytes) after i read in
+      let (long, e1) = passed 60 0 (ltb maxInput (length bytes)) _ front e0 in
+      let (no-template, e2) = passed 60 0 (ltb (length bytes) 2) _ front e1 in
+      let (no-script, e3) = passed 60 0 (ltb (length bytes) (scriptStart bytes + 2)) _ front e2 in
+      let (no-bookings, e4) = passed 60 0 (ltb (length bytes) (bookingsStart bytes + 2)) _ front e3 in
+      let (early, e5) = passed 60 0 (ltb (length bytes) (inputEnd bytes)) _ front e4 in
+      let (goes-on, e6) = passed 60 0 (ltb (inputEnd bytes) (length bytes)) _ i rest in
       let low = ltb-false (length bytes) (inputEnd bytes) early in
       let high = ltb-false (inputEnd bytes) (length bytes) goes-on in
-      (ltb-false maxInput (length bytes) long, omega arith, accepted-same e6)
+      (ltb-false maxInput (length bytes) long, omega arith, accepted-same e5 ∙ accepted-same e6)
 
   -- the words of the three sections, their counts among them
   abbrev words-in : ℕ
@@ -271,7 +274,7 @@ module _ (bytes : List ℕ) (i : Input) (read : readInput bytes ≡ accepted i) 
       }
 
 -- Words of 16 bits are written as bytes.
-pub written-bytes : (ws : List ℕ) → ((k : ℕ) → getD ws k 0 < 65536) → Bytes (writeWords ws)
+written-bytes : (ws : List ℕ) → ((k : ℕ) → getD ws k 0 < 65536) → Bytes (writeWords ws)
 written-bytes [] h p = omega arith
 written-bytes (w ∷ ws) h zero = mod-lt w (omega arith)
 written-bytes (w ∷ ws) h (suc zero) =

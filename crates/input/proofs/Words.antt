@@ -3,15 +3,17 @@
 --   words-split    some words, and those after them
 --   part-words     a part of the words of all bytes is the words from its place on
 --   section-words  a section of the input, as a part of its words
+--   part-lent      what is lent from a section's first word up to its end is the section's part
+--   parts-in       sections of an input are parts of a buffer that has room for its words
 -- Assumes nothing.
-use Prim.Native.Nat.{ℕ, zero, suc, _+_, _-_, _*_, _/_}
+use Prim.Native.Nat.{ℕ, zero, suc, _+_, _-_, _*_, _/_, _≤_}
 use mathlib.Core.Path.{_≡_, refl, sym, ap, ap₂, _∙_}
 use mathlib.Core.List.{List, [], _∷_, _++_, append-assoc, append-nil}
 use native.Mathlib.Omega.{arith}
 use lib.ListN.{length, take, drop, length-append, take-append-drop}
 use lib.Seq.{take-at, drop-at}
 use Rattle.input.specs.Input.{wordAt, wordsFrom}
-use Rattle.input.specs.Machine.{Decoded, wordsIn, Within}
+use Rattle.input.specs.Machine.{Decoded, wordsIn, partIn, Parts, Within}
 use Rattle.input.specs.declared.Section.{Section}
 
 module _ (bytes : List ℕ) where
@@ -47,7 +49,7 @@ module _ (bytes : List ℕ) where
       ∙ take-at part (back ++ after) k (words-length (2 * a) k)
 
 pub section-words : (bytes words : List ℕ) (s : Section) → Decoded bytes 0 (length bytes / 2) words → Within bytes s
-    → take (s .count) (drop (s .at / 2) words) ≡ wordsIn bytes s
+    → partIn words s ≡ wordsIn bytes s
 section-words bytes words s d w =
     let a = s .at / 2 in
     let k = s .count in
@@ -59,3 +61,17 @@ section-words bytes words s d w =
     ap (λ (l : List ℕ). take k (drop a l)) split
     ∙ part-words bytes a k (n - (a + k)) (drop n words)
     ∙ ap (λ (p : ℕ). wordsFrom bytes p k) (sym (w .even))
+
+pub part-lent : (words : List ℕ) (s : Section)
+    → take (s .at / 2 + s .count - s .at / 2) (drop (s .at / 2) words) ≡ partIn words s
+part-lent words s =
+    let size : s .at / 2 + s .count - s .at / 2 ≡ s .count = omega arith in
+    ap (λ (n : ℕ). take n (drop (s .at / 2) words)) size
+
+pub parts-in : (bytes words : List ℕ) (first second third : Section) → length bytes ≤ 2 * length words
+    → Within bytes first → Within bytes second → Within bytes third → Parts words first second third
+parts-in bytes words first second third room f s t = record {
+  template = omega (arith, f .ends, f .even);
+  script = omega (arith, s .ends, s .even);
+  bookings = omega (arith, t .ends, t .even);
+}

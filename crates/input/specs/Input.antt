@@ -2,14 +2,16 @@
 -- wordAt, wordsFrom          words of 16 bits in bytes, low byte first
 -- sectionEnd, sectionWords   a section that starts at a byte with its count of words
 -- scriptStart, bookingsStart, inputEnd   where the sections start and end
--- Input, readInput           the words of the three sections, or the refusal 60
+-- Input                      the words of the three sections
+-- readFront                  these at the front of an input, or the refusal 60
+-- readInput                  these alone, or the refusal 60
 -- Assumes nothing.
 use Prim.Native.Nat.{ℕ, zero, suc, _+_, _*_}
 use mathlib.Core.List.{List, [], _∷_, _++_}
 use lib.Dec.{ltb}
 use lib.ListN.{length, getD}
 use Rattle.words.specs.Limits.{maxInput}
-use Rattle.words.specs.Reading.{Reading, accepted, refuse}
+use Rattle.words.specs.Reading.{Reading, accepted, refuse, then}
 
 -- The word at a byte: its low byte comes first.
 unfoldable pub wordAt : List ℕ → ℕ → ℕ
@@ -47,15 +49,19 @@ pub record Input : Type 0 where
 abbrev pub inputOf : List ℕ → List ℕ → List ℕ → Input
 inputOf template script bookings = record { template = template; script = script; bookings = bookings }
 
--- 60: the input passes 65,536 bytes; it ends before the template's count, before the script's, before the bookings',
--- before their last word; it goes on past that.
-unfoldable pub readInput : List ℕ → Reading Input
-readInput bytes =
-    refuse 60 0 (ltb maxInput (length bytes))
+-- Of an input of at most so many bytes. 60: it passes that; it ends before the template's count, before the script's,
+-- before the bookings', before their last word.
+unfoldable pub readFront : ℕ → List ℕ → Reading Input
+readFront most bytes =
+    refuse 60 0 (ltb most (length bytes))
     (refuse 60 0 (ltb (length bytes) 2)
     (refuse 60 0 (ltb (length bytes) (scriptStart bytes + 2))
     (refuse 60 0 (ltb (length bytes) (bookingsStart bytes + 2))
     (refuse 60 0 (ltb (length bytes) (inputEnd bytes))
-    (refuse 60 0 (ltb (inputEnd bytes) (length bytes))
     (accepted (inputOf (sectionWords bytes 0) (sectionWords bytes (scriptStart bytes))
-    (sectionWords bytes (bookingsStart bytes)))))))))
+    (sectionWords bytes (bookingsStart bytes))))))))
+
+-- Of the printer's input, of at most 65,536 bytes. 60: it goes on past the bookings.
+unfoldable pub readInput : List ℕ → Reading Input
+readInput bytes =
+    then (readFront maxInput bytes) (λ i. refuse 60 0 (ltb (inputEnd bytes) (length bytes)) (accepted i))

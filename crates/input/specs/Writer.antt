@@ -1,21 +1,16 @@
 -- Writing the printer's input: the bytes of three lists of words (docs/FORMAT.md, "The printer"). Used only by
 -- theorems; no part of a promise of a call.
--- writeWords      words of 16 bits as bytes, low byte first
 -- section         a list of words after its count
 -- inputWords, writeInput   the three sections one after the other, as words and as bytes
 -- InputFormed     what an input must be
 -- Bytes           each number of a list is a byte
 -- Assumes nothing.
-use Prim.Native.Nat.{ℕ, _*_, _/_, _%_, _≤_, _<_}
-use mathlib.Core.List.{List, [], _∷_, _++_}
+use Prim.Native.Nat.{ℕ, _*_, _≤_, _<_}
+use mathlib.Core.List.{List, _∷_, _++_}
 use lib.ListN.{length, getD}
 use Rattle.words.specs.Limits.{maxInput}
+use Rattle.words.specs.Bytes.{writeWords}
 use Rattle.input.specs.Input.{Input}
-
--- The low byte of each word, and then its high byte.
-abbrev pub writeWords : List ℕ → List ℕ
-writeWords [] = []
-writeWords (w ∷ ws) = w % 256 ∷ w / 256 ∷ writeWords ws
 
 -- A list of words after its count.
 abbrev pub section : List ℕ → List ℕ

@@ -1,10 +1,12 @@
-// The printer's input: finding its three sections in bytes, and decoding their words.
+// The printer's input: finding its three sections in bytes, and decoding their words. They also start the input of
+// another program.
 ghost use mathlib.Core.Path.{_≡_};
 ghost use Prim.Native.Nat.{_+_, _*_, _≤_, _<_};
 ghost use lib.ListN.{length};
 ghost use Rattle.words.specs.Bounded.{Bounded};
-ghost use Rattle.input.specs.Input.{wordAt, readInput};
-ghost use Rattle.input.specs.Machine.{Decodes, Decoded, sectionsRead, Inside};
+ghost use Rattle.input.specs.Input.{wordAt, readFront, readInput};
+ghost use Rattle.input.specs.Machine.{Decodes, Decoded, sectionsRead, FrontInside};
+ghost use Rattle.input.specs.Machine.{SectionsInside};
 use words::MAX_INPUT;
 use words::wide;
 
@@ -28,7 +30,7 @@ fn word(low: u8, high: u8) -> u16
 }
 
 // The word at a byte.
-fn word_at(bytes: &[u8], at: usize) -> u16
+pub fn word_at(bytes: &[u8], at: usize) -> u16
     requires { ⌜ at + 2 ≤ length (now bytes) ⌝ }
     ensures { λ r. ⌜ r ≡ wordAt (now (bytes .entry)) at ⌝ }
 {
@@ -48,19 +50,19 @@ pub fn decode(bytes: &[u8], at: usize, count: usize, words: &mut [u16])
 }
 
 // How many words a section has whose count stands at a byte.
-fn count_at(bytes: &[u8], at: usize) -> usize
+pub fn count_at(bytes: &[u8], at: usize) -> usize
     requires { ⌜ at + 2 ≤ length (now bytes) ⌝ }
     ensures { λ r. ⌜ Bounded 65536 (wordAt (now (bytes .entry)) at) r ⌝ }
 {
     wide(word_at(bytes, at))
 }
 
-// Finds the three sections of the input.
-pub fn find_sections(bytes: &[u8]) -> Sections
-    ensures reads { λ r. ⌜ readInput (now (bytes .entry)) ≡ sectionsRead (now (bytes .entry)) r ⌝ }
-    ensures inside { λ r. ⌜ Inside (now (bytes .entry)) r ⌝ }
+// Finds the three sections at the front of an input of at most so many bytes.
+pub fn find_front(bytes: &[u8], most: usize) -> Sections
+    ensures reads { λ r. ⌜ readFront most (now (bytes .entry)) ≡ sectionsRead (now (bytes .entry)) r ⌝ }
+    ensures inside { λ r. ⌜ FrontInside most (now (bytes .entry)) r ⌝ }
 {
-    if MAX_INPUT < bytes.len() {
+    if most < bytes.len() {
         return Sections::Faulty;
     }
     if bytes.len() < 2 {
@@ -81,9 +83,6 @@ pub fn find_sections(bytes: &[u8]) -> Sections
     if bytes.len() < end {
         return Sections::Faulty;
     }
-    if end < bytes.len() {
-        return Sections::Faulty;
-    }
     let first = Section {
         at: 2,
         count: template,
@@ -97,4 +96,21 @@ pub fn find_sections(bytes: &[u8]) -> Sections
         count: bookings,
     };
     Sections::Found(first, second, third)
+}
+
+// Finds the three sections of the printer's input.
+pub fn find_sections(bytes: &[u8]) -> Sections
+    ensures reads { λ r. ⌜ readInput (now (bytes .entry)) ≡ sectionsRead (now (bytes .entry)) r ⌝ }
+    ensures inside { λ r. ⌜ SectionsInside (now (bytes .entry)) r ⌝ }
+{
+    let front = find_front(bytes, MAX_INPUT);
+    match front {
+        Sections::Faulty => Sections::Faulty,
+        Sections::Found(first, second, third) => {
+            if third.at + 2 * third.count < bytes.len() {
+                return Sections::Faulty;
+            }
+            Sections::Found(first, second, third)
+        }
+    }
 }

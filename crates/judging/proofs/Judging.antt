@@ -18,7 +18,7 @@ use Rattle.bookings.specs.Bookings.{cardAt, shapeAt}
 use Rattle.bookings.proofs.Accepted.{words-in}
 use Rattle.typing.specs.Needs.{metTest, Needs, Ready}
 use Rattle.typing.proofs.Boards.{board-lawful}
-use Rattle.search.specs.Walks.{HasAll}
+use Rattle.walks.specs.Walks.{HasAll}
 use Rattle.judging.specs.Judging.{MetAsked, PairAsked, HeldAsked}
 
 -- ---- a pair
@@ -59,6 +59,7 @@ booking-asked {bookings} {count} {shapes} {i} asked below =
     let (card-in, shape-in) = asked .booked-in i below in
     record {
       words = words-in (asked .sized) below;
+      few-shapes = asked .few-shapes;
       inside = omega (
         arith,
         place-in (asked .cards) shapes (cardAt bookings i) (shapeAt bookings i) card-in shape-in,

@@ -10,15 +10,15 @@ use mathlib.Core.Path.{_≡_}
 use mathlib.Core.List.{List}
 use mathlib.Core.Bool.{Bool, true, false}
 use lib.ListN.{length, getD}
+use Rattle.words.specs.Limits.{maxShapes}
 use Rattle.bags.specs.Label.{outgoing, incoming}
-use Rattle.script.specs.Index.{ArrivalsOf}
+use Rattle.links.specs.Index.{ArrivalsOf}
 use Rattle.board.specs.Grid.{on}
 use Rattle.bookings.specs.Bookings.{deskAt, cardAt, shapeAt}
-use Rattle.bookings.specs.Steps.{Sized, WordsIn}
+use Rattle.bookings.specs.Steps.{ListOf, WordsIn, BookingsIn}
 use Rattle.typing.specs.Needs.{metTest}
-use Rattle.search.specs.Walks.{LinksReady}
-use Rattle.search.specs.Follows.{RowAsked}
-use Rattle.search.specs.Closing.{BookingsIn}
+use Rattle.walks.specs.Walks.{LinksReady}
+use Rattle.walks.specs.Entries.{RowAsked}
 
 -- What testing the links lo up to hi by a row asks.
 pub record LeavingTested (script row : List ℕ) (shapes lo hi : ℕ) (grid : List ℕ) : Type 0 where
@@ -52,12 +52,14 @@ Failing script names shapes fits grid p =
 -- What looking for one booking in a grid asks.
 pub record PairAsked (bookings : List ℕ) (i shapes : ℕ) (grid : List ℕ) : Type 0 where
   pub words : WordsIn 3 bookings i
+  pub few-shapes : shapes ≤ maxShapes
   pub inside : cardAt bookings i * shapes + shapeAt bookings i < length grid
 
 -- What looking for all of them asks.
 pub record HeldAsked (bookings : List ℕ) (count shapes : ℕ) (grid : List ℕ) : Type 0 where
   pub cards : ℕ
-  pub sized : Sized 3 bookings count
+  pub sized : ListOf 3 bookings count
+  pub few-shapes : shapes ≤ maxShapes
   pub full : length grid ≡ cards * shapes
   pub booked-in : BookingsIn bookings cards shapes count
 

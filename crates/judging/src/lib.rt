@@ -9,13 +9,14 @@ ghost use Rattle.bags.specs.Label.{outgoing, incoming as arriving};
 ghost use Rattle.board.specs.Grid.{on};
 ghost use Rattle.bookings.specs.Bookings.{cardAt, shapeAt};
 ghost use Rattle.typing.specs.Needs.{metTest};
-ghost use Rattle.search.specs.Walks.{Leaving, Arriving, HasAll};
-ghost use Rattle.search.specs.Follows.{EntryGood, LedGood};
+ghost use Rattle.walks.specs.Walks.{Leaving, Arriving, HasAll};
+ghost use Rattle.walks.specs.Entries.{EntryGood, LedGood};
 ghost use Rattle.judging.specs.Judging.{LeavingTested, ArrivingTested, GridAsked, MetAsked, Failing};
 ghost use Rattle.judging.specs.Judging.{PairAsked, HeldAsked, Missing};
 use bookings::card_at;
 use bookings::desk_at;
 use bookings::shape_at;
+use walks::pair_place;
 use words::MAX_KINDS;
 use words::MAX_LABELS;
 use words::byte;
@@ -161,9 +162,9 @@ fn is_held(bookings: &[u16], i: usize, shapes: usize, grid: &[u8]) -> bool
     ensures { λ r. ⌜ r ≡ on (now (grid .entry))
         (cardAt (now (bookings .entry)) i * shapes + shapeAt (now (bookings .entry)) i) ⌝ }
 {
-    let card = wide(card_at(bookings, i));
-    let shape = wide(shape_at(bookings, i));
-    grid[card * shapes + shape] == 1
+    let card = card_at(bookings, i);
+    let shape = shape_at(bookings, i);
+    grid[pair_place(card, shapes, shape)] == 1
 }
 
 // Finds the first of so many bookings that is the desk's and that the grid does not hold: their count where there is

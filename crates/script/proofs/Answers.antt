@@ -18,7 +18,7 @@ use Rattle.words.specs.Said.{values}
 use Rattle.words.specs.Reading.{Reading, accepted, saidOf}
 use Rattle.words.proofs.Readings.{said-accepted}
 
-pub script-answer-unique : (a b : ScriptAnswer) → scriptSaid a ≡ scriptSaid b → a ≡ b
+script-answer-unique : (a b : ScriptAnswer) → scriptSaid a ≡ scriptSaid b → a ≡ b
 script-answer-unique (Counts n m) (Counts k l) e = cc
 script-answer-unique (Counts n m) (Refused k l) e = let z : _≡_ {A = ℕ} 0 1 = cc in absurd (omega arith)
 script-answer-unique (Refused n m) (Counts k l) e = let z : _≡_ {A = ℕ} 0 1 = cc in absurd (omega arith)

@@ -17,7 +17,7 @@ use lib.Seq.{take-add, drop-drop, drop-cons}
 use lib.Dec.{ltb, eqb}
 use borrow.Author.Tests.{lt-ltb, le-ltb, eq-eqb, ne-eqb}
 use Rattle.script.specs.Link.{fromAt, kindAt, toAt, cardWords, below}
-use Rattle.script.specs.Steps.{Ascending, Within}
+use Rattle.script.specs.Steps.{Ascending, LinksIn}
 use Rattle.words.proofs.Bools.{le-or-lt, one-or-none}
 use Rattle.script.proofs.Order.{StartsRise, starts-rise}
 
@@ -192,7 +192,7 @@ module _ (script : List ℕ) (m : ℕ) (rise : StartsRise script m) (size : 2 + 
 module _ (script : List ℕ) (m : ℕ) (a : Ascending script m) (c lo hi : ℕ)
     (l : lo ≡ below script c m) (h : hi ≡ below script (c + 1) m)
   where
-    pub part-within : Within script lo hi
+    pub part-within : LinksIn script lo hi
     part-within =
         let up = below-rises script m (starts-rise script m a) c in
         let top = below-le script (c + 1) m in

@@ -3,7 +3,7 @@
 -- links-next, links-refused, links-done                    the links one by one
 -- script-short, script-cards, script-links, script-size, script-links-read   the whole script
 -- ScriptNumber, script-numbers                             a script is refused with 20 to 25
--- Accepted, script-accepted                                what a script that is read has
+-- ScriptAccepted, script-accepted                          what a script that is read has
 -- Assumes nothing.
 use Prim.Native.Nat.{ℕ, zero, suc, _+_, _-_, _*_, _≤_, _<_}
 use mathlib.Core.Path.{_≡_, refl, sym, ap, subst}
@@ -23,7 +23,6 @@ use Rattle.script.specs.Link.{fromIndex, kindIndex, toIndex, fromAt, kin
 use Rattle.script.specs.Steps.{Ascending, afterLink}
 use Rattle.script.specs.declared.LinkTest.{LinkTest}
 use Rattle.script.specs.Script.{ScriptCounts, countsOf, readLinks, readScript}
-use Rattle.script.proofs.Order.{StartsRise, starts-rise}
 
 -- One link's test.
 module _ (kinds cards : ℕ) (script : List ℕ) (n i : ℕ) (done : Reading ScriptCounts) where
@@ -144,7 +143,7 @@ script-numbers kinds script =
     (links-numbers kinds (counts .cards) script (counts .links) 0 (accepted counts) tt))))
 
 -- What a link that passes its test has.
-record Passed (kinds cards : ℕ) (script : List ℕ) (i : ℕ) : Type 0 where
+record LinkPasses (kinds cards : ℕ) (script : List ℕ) (i : ℕ) : Type 0 where
   pub from-below : fromAt script i < cards
   pub kind-below : kindAt script i < kinds
   pub to-below : toAt script i < cards
@@ -152,7 +151,7 @@ record Passed (kinds cards : ℕ) (script : List ℕ) (i : ℕ) : Type 0 where
 
 links-passed : (kinds cards : ℕ) (script : List ℕ) (n i : ℕ) (done : Reading ScriptCounts) (c : ScriptCounts)
     → readLinks kinds cards script n i done ≡ accepted c
-    → (done ≡ accepted c) × ((k : ℕ) → i ≤ k → k < i + n → Passed kinds cards script k)
+    → (done ≡ accepted c) × ((k : ℕ) → i ≤ k → k < i + n → LinkPasses kinds cards script k)
 unfolding readLinks
 links-passed kinds cards script zero i done c e = (e, λ k a b. absurd (omega arith))
 links-passed kinds cards script (suc n) i done c e =
@@ -161,7 +160,7 @@ links-passed kinds cards script (suc n) i done c e =
     let (t, e3) = passed 23 (toIndex i) (leb cards (toAt script i)) _ c e2 in
     let (o, e4) = passed 25 (fromIndex i) (not (above script i)) _ c e3 in
     let (d, later) = links-passed kinds cards script n (suc i) done c e4 in
-    let here : Passed kinds cards script i = record {
+    let here : LinkPasses kinds cards script i = record {
       from-below = leb-false cards (fromAt script i) f;
       kind-below = leb-false kinds (kindAt script i) k;
       to-below = leb-false cards (toAt script i) t;
@@ -169,11 +168,11 @@ links-passed kinds cards script (suc n) i done c e =
     } in (
       d,
       λ j a b.
-          ⊎-elim (λ q. subst (Passed kinds cards script) q here) (λ l. later j l (omega arith)) (eq-or-lt-of-le a),
+          ⊎-elim (λ q. subst (LinkPasses kinds cards script) q here) (λ l. later j l (omega arith)) (eq-or-lt-of-le a),
     )
 
 -- What a script that is read with N cards and M links has.
-pub record Accepted (kinds : ℕ) (script : List ℕ) (N M : ℕ) : Type 0 where
+pub record ScriptAccepted (kinds : ℕ) (script : List ℕ) (N M : ℕ) : Type 0 where
   pub cards : N ≡ getD script 0 0
   pub links : M ≡ getD script 1 0
   pub cards-bound : N ≤ maxCards
@@ -183,10 +182,9 @@ pub record Accepted (kinds : ℕ) (script : List ℕ) (N M : ℕ) : Type 0 where
   pub kind-below : (i : ℕ) → i < M → kindAt script i < kinds
   pub to-below : (i : ℕ) → i < M → toAt script i < N
   pub ascending : Ascending script M
-  pub starts : StartsRise script M
 
 pub script-accepted : (kinds : ℕ) (script : List ℕ) (c : ScriptCounts) → readScript kinds script ≡ accepted c
-    → Accepted kinds script (c .cards) (c .links)
+    → ScriptAccepted kinds script (c .cards) (c .links)
 unfolding readScript
 script-accepted kinds script c e =
     let (two, e1) = passed 20 0 (ltb (length script) 2) _ c e in
@@ -200,7 +198,7 @@ script-accepted kinds script c e =
     let few : getD script 1 0 ≤ maxLinks = ltb-false maxLinks (getD script 1 0) m in
     let size : length script ≡ 2 + 3 * getD script 1 0 =
     eqb-true (length script) (2 + 3 * getD script 1 0) (not-false _ z) in
-    let at : (i : ℕ) → i < c .links → Passed kinds (getD script 0 0) script i =
+    let at : (i : ℕ) → i < c .links → LinkPasses kinds (getD script 0 0) script i =
     λ i l. p i (omega arith) (omega arith) in
     let up : Ascending script (c .links) = record {
       few = omega arith;
@@ -217,5 +215,4 @@ script-accepted kinds script c e =
       kind-below = λ i l. at i l .kind-below;
       to-below = λ i l. omega (arith, at i l .to-below);
       ascending = up;
-      starts = starts-rise script (c .links) up;
     }

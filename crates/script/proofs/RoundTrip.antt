@@ -16,7 +16,7 @@ use lib.ListN.{length, getD}
 use borrow.Author.Tests.{lt-ltb, ltb-true}
 use Rattle.words.specs.Reading.{Reading, accepted}
 use Rattle.words.proofs.Bools.{eq-or-ne}
-use Rattle.template.proofs.WriterPlaces.{Stands, stands-nil, stands-cons, stands-three, stands-append, stands-only}
+use Rattle.parts.proofs.Stands.{Stands, stands-nil, stands-cons, stands-three, stands-append, stands-only}
 use Rattle.script.specs.Link.{fromIndex, kindIndex, toIndex, fromAt, kindAt, toAt, greater, above}
 use Rattle.script.specs.Script.{ScriptCounts, countsOf, readLinks, readScript}
 use Rattle.script.specs.Writer.{Link, linkAt, writeLinks, writeScript, wordLinks, Before, LinkFormed}
@@ -51,19 +51,19 @@ to-word (l ∷ ls) (suc i) =
     ap (λ (n : ℕ). getD (writeLinks (l ∷ ls)) n 0) e ∙ to-word ls i
 
 module _ (cards : ℕ) (links : List Link) where
-  pub written-from : (i : ℕ) → fromAt (writeScript cards links) i ≡ linkAt links i .from
+  written-from : (i : ℕ) → fromAt (writeScript cards links) i ≡ linkAt links i .from
   unfolding fromAt
   written-from i =
       let e : fromIndex i ≡ suc (suc (3 * i)) = omega arith in
       ap (λ (n : ℕ). getD (writeScript cards links) n 0) e ∙ from-word links i
 
-  pub written-kind : (i : ℕ) → kindAt (writeScript cards links) i ≡ linkAt links i .kind
+  written-kind : (i : ℕ) → kindAt (writeScript cards links) i ≡ linkAt links i .kind
   unfolding kindAt
   written-kind i =
       let e : kindIndex i ≡ suc (suc (suc (3 * i))) = omega arith in
       ap (λ (n : ℕ). getD (writeScript cards links) n 0) e ∙ kind-word links i
 
-  pub written-to : (i : ℕ) → toAt (writeScript cards links) i ≡ linkAt links i .to
+  written-to : (i : ℕ) → toAt (writeScript cards links) i ≡ linkAt links i .to
   unfolding toAt
   written-to i =
       let e : toIndex i ≡ suc (suc (suc (suc (3 * i)))) = omega arith in

@@ -15,7 +15,7 @@ use Rattle.template.specs.Template.{Template, readTemplate, templateSays}
 use Rattle.template.proofs.Answers.{template-read, template-turned}
 use Rattle.script.specs.Link.{fromIndex, cardWords, below}
 use Rattle.script.specs.Script.{countsOf, readScript, scriptValues, readWith, scriptSays, cardLinks, linksStart}
-use Rattle.script.proofs.Reading.{Accepted, script-accepted}
+use Rattle.script.proofs.Reading.{ScriptAccepted, script-accepted}
 use Rattle.script.proofs.Answers.{script-read}
 
 pub script-counts : (template script : List ℕ) (kinds shapes : ℕ)
@@ -37,7 +37,7 @@ script-refused template script number place e = rw (template-turned template num
 pub record BothRead (template script : List ℕ) (N M : ℕ) : Type 0 where
   pub kinds : ℕ
   pub reading : readWith template script ≡ accepted (countsOf N M)
-  pub read : Accepted kinds script N M
+  pub read : ScriptAccepted kinds script N M
 
 pub both-read : (template script : List ℕ) (N M : ℕ) → values (N ∷ M ∷ []) ≡ scriptSays template script
     → BothRead template script N M

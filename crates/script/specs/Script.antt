@@ -60,7 +60,7 @@ unfoldable pub scriptSays : List ℕ → List ℕ → Said
 scriptSays template script = saidOf scriptValues (readWith template script)
 
 -- The words of a card's links: none if template or script is refused, or the card is not below the count of cards.
-abbrev pub linksOf : Reading ScriptCounts → List ℕ → ℕ → List ℕ
+abbrev linksOf : Reading ScriptCounts → List ℕ → ℕ → List ℕ
 linksOf (accepted counts) script card = cond (ltb card (counts .cards)) (cardWords script card (counts .links)) []
 linksOf (turnedDown number place) script card = []
 
@@ -69,7 +69,7 @@ cardLinks template script card = linksOf (readWith template script) script card
 
 -- The word of the script at which that part starts: 0 where template or script is refused, or the card is not below the
 -- count of cards; else the first word after those of the links that start at a card below.
-abbrev pub startOf : Reading ScriptCounts → List ℕ → ℕ → ℕ
+abbrev startOf : Reading ScriptCounts → List ℕ → ℕ → ℕ
 startOf (accepted counts) script card =
     cond (ltb card (counts .cards)) (fromIndex (below script card (counts .links))) 0
 startOf (turnedDown number place) script card = 0

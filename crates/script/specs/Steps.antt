@@ -1,18 +1,18 @@
 -- What the parts of the reading ask and leave behind; no part of a promise.
 -- afterLink   what the code's test of one link makes of the reading
--- LinkIn      a link stands in the script; Within: so do the links between two numbers
+-- LinkIn      a link stands in the script; LinksIn: so do the links between two numbers
 -- Ascending   the first m links stand in the script, each above the one before it
--- PartAsked   what finding a card's part asks
--- LinksAmong, LinkedMarked   what marking the cards that links touch asks, and what it leaves
+-- PartAsked   what finding a card's part asks; CardPart: what is found
 -- Assumes nothing.
 use Prim.Native.Nat.{ℕ, _+_, _*_, _≤_, _<_}
-use mathlib.Core.Bool.{true, cond}
+use mathlib.Core.Bool.{true}
 use mathlib.Core.Path.{_≡_}
 use mathlib.Core.List.{List}
-use lib.ListN.{length, getD}
+use lib.ListN.{length}
+use denote.Ref.{RefT, now}
 use Rattle.words.specs.Limits.{maxLinks}
 use Rattle.words.specs.Reading.{Reading, turnedDown}
-use Rattle.script.specs.Link.{fromAt, toAt, above, linked}
+use Rattle.script.specs.Link.{fromIndex, above, cardWords, below}
 use Rattle.script.specs.declared.LinkTest.{LinkTest}
 use Rattle.script.specs.Script.{ScriptCounts}
 
@@ -27,7 +27,7 @@ pub record LinkIn (script : List ℕ) (i : ℕ) : Type 0 where
   pub inside : 5 + 3 * i ≤ length script
 
 -- The links from link lo on and below link hi are in the script.
-pub record Within (script : List ℕ) (lo hi : ℕ) : Type 0 where
+pub record LinksIn (script : List ℕ) (lo hi : ℕ) : Type 0 where
   pub order : lo ≤ hi
   pub few : hi ≤ maxLinks
   pub end : 2 + 3 * hi ≤ length script
@@ -43,13 +43,8 @@ pub record PartAsked (script : List ℕ) (links card : ℕ) : Type 0 where
   pub ascending : Ascending script links
   pub small : card < 65536
 
--- The first m links are in the script, and start at and lead to cards below a number.
-pub record LinksAmong (script : List ℕ) (m cards : ℕ) : Type 0 where
-  pub within : Within script 0 m
-  pub from-in : (i : ℕ) → i < m → fromAt script i < cards
-  pub to-in : (i : ℕ) → i < m → toAt script i < cards
-
--- A mark for each card: 1 where one of the first m links touches it, else 0.
-pub record LinkedMarked (script : List ℕ) (m cards : ℕ) (marks : List ℕ) : Type 0 where
-  pub size : length marks ≡ cards
-  pub exact : (n : ℕ) → n < length marks → getD marks n 0 ≡ cond (linked script n m) 1 0
+-- The part of a lent script that a card's links are: its words, its block of memory, and where in the block it starts.
+pub record CardPart (script : RefT (List ℕ)) (links card : ℕ) (part : RefT (List ℕ)) : Type 0 where
+  pub list : now part ≡ cardWords (now script) card links
+  pub lent : part .ptr .0 ≡ script .ptr .0
+  pub place : part .ptr .1 ≡ fromIndex (below (now script) card links) * 2 + script .ptr .1

@@ -1,36 +1,18 @@
-// Reading a script (a graph): its cards (nodes) and links (edges), the links of a card, and the cards with links.
-//   index     where the links from each card start, and the links to each card as a chain
-//   count     how many links of a kind a card has, from it and to it
-//   alike     cards whose links have the same kinds
-mod alike;
-mod count;
-mod index;
-
-pub use alike::find_twins;
-use board::fill;
-pub use count::Counted;
-pub use count::count_arriving;
-pub use count::count_on;
-pub use count::run_length;
-pub use index::chain;
-pub use index::link_starts;
+// Reading a script (a graph): its cards (nodes) and links (edges), and the links of a card.
 use template::TemplateAnswer;
 use template::read_template;
+use words::Card;
 use words::MAX_CARDS;
 use words::MAX_LINKS;
 use words::wide;
 ghost use mathlib.Core.Path.{_≡_};
 ghost use Prim.Native.Nat.{ℕ, suc, _+_, _*_};
-ghost use lib.ListN.{length};
 ghost use Rattle.words.specs.Reading.{Reading, accepted, saidOf};
-ghost use Rattle.script.specs.Link.{fromIndex, greater, above, cardWords, below};
+ghost use Rattle.script.specs.Link.{greater, above, below};
 ghost use Rattle.script.specs.Answer.{scriptSaid};
 ghost use Rattle.script.specs.Script.{ScriptCounts, countsOf, readLinks, readScript, scriptValues, scriptSays};
 ghost use Rattle.script.specs.Script.{cardLinks, linksStart};
-ghost use Rattle.script.specs.Steps.{afterLink, LinkIn, Within, Ascending, PartAsked, LinksAmong, LinkedMarked};
-
-// The number of a card: it counts the script's cards from 0.
-pub struct Card(pub u16);
+ghost use Rattle.script.specs.Steps.{afterLink, LinkIn, LinksIn, Ascending, PartAsked, CardPart};
 
 // A script's counts of cards and of links, or what it is refused for: number and place.
 pub enum ScriptAnswer {
@@ -100,7 +82,7 @@ fn test_link(kinds: u16, cards: u16, script: &[u16], i: usize) -> LinkTest
 
 // Tests the links one by one: the counts, or the first refusal.
 fn read_links(kinds: u16, cards: u16, links: u16, script: &[u16]) -> ScriptAnswer
-    requires { ⌜ Within (now script) 0 links ⌝ }
+    requires { ⌜ LinksIn (now script) 0 links ⌝ }
     ensures { λ r. ⌜ scriptSaid r
         ≡ saidOf scriptValues
         (readLinks kinds cards (now (script .entry)) links 0 (accepted (countsOf cards links))) ⌝ }
@@ -154,7 +136,7 @@ pub fn read_script(template: &[u16], script: &[u16]) -> ScriptAnswer
 }
 
 // How many of the links start at a card below `card`: a binary search.
-pub fn count_below(script: &[u16], links: usize, card: usize) -> usize
+fn count_below(script: &[u16], links: usize, card: usize) -> usize
     requires { ⌜ Ascending (now script) links ⌝ }
     ensures { λ r. ⌜ r ≡ below (now (script .entry)) card links ⌝ }
 {
@@ -172,12 +154,9 @@ pub fn count_below(script: &[u16], links: usize, card: usize) -> usize
 }
 
 // The links that start at a card, which lie side by side, as a part of an ascending script.
-pub fn card_part(script: &[u16], links: usize, card: usize) -> &[u16]
+fn card_part(script: &[u16], links: usize, card: usize) -> &[u16]
     requires { ⌜ PartAsked (now script) links card ⌝ }
-    ensures list { λ r. ⌜ now r ≡ cardWords (now (script .entry)) card links ⌝ }
-    ensures lent { λ r. ⌜ r .ptr .0 ≡ script .entry .ptr .0 ⌝ }
-    ensures place { λ r. ⌜ r .ptr .1
-        ≡ fromIndex (below (now (script .entry)) card links) * 2 + script .entry .ptr .1 ⌝ }
+    ensures { λ r. ⌜ CardPart (script .entry) links card r ⌝ }
 {
     let start = count_below(script, links, card);
     let end = count_below(script, links, card + 1);
@@ -202,21 +181,5 @@ pub fn links_of_card<'t, 's>(template: &'t [u16], script: &'s [u16], card: Card)
             card_part(script, wide(links), wide(number))
         }
         ScriptAnswer::Refused(_, _) => none,
-    }
-}
-
-// Marks the cards that a link touches: 1 where one starts at the card or leads to it, else 0, whatever it was before.
-pub fn mark_linked(script: &[u16], links: usize, linked: &mut [u8])
-    requires { ⌜ LinksAmong (now script) links (length (now linked)) ⌝ }
-    ensures { λ _. ⌜ LinkedMarked (now (script .entry)) links (length (now (linked .entry))) (now (linked .exit)) ⌝ }
-{
-    fill(linked, 0);
-    let mut i = 0;
-    while i < links {
-        let from = wide(script[2 + 3 * i]);
-        linked[from] = 1;
-        let to = wide(script[4 + 3 * i]);
-        linked[to] = 1;
-        i += 1;
     }
 }

@@ -36,8 +36,8 @@ sheet-numbers words list =
 
 -- The sheet's shapes are those of a template with so many kinds that is read, its links those of a script that is.
 pub record SheetAccepted (words : List ℕ) (kinds : ℕ) (s : Sheet) : Type 0 where
-  pub shapes : template.Accepted words (templateAs kinds (s .shapes) (s .parts))
-  pub links : script.Accepted kinds (s .script) (s .cards) (s .links)
+  pub shapes : template.TemplateAccepted words (templateAs kinds (s .shapes) (s .parts))
+  pub links : script.ScriptAccepted kinds (s .script) (s .cards) (s .links)
 
 module _ (words list : List ℕ) (t : Template) (c : ScriptCounts)
     (first : readTemplate words ≡ accepted t) (second : readScript (t .kinds) list ≡ accepted c) where

@@ -2,8 +2,8 @@
 -- ShapeAccepted       a shape that was read: its words, its part, and what the part obeys
 -- reads-shape         a shape that was read is so
 -- place-next          where a shape's count of words stands, from the one before
--- reads-shapes        each of so many shapes was read at its place, and the last ends where the words end
--- Accepted            an accepted template: its sizes, and for each shape the part and its place
+-- reads-shapes        each of so many shapes was read at its place
+-- TemplateAccepted    an accepted template: its sizes, and for each shape the part and its place
 -- template-accepted   a template that is accepted is so
 -- entry-past          its shapes have no entry for an incoming kind that is none of its own
 -- Assumes nothing.
@@ -21,15 +21,17 @@ use Rattle.bags.proofs.Naming.{OfKindBelow, names-kind, named-declares, declare
 use Rattle.words.specs.Limits.{maxKinds, maxShapes, maxTemplate, maxDepth}
 use Rattle.words.specs.Reading.{accepted}
 use Rattle.words.proofs.Readings.{accepted-same, passed, then-accepted}
-use Rattle.template.specs.declared.Sizes.{Sizes}
-use Rattle.template.specs.Reading.{Found, found, readPart}
-use Rattle.template.specs.Template.{Placed, placed, wholePart, noNames, readShape, readShapes, Template}
-use Rattle.template.specs.Template.{partAt, shapePlace, sizesOf, readTemplate}
+use Rattle.parts.specs.declared.Sizes.{Sizes}
+use Rattle.parts.specs.Placed.{Placed, placed}
+use Rattle.parts.specs.Reading.{Found, found, noNames, readPart}
+use Rattle.parts.proofs.Places.{reads-within}
+use Rattle.parts.proofs.Trees.{PartRead, reads-part}
+use Rattle.template.specs.Template.{wholePart, partAt, readShape, readShapes, shapePlace, Template, sizesOf}
+use Rattle.template.specs.Template.{readTemplate}
 use Rattle.template.specs.Machine.{entryAt, Tabled}
-use Rattle.template.proofs.Laws.{reads-within}
 use Rattle.template.proofs.Opening.{part-near}
-use Rattle.template.proofs.Trees.{LimitsOk, PartRead, reads-part}
-use Rattle.template.proofs.ShapeLaws.{shapes-first, shapes-last, shapes-length, template-shapes-read}
+use Rattle.template.proofs.ShapeLaws.{shapes-first, shapes-length}
+use Rattle.template.proofs.TemplateLaws.{template-shapes-read}
 
 -- A shape that was read, whose count of words stands at `at` and whose part ends at `end`.
 pub record ShapeAccepted (sizes : Sizes) (words : List ℕ) (at : ℕ) (p : Part) (end : ℕ) : Type 0 where
@@ -87,63 +89,43 @@ place-next words zero at = refl
 place-next words (suc n) at = place-next words n (at + 1 + getD words at 0)
 
 -- So many shapes that were read, from the one whose count of words stands at `at`.
-record ShapesAccepted (sizes : Sizes) (words : List ℕ) (count at : ℕ) (parts : List Part) : Type 0 where
-  pub each :
-      (t : ℕ) → t < count →
-      readShape sizes words (shapePlace words t at)
-      ≡ accepted (placed (getD parts t Part.nothing) (shapePlace words (suc t) at))
-  pub reached : length words ≤ shapePlace words count at
+abbrev EachRead : Sizes → List ℕ → ℕ → ℕ → List Part → Type 0
+EachRead sizes words count at parts =
+    (t : ℕ) → t < count →
+    readShape sizes words (shapePlace words t at)
+    ≡ accepted (placed (getD parts t Part.nothing) (shapePlace words (suc t) at))
 
 module _ (sizes : Sizes) (words : List ℕ) (b : sizes .kinds ≤ maxKinds) where
   each-shape :
-      (count at : ℕ) (head : Part) (tail : List Part) (t : ℕ) → t < suc count →
+      (count at : ℕ) (head : Part) (tail : List Part) →
       readShape sizes words at ≡ accepted (placed head (at + 1 + getD words at 0)) →
-      ShapesAccepted sizes words count (at + 1 + getD words at 0) tail →
-      readShape sizes words (shapePlace words t at)
-      ≡ accepted (placed (getD (head ∷ tail) t Part.nothing) (shapePlace words (suc t) at))
+      EachRead sizes words count (at + 1 + getD words at 0) tail → EachRead sizes words (suc count) at (head ∷ tail)
   unfolding shapePlace
-  each-shape count at head tail zero h e w = e
-  each-shape count at head tail (suc t) h e w = w .each t (omega arith)
+  each-shape count at head tail e w zero h = e
+  each-shape count at head tail e w (suc t) h = w t (omega arith)
 
-  -- Each of the shapes was read at its place, and the last ends where the words end.
+  -- Each of the shapes was read at its place.
   reads-shapes :
       (count at : ℕ) (all : Placed (List Part)) → readShapes sizes words count at ≡ accepted all →
-      ShapesAccepted sizes words count at (all .value)
-  unfolding shapePlace
-  reads-shapes zero at all e =
-      record { each = λ t h. absurd (omega arith); reached = shapes-last sizes words at all e .0 }
+      EachRead sizes words count at (all .value)
+  reads-shapes zero at all e = λ t h. absurd (omega arith)
   reads-shapes (suc count) at all e =
       let w = shapes-first sizes words count at all e in
       let stop = reads-shape sizes words b at (w .head) (w .first) .stop in
       let v = reads-shapes count (at + 1 + getD words at 0) (w .tail) (rw stop at (w .others)) in
       let first : readShape sizes words at ≡ accepted (placed (w .head .value) (at + 1 + getD words at 0))
       = w .first ∙ ap (λ (n : ℕ). accepted (placed (w .head .value) n)) stop in
-      rw (w .whole)
-      (record {
-        each = λ t h. each-shape count at (w .head .value) (w .tail .value) t h first v;
-        reached = v .reached;
-      })
+      rw (w .whole) (each-shape count at (w .head .value) (w .tail .value) first v)
 
 -- An accepted template: its counts, and a part for each shape.
-pub record Accepted (words : List ℕ) (t : Template) : Type 0 where
-  pub words-low : 2 ≤ length words
+pub record TemplateAccepted (words : List ℕ) (t : Template) : Type 0 where
   pub words-high : length words ≤ maxTemplate
-  pub kinds-word : t .kinds ≡ getD words 0 0
   pub kinds-low : 1 ≤ t .kinds
   pub kinds-high : t .kinds ≤ maxKinds
-  pub shapes-word : t .shapes ≡ getD words 1 0
   pub shapes-low : 1 ≤ t .shapes
   pub shapes-high : t .shapes ≤ maxShapes
   pub trees-length : length (t .parts) ≡ t .shapes
-  -- the shape s was read from its count of words on, and the next shape's count stands after its words
-  pub read :
-      (s : ℕ) → s < t .shapes →
-      readShape (sizesOf (t .kinds) (t .shapes)) words (shapePlace words s 2)
-      ≡ accepted (placed (getD (t .parts) s Part.nothing) (shapePlace words (suc s) 2))
-  pub next :
-      (s : ℕ) → shapePlace words (suc s) 2 ≡ shapePlace words s 2 + 1 + getD words (shapePlace words s 2) 0
-  pub last : shapePlace words (t .shapes) 2 ≡ length words
-  -- its words lie inside the template, and they are one part exactly, which obeys the format
+  -- the words of the shape s lie inside the template, and they are one part exactly, which obeys the format
   pub shape :
       (s : ℕ) → s < t .shapes →
       ShapeAccepted (sizesOf (t .kinds) (t .shapes)) words (shapePlace words s 2) (getD (t .parts) s Part.nothing)
@@ -152,48 +134,37 @@ pub record Accepted (words : List ℕ) (t : Template) : Type 0 where
   pub shapes-below : (s : ℕ) → s < t .shapes → ShapesBelow (t .shapes) (getD (t .parts) s Part.nothing)
   pub kinds-below : (s : ℕ) → s < t .shapes → KindsBelow (t .kinds) (getD (t .parts) s Part.nothing)
   pub depth-bound : (s : ℕ) → s < t .shapes → depth (getD (t .parts) s Part.nothing) ≤ maxDepth
-  pub limits : (s : ℕ) → s < t .shapes → LimitsOk (getD (t .parts) s Part.nothing)
 
 module _ (words : List ℕ) where
   shapes-accepted :
-      (t : Template) → 2 ≤ length words → length words ≤ maxTemplate → 1 ≤ t .kinds → t .kinds ≤ maxKinds →
-      1 ≤ t .shapes → t .shapes ≤ maxShapes → t .kinds ≡ getD words 0 0 → t .shapes ≡ getD words 1 0 →
-      (n : ℕ) →
+      (t : Template) → length words ≤ maxTemplate → 1 ≤ t .kinds → t .kinds ≤ maxKinds → 1 ≤ t .shapes →
+      t .shapes ≤ maxShapes → (n : ℕ) →
       readShapes (sizesOf (t .kinds) (t .shapes)) words (t .shapes) 2 ≡ accepted (placed (t .parts) n) →
-      Accepted words t
-  shapes-accepted t a b c d e f g h n r =
+      TemplateAccepted words t
+  shapes-accepted t high kinds-low kinds-high shapes-low shapes-high n r =
       let sizes = sizesOf (t .kinds) (t .shapes) in
-      let w = reads-shapes sizes words d (t .shapes) 2 (placed (t .parts) n) r in
+      let each = reads-shapes sizes words kinds-high (t .shapes) 2 (placed (t .parts) n) r in
       let shape
       : (s : ℕ) → s < t .shapes →
       ShapeAccepted sizes words (shapePlace words s 2) (getD (t .parts) s Part.nothing) (shapePlace words (suc s) 2)
-      = λ s i. reads-shape sizes words d (shapePlace words s 2)
-      (placed (getD (t .parts) s Part.nothing) (shapePlace words (suc s) 2)) (w .each s i) in
-      let x : suc (t .shapes - 1) ≡ t .shapes = omega arith in
-      let y : shapePlace words (t .shapes) 2 ≤ length words = rw x at (shape (t .shapes - 1) (omega arith) .inside) in
+      = λ s i. reads-shape sizes words kinds-high (shapePlace words s 2)
+      (placed (getD (t .parts) s Part.nothing) (shapePlace words (suc s) 2)) (each s i) in
       record {
-        words-low = a;
-        words-high = b;
-        kinds-word = g;
-        kinds-low = c;
-        kinds-high = d;
-        shapes-word = h;
-        shapes-low = e;
-        shapes-high = f;
+        words-high = high;
+        kinds-low = kinds-low;
+        kinds-high = kinds-high;
+        shapes-low = shapes-low;
+        shapes-high = shapes-high;
         trees-length = shapes-length sizes words (t .shapes) 2 (placed (t .parts) n) r;
-        read = w .each;
-        next = λ s. place-next words s 2;
-        last = omega (arith, w .reached);
         shape = shape;
         single = λ s i. shape s i .part .single;
         shapes-below = λ s i. shape s i .part .shapes;
         kinds-below = λ s i. shape s i .part .kinds;
         depth-bound = λ s i. shape s i .part .deep;
-        limits = λ s i. shape s i .part .limits;
       }
 
   -- A template that is accepted.
-  pub template-accepted : (t : Template) → readTemplate words ≡ accepted t → Accepted words t
+  pub template-accepted : (t : Template) → readTemplate words ≡ accepted t → TemplateAccepted words t
   unfolding readTemplate
   template-accepted t e =
       let kinds = getD words 0 0 in
@@ -207,9 +178,9 @@ module _ (words : List ℕ) where
       let (all, read, whole) =
       template-shapes-read kinds shapes (readShapes (sizesOf kinds shapes) words shapes 2) t e₆ in
       rw whole
-      (shapes-accepted (record { kinds = kinds; shapes = shapes; parts = all .value }) (ltb-false (length words) 2 low)
+      (shapes-accepted (record { kinds = kinds; shapes = shapes; parts = all .value })
       (ltb-false maxTemplate (length words) high) (ltb-false kinds 1 kinds-low) (ltb-false maxKinds kinds kinds-high)
-      (ltb-false shapes 1 shapes-low) (ltb-false maxShapes shapes shapes-high) refl refl (all .next) read)
+      (ltb-false shapes 1 shapes-low) (ltb-false maxShapes shapes shapes-high) (all .next) read)
 
 -- A label that a part does not name has no entry.
 unnamed-none : (p : Part) (k : ℕ) → (Names p k → ⊥) → named p k ≡ 0

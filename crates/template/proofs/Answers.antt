@@ -1,5 +1,4 @@
 -- What the contract of `read_template` leaves to no choice, and what it tells of the reading.
--- template-answer-unique   what an answer says tells the answer
 -- read-template-unique     two answers that the contract allows for the same words are equal
 -- template-read            the template that was read, and that the counts which are said are its own
 -- template-turned          the refusal, from what is said
@@ -17,7 +16,7 @@ use Rattle.template.specs.Answer.{templateSaid}
 use Rattle.template.specs.Template.{Template, readTemplate, templateValues, templateSays}
 
 -- What an answer says tells the answer.
-pub template-answer-unique : (a b : TemplateAnswer) → templateSaid a ≡ templateSaid b → a ≡ b
+template-answer-unique : (a b : TemplateAnswer) → templateSaid a ≡ templateSaid b → a ≡ b
 template-answer-unique (Counts k s) (Counts k' s') e =
     let p : k ≡ k' = cc in
     let q : s ≡ s' = cc in

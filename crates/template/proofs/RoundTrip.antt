@@ -18,16 +18,18 @@ use Rattle.words.specs.Limits.{maxKinds, maxShapes, maxTemplate}
 use Rattle.words.specs.Reading.{accepted}
 use Rattle.words.proofs.Readings.{passed}
 use Rattle.bags.specs.Part.{Part}
+use Rattle.parts.specs.Writer.{WithinLimits}
+use Rattle.parts.proofs.Stands.{Stands, stands-after, stands-all, stands-cons, stands-only}
+use Rattle.parts.proofs.RoundTripRead.{Holds}
 use Rattle.template.specs.Template.{readShapes, opens, Template, sizesOf, readTemplate}
-use Rattle.template.specs.Writer.{writeShapes, writeTemplate, WithinLimits, WellFormed}
-use Rattle.template.proofs.ShapeLaws.{template-shapes-read}
+use Rattle.template.specs.Writer.{writeShapes, writeTemplate, WellFormed}
+use Rattle.template.proofs.TemplateLaws.{template-shapes-read}
 use Rattle.template.proofs.Accepted.{template-accepted}
-use Rattle.template.proofs.WriterPlaces.{Stands, stands-after, stands-all, stands-cons, stands-only}
 use Rattle.template.proofs.RoundTripWritten.{shapes-written, shapes-open}
-use Rattle.template.proofs.RoundTripRead.{Holds, ShapesBack, shapes-back}
+use Rattle.template.proofs.RoundTripRead.{ShapesBack, shapes-back}
 
 -- The template of these counts and parts.
-abbrev pub template : ℕ → ℕ → List Part → Template
+abbrev template : ℕ → ℕ → List Part → Template
 template kinds shapes parts = record { kinds = kinds; shapes = shapes; parts = parts }
 
 module _ (kinds shapes : ℕ) (isOpen : ℕ → Bool) (parts : List Part) where
@@ -43,7 +45,7 @@ module _ (kinds shapes : ℕ) (isOpen : ℕ → Bool) (parts : List Part) where
   pub written-opens : (t : ℕ) → t < length parts → opens written t ≡ isOpen t
   written-opens t l = shapes-open written isOpen parts 2 shapes-stand t l
 
-pub written-is-read : (kinds shapes : ℕ) (isOpen : ℕ → Bool) (parts : List Part) → WellFormed kinds shapes isOpen parts
+written-is-read : (kinds shapes : ℕ) (isOpen : ℕ → Bool) (parts : List Part) → WellFormed kinds shapes isOpen parts
     → readTemplate (writeTemplate kinds shapes isOpen parts) ≡ accepted (template kinds shapes parts)
 unfolding readTemplate
 written-is-read kinds shapes isOpen parts w =
@@ -63,7 +65,6 @@ written-is-read kinds shapes isOpen parts w =
       read′,
     )
 
--- ---- and back
 -- What is known of the words of a template that is read, and of its parts.
 abbrev Back : List ℕ → Template → Type 0
 Back words t =
@@ -95,11 +96,11 @@ template-back words t e =
       limits,
     )
 
-pub read-is-written : (words : List ℕ) (t : Template) → readTemplate words ≡ accepted t
+read-is-written : (words : List ℕ) (t : Template) → readTemplate words ≡ accepted t
     → words ≡ writeTemplate (t .kinds) (t .shapes) (opens words) (t .parts)
 read-is-written words t e = template-back words t e .0
 
-pub read-is-formed : (words : List ℕ) (t : Template) → readTemplate words ≡ accepted t
+read-is-formed : (words : List ℕ) (t : Template) → readTemplate words ≡ accepted t
     → WellFormed (t .kinds) (t .shapes) (opens words) (t .parts)
 read-is-formed words t e =
     let a = template-accepted words t e in

@@ -17,17 +17,19 @@ use lib.Seq.{ext-getD, getD-take, getD-drop}
 use lib.Dec.{ltb}
 use Rattle.bags.specs.Part.{Part}
 use Rattle.bags.specs.Named.{named}
-use Rattle.template.specs.declared.Read.{Read}
-use Rattle.template.specs.declared.Read.the-variants.{Next, Refused}
-use Rattle.template.specs.declared.Sizes.{Sizes}
-use Rattle.template.specs.Template.{Placed, placed, noNames, readShape, readShapes}
-use Rattle.template.specs.Machine.{Tabled, readOf, RowNames}
 use Rattle.words.specs.Limits.{maxLabels, maxShapes}
 use Rattle.words.specs.Sizes.{tableSize}
 use Rattle.words.specs.Reading.{accepted}
 use Rattle.words.proofs.Bools.{bool-case}
 use Rattle.words.proofs.Cells.{put-before, put-inside, put-after}
-use Rattle.template.proofs.Trees.{no-entry}
+use Rattle.parts.specs.declared.Read.{Read}
+use Rattle.parts.specs.declared.Read.the-variants.{Next, Refused}
+use Rattle.parts.specs.declared.Sizes.{Sizes}
+use Rattle.parts.specs.Placed.{Placed, placed}
+use Rattle.parts.specs.Reading.{noNames}
+use Rattle.parts.proofs.Trees.{no-entry}
+use Rattle.template.specs.Template.{readShape, readShapes}
+use Rattle.template.specs.Machine.{readOf, ShapeAnswer, ShapesAnswer}
 use Rattle.template.proofs.ShapeLaws.{refused-read, shapes-next, shapes-refused, shapes-more, shapes-end}
 use Rattle.template.proofs.ShapeLaws.{FirstRead, shapes-first, shapes-length}
 
@@ -69,22 +71,21 @@ drop-first (suc t) [] a tail e = absurd (let z : _≡_ {A = ℕ} 0 1 = cc in ome
 drop-first zero (x ∷ xs) a tail e = (cc, cc)
 drop-first (suc t) (x ∷ xs) a tail e = drop-first t xs a tail e
 
-module _ (sizes : Sizes) (words : List ℕ) where
-  pub filling-start : (names : List ℕ) → names ≡ replicate tableSize 0 → Filling sizes words names 2 0
-  filling-start names e =
-      let z : sizes .shapes - 0 ≡ sizes .shapes = omega arith in
-      record {
-        size = ap length e ∙ length-replicate {A = ℕ} tableSize 0;
-        within = omega arith;
-        rest = λ j h. ap (λ (l : List ℕ). getD l j 0) e ∙ no-entry tableSize j;
-        answer = rw z;
-        left = λ all q. rw z q;
-        filled = λ all q s k h i. absurd (omega arith);
-      }
+pub filling-start :
+    (sizes : Sizes) (words names : List ℕ) → names ≡ replicate tableSize 0 → Filling sizes words names 2 0
+filling-start sizes words names e =
+    let z : sizes .shapes - 0 ≡ sizes .shapes = omega arith in
+    record {
+      size = ap length e ∙ length-replicate {A = ℕ} tableSize 0;
+      within = omega arith;
+      rest = λ j h. ap (λ (l : List ℕ). getD l j 0) e ∙ no-entry tableSize j;
+      answer = rw z;
+      left = λ all q. rw z q;
+      filled = λ all q s k h i. absurd (omega arith);
+    }
 
-  module _
-      (names : List ℕ) (at t : ℕ) (f : Filling sizes words names at t) (h : t < sizes .shapes)
-      (i : sizes .shapes ≤ maxShapes) where
+module _ {sizes : Sizes} {words names : List ℕ} {at t : ℕ} (f : Filling sizes words names at t) where
+  module _ (h : t < sizes .shapes) (i : sizes .shapes ≤ maxShapes) where
     row-bounds : (rowEnd t ≤ length names) × (rowSpan t ≡ maxLabels)
     row-bounds = omega (arith, f .size)
 
@@ -102,9 +103,8 @@ module _ (sizes : Sizes) (words : List ℕ) where
 
     -- The next shape was read into its row.
     module _
-        (row : List ℕ) (next : ℕ) (b : length row ≡ length (midOf (rowStart t) (rowSpan t) names))
-        (e : Next next ≡ readOf (readShape sizes words at))
-        (g : RowNames (readShape sizes words at) row) where
+        {r : Read} (row : List ℕ) (next : ℕ) (b : length row ≡ length (midOf (rowStart t) (rowSpan t) names))
+        (o : r ≡ Next next) (read : ShapeAnswer (readShape sizes words at) r row) where
       row-size : length row ≡ rowSpan t
       row-size = b ∙ mid-len (rowStart t) (rowEnd t) names (row-bounds .0)
 
@@ -121,7 +121,7 @@ module _ (sizes : Sizes) (words : List ℕ) where
           next ≡ next-first all q .head .next
       next-place all q =
           let w = next-first all q in
-          let r : Next next ≡ Next (w .head .next) = e ∙ ap readOf (w .first) in
+          let r : Next next ≡ Next (w .head .next) = sym o ∙ read .read ∙ ap readOf (w .first) in
           cc
 
       -- The shape that was read is the part of the shape t, and those after it are the rest.
@@ -164,7 +164,7 @@ module _ (sizes : Sizes) (words : List ℕ) where
           let x : s ≡ t = omega (arith, ltb-false s t o) in
           rw x
           (put-inside (rowStart t) (rowSpan t) names row k (omega (arith, row-bounds))
-          (omega (arith, row-size, row-bounds)) ∙ g (w .head) (w .first) k
+          (omega (arith, row-size, row-bounds)) ∙ read .names (w .head) (w .first) k
           ∙ ap (λ (p : Part). named p k) (sym (next-parts all q .0))))
 
       pub filling-next :
@@ -178,42 +178,40 @@ module _ (sizes : Sizes) (words : List ℕ) where
                 put-after (rowStart t) (rowEnd t) names row j (omega arith) (row-bounds .0) row-size (omega arith)
                 ∙ f .rest j (omega arith);
             answer =
-                shapes-next sizes words (sizes .shapes - (t + 1)) at next e
+                shapes-next sizes words (sizes .shapes - (t + 1)) at next (sym o ∙ read .read)
                 ∙ ap (λ (n : ℕ). readOf (readShapes sizes words n at)) (sym one-less) ∙ f .answer;
             left = next-left;
             filled = next-filled;
           }
 
-  -- The answer for all shapes, and what then holds of their parts.
-  abbrev ShapesRead : Read → (List Part → Type 0) → Type 0
-  ShapesRead r P =
-      (r ≡ readOf (readShapes sizes words (sizes .shapes) 2))
-      × ((all : Placed (List Part)) → readShapes sizes words (sizes .shapes) 2 ≡ accepted all → P (all .value))
-
-  -- Shapes that are refused have no parts.
+  -- Shapes that are refused have no parts, so any table does.
   no-parts :
-      (n p : ℕ) (P : List Part → Type 0) → Refused n p ≡ readOf (readShapes sizes words (sizes .shapes) 2) →
-      ShapesRead (Refused n p) P
-  no-parts n p P e = (e, λ all o. refused-read (readShapes sizes words (sizes .shapes) 2) all e o)
+      (n p : ℕ) (table : List ℕ) → Refused n p ≡ readOf (readShapes sizes words (sizes .shapes) 2) →
+      ShapesAnswer (readShapes sizes words (sizes .shapes) 2) (Refused n p) table
+  no-parts n p table e =
+      record { read = e; table = λ all o. refused-read (readShapes sizes words (sizes .shapes) 2) all e o }
 
-  module _ (P : List Part → Type 0) (names : List ℕ) (at t : ℕ) (f : Filling sizes words names at t) where
-    pub filling-refused :
-        (n p : ℕ) → t < sizes .shapes → Refused n p ≡ readOf (readShape sizes words at) →
-        ShapesRead (Refused n p) P
-    filling-refused n p h e =
-        let o : sizes .shapes - t ≡ suc (sizes .shapes - t - 1) = omega arith in
-        no-parts n p P
-        (shapes-refused sizes words (sizes .shapes - t - 1) at n p e
-        ∙ ap (λ (m : ℕ). readOf (readShapes sizes words m at)) (sym o) ∙ f .answer)
+  pub filling-refused :
+      {r : Read} {row : List ℕ} (n p : ℕ) (table : List ℕ) → t < sizes .shapes → r ≡ Refused n p →
+      ShapeAnswer (readShape sizes words at) r row →
+      ShapesAnswer (readShapes sizes words (sizes .shapes) 2) (Refused n p) table
+  filling-refused n p table h q read =
+      let o : sizes .shapes - t ≡ suc (sizes .shapes - t - 1) = omega arith in
+      no-parts n p table
+      (shapes-refused sizes words (sizes .shapes - t - 1) at n p (sym q ∙ read .read)
+      ∙ ap (λ (m : ℕ). readOf (readShapes sizes words m at)) (sym o) ∙ f .answer)
 
-    pub filling-more : sizes .shapes ≤ t → at < length words → ShapesRead (Refused 12 at) P
-    filling-more h i = no-parts 12 at P (shapes-more sizes words (sizes .shapes - t) at (omega arith) i ∙ f .answer)
+  pub filling-more :
+      sizes .shapes ≤ t → at < length words →
+      ShapesAnswer (readShapes sizes words (sizes .shapes) 2) (Refused 12 at) names
+  filling-more h i =
+      no-parts 12 at names (shapes-more sizes words (sizes .shapes - t) at (omega arith) i ∙ f .answer)
 
   pub filling-end :
-      (names : List ℕ) (at t : ℕ) → Filling sizes words names at t → sizes .shapes ≤ t → length words ≤ at →
-      ShapesRead (Next at) (λ parts. Tabled parts names)
-  filling-end names at t f h i = (
-    shapes-end sizes words (sizes .shapes - t) at (omega arith) i ∙ f .answer,
-    λ all q s k j l.
-        f .filled all q s k (omega (arith, shapes-length sizes words (sizes .shapes) 2 all q)) l,
-  )
+      sizes .shapes ≤ t → length words ≤ at →
+      ShapesAnswer (readShapes sizes words (sizes .shapes) 2) (Next at) names
+  filling-end h i = record {
+    read = shapes-end sizes words (sizes .shapes - t) at (omega arith) i ∙ f .answer;
+    table = λ all q s k j l.
+        f .filled all q s k (omega (arith, shapes-length sizes words (sizes .shapes) 2 all q)) l;
+  }

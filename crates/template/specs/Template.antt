@@ -1,6 +1,5 @@
 -- What reading a whole template finds (docs/FORMAT.md, "Templates"). Refusals stand in the order of their tests, a line
 -- each: the number, its place, and the test for it.
--- Placed                  what was read, and the next place
 -- openAt, partAt          whether a shape is open, and where its part starts
 -- readShape, readShapes   one shape, and so many shapes up to the template's end
 -- Template, readTemplate  a template that is read: its counts and a part for each shape
@@ -10,30 +9,15 @@
 use Prim.Native.Nat.{ℕ, zero, suc, _+_, _-_}
 use mathlib.Core.Bool.{Bool, cond}
 use mathlib.Core.List.{List, [], _∷_}
-use lib.ListN.{length, getD, replicate}
+use lib.ListN.{length, getD}
 use lib.Dec.{ltb, leb, eqb}
 use Rattle.words.specs.Said.{Said}
-use Rattle.words.specs.Limits.{maxKinds, maxLabels, maxShapes, maxTemplate, maxDepth}
+use Rattle.words.specs.Limits.{maxKinds, maxShapes, maxTemplate, maxDepth}
 use Rattle.words.specs.Reading.{Reading, accepted, refuse, then, mapped, saidOf}
 use Rattle.bags.specs.Part.{Part}
-use Rattle.template.specs.declared.Sizes.{Sizes}
-use Rattle.template.specs.Reading.{Found, found, readPart}
-
--- What was read, and the place after its words.
-pub record Placed (A : Type 0) : Type 0 where
-  pub value : A
-  pub next : ℕ
-
-abbrev pub placed : {A : Type 0} → A → ℕ → Placed A
-placed value next = record { value = value; next = next }
-
--- What was read becomes a part of something larger.
-abbrev pub onto : {A B : Type 0} → (A → B) → Placed A → Placed B
-onto f t = placed (f (t .value)) (t .next)
-
--- No label has been named yet.
-abbrev pub noNames : List ℕ
-noNames = replicate maxLabels 0
+use Rattle.parts.specs.declared.Sizes.{Sizes}
+use Rattle.parts.specs.Placed.{Placed, placed, onto}
+use Rattle.parts.specs.Reading.{Found, found, noNames, readPart}
 
 -- A shape's words are one part exactly. 12: words are left after it, at the first.
 abbrev pub wholePart : ℕ → Found Part → Reading (Placed Part)

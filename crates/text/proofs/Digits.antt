@@ -1,33 +1,18 @@
 -- Laws of a number's digits in base ten.
 --   digits-small, digits-more   below ten its own digit, else those of the tenth part and the rest
---   digits-value                read back they give the number
 --   digits-length, digits-bound there are at most 20, and at most k below 10^k
 -- Assumes nothing.
 use mathlib.Core.Path.{_≡_, refl, sym, ap, _∙_, subst}
 use mathlib.Core.Logic.{_⊎_, inl, inr, ⊎-elim}
 use mathlib.Core.List.{List, [], _∷_, _++_}
 use mathlib.Core.Bool.{Bool, true, false, cond}
-use Prim.Native.Nat.{ℕ, zero, suc, _+_, _*_, _-_, _/_, _%_, _^_, _≤_, _<_}
-use native.Mathlib.Nat.{div-lt-iff-lt-mul, div-add-mod, pow-suc}
+use Prim.Native.Nat.{ℕ, zero, suc, _+_, _-_, _/_, _%_, _^_, _≤_, _<_}
+use native.Mathlib.Nat.{div-lt-iff-lt-mul, pow-suc}
 use native.Mathlib.Omega.{arith}
 use lib.Dec.{ltb, lit<}
 use lib.ListN.{length, length-append}
 use borrow.Author.Tests.{ltb-true, ltb-false, lt-ltb, le-ltb}
 use Rattle.text.specs.Text.{digit, digitsBy, digits}
-
--- a number's value by its digits, the first one first
-unfoldable pub valueOnto : ℕ → List ℕ → ℕ
-valueOnto before [] = before
-valueOnto before (byte ∷ bytes) = valueOnto (10 * before + (byte - 48)) bytes
-
-unfoldable pub value : List ℕ → ℕ
-value bytes = valueOnto 0 bytes
-
-value-last : (before : ℕ) (bytes : List ℕ) (byte : ℕ)
-    → valueOnto before (bytes ++ (byte ∷ [])) ≡ 10 * valueOnto before bytes + (byte - 48)
-unfolding valueOnto
-value-last before [] byte = refl
-value-last before (first ∷ bytes) byte = value-last (10 * before + (first - 48)) bytes byte
 
 by-test : (n : ℕ) (b : Bool) → ltb n 10 ≡ b → (n < 10) ⊎ (10 ≤ n)
 by-test n true e = inl (ltb-true n 10 e)
@@ -73,21 +58,6 @@ digits-more n large h =
 pub digits-more-length : (n : ℕ) → 10 ≤ n → n < 10 ^ 20 → length (digits n) ≡ length (digits (n / 10)) + 1
 digits-more-length n large h =
     ap length (digits-more n large h) ∙ length-append (digits (n / 10)) (digit (n % 10) ∷ [])
-
-by-value : (k n : ℕ) → n < 10 ^ suc k → value (digitsBy (suc k) n) ≡ n
-unfolding value valueOnto
-by-value zero n h = ap value (by-small 0 n h) ∙ omega arith
-by-value (suc k) n h = ⊎-elim
-    (λ small. ap value (by-small (suc k) n small) ∙ omega arith)
-    (λ large.
-    ap value (by-more (suc k) n large)
-    ∙ value-last 0 (digitsBy (suc k) (n / 10)) (digit (n % 10))
-    ∙ omega (arith, by-value k (n / 10) (tenth-below (suc k) n h), div-add-mod n 10))
-    (below-ten n)
-
-pub digits-value : (n : ℕ) → n < 10 ^ 20 → value (digits n) ≡ n
-unfolding digits
-digits-value n h = by-value 19 n h
 
 by-length : (k n : ℕ) → length (digitsBy k n) ≤ k
 unfolding digitsBy

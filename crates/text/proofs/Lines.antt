@@ -5,8 +5,9 @@
 --   shapes-bound, card-bound, cards-bound   at most 107 bytes to a card's line
 --   card-length, two-length, largest-length, smallest-length, not-met-length, refused-length   of a line's pieces
 --   largest-bound, smallest-bound, not-met-bound, refused-bound   at most 71 bytes to any other line
+--   verdict-refused, pair-length, pair-bound, accepted-bound   the lines of a verdict
 -- Assumes nothing.
-use mathlib.Core.Path.{_≡_, sym, ap}
+use mathlib.Core.Path.{_≡_, refl, sym, ap}
 use mathlib.Core.List.{List, [], _∷_, _++_}
 use mathlib.Core.Bool.{Bool, true, false}
 use Prim.Native.Nat.{ℕ, zero, suc, _+_, _*_, _-_, _≤_, _<_}
@@ -14,10 +15,12 @@ use native.Mathlib.Nat.{le-refl, suc-mul, mul-le-mul-right}
 use native.Mathlib.Numerals.{add-one}
 use native.Mathlib.Omega.{arith}
 use lib.ListN.{length, getD, length-append}
+use Rattle.words.specs.Said.{values, refusal}
 use Rattle.board.specs.Grid.{on}
 use Rattle.board.proofs.Grids.{on-yes, on-no}
 use Rattle.text.specs.Text.{whenOn, digits, space, newline, shapeText, shapesText, cardLine, cardLines}
 use Rattle.text.specs.Text.{twoNumbers, largestLine, smallestLine, notMetLine, refusedLine}
+use Rattle.text.specs.Verdict.{verdictLine}
 use Rattle.text.proofs.Digits.{digits-length, digits-bound}
 
 pub shapes-next : (grid : List ℕ) (base t : ℕ)
@@ -82,7 +85,7 @@ when-bound : (b : Bool) (text : List ℕ) → length (whenOn b text) ≤ length 
 when-bound true text = le-refl (length text)
 when-bound false text = omega arith
 
-pub shapes-bound : (grid : List ℕ) (base t : ℕ) → t ≤ 100 → length (shapesText grid base t) ≤ 3 * t
+shapes-bound : (grid : List ℕ) (base t : ℕ) → t ≤ 100 → length (shapesText grid base t) ≤ 3 * t
 unfolding shapesText
 shapes-bound grid base zero h = omega arith
 shapes-bound grid base (suc t) h =
@@ -101,7 +104,7 @@ card-length grid shapes n =
     let row = shapesText grid (n * shapes) shapes in
     omega (arith, length-append (digits n) (58 ∷ (row ++ (newline ∷ []))), length-append row (newline ∷ []))
 
-pub card-bound : (grid : List ℕ) (shapes n : ℕ) → shapes ≤ 32 → n < 1024 → length (cardLine grid shapes n) ≤ 107
+card-bound : (grid : List ℕ) (shapes n : ℕ) → shapes ≤ 32 → n < 1024 → length (cardLine grid shapes n) ≤ 107
 card-bound grid shapes n hs hn =
     omega (
       arith,
@@ -162,3 +165,23 @@ not-met-bound card shape = omega (arith, not-met-length card shape, two-bound ca
 
 pub refused-bound : (number place : ℕ) → length (refusedLine number place) ≤ 50
 refused-bound number place = omega (arith, refused-length number place, two-bound number place)
+
+-- ---- of a verdict
+-- a refusal whose place is one number has the line of any refusal
+pub verdict-refused : (number place : ℕ) → refusedLine number place ≡ verdictLine (refusal number (place ∷ []))
+unfolding refusedLine twoNumbers verdictLine
+verdict-refused number place = refl
+
+pub pair-length : (number card shape : ℕ) → length (verdictLine (refusal number (card ∷ shape ∷ [])))
+    ≡ 9 + length (digits number) + length (twoNumbers card shape)
+unfolding verdictLine twoNumbers
+pair-length number card shape =
+    omega (arith, length-append (digits number) (space ∷ (digits card ++ (space ∷ (digits shape ++ (newline ∷ []))))))
+
+pub pair-bound : (number card shape : ℕ) → length (verdictLine (refusal number (card ∷ shape ∷ []))) ≤ 71
+pair-bound number card shape =
+    omega (arith, pair-length number card shape, digits-length number, two-bound card shape)
+
+pub accepted-bound : length (verdictLine (values [])) ≤ 71
+unfolding verdictLine
+accepted-bound = omega arith

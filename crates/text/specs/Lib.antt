@@ -1,3 +1,6 @@
--- Text: the lines of the output. Steps: what writing them asks; no part of a promise.
+-- The promise: Text, the lines of a sheet; Verdict, that of a verdict; Output, that an output is written. Steps: what
+-- writing asks and leaves; no part of a promise.
 pub mod Text
+pub mod Verdict
+pub mod Output
 pub mod Steps

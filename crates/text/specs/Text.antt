@@ -38,16 +38,16 @@ abbrev pub newline : ℕ
 newline = 10
 
 -- The words "largest ", "smallest ", "no ", "card ", "refused ".
-abbrev pub largestWord : List ℕ
+abbrev largestWord : List ℕ
 largestWord = 108 ∷ 97 ∷ 114 ∷ 103 ∷ 101 ∷ 115 ∷ 116 ∷ 32 ∷ []
 
-abbrev pub smallestWord : List ℕ
+abbrev smallestWord : List ℕ
 smallestWord = 115 ∷ 109 ∷ 97 ∷ 108 ∷ 108 ∷ 101 ∷ 115 ∷ 116 ∷ 32 ∷ []
 
-abbrev pub noWord : List ℕ
+abbrev noWord : List ℕ
 noWord = 110 ∷ 111 ∷ 32 ∷ []
 
-abbrev pub cardWord : List ℕ
+abbrev cardWord : List ℕ
 cardWord = 99 ∷ 97 ∷ 114 ∷ 100 ∷ 32 ∷ []
 
 abbrev pub refusedWord : List ℕ

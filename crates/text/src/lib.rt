@@ -1,13 +1,15 @@
-// Writing the text of a printed sheet into a lent buffer, a piece at a time, and finding the printer's input in bytes.
+// Writing the text of a printed sheet, or of a verdict, into a lent buffer, a piece at a time.
 ghost use mathlib.Core.List.{[], _∷_};
 ghost use Prim.Native.Nat.{_+_, _*_};
 ghost use Rattle.text.specs.Text.{digits, shapeText, shapesText, cardLine, cardLines, twoNumbers, largestLine};
 ghost use Rattle.text.specs.Text.{smallestLine, notMetLine, refusedLine};
+ghost use Rattle.text.specs.Verdict.{verdictLine};
 ghost use Rattle.text.specs.Steps.{Shows};
+ghost use Rattle.words.specs.Said.{values, refusal};
 ghost use Rattle.words.specs.Wrote.{Room, Wrote};
 
 // Writes a byte. Returns the next place, as the functions below do.
-pub fn put_byte(out: &mut [u8], at: usize, byte: u8) -> usize
+fn put_byte(out: &mut [u8], at: usize, byte: u8) -> usize
     requires { ⌜ Room (now out) at (byte ∷ []) ⌝ }
     ensures { λ r. ⌜ Wrote (now (out .entry)) at (byte ∷ []) (now (out .exit)) r ⌝ }
 {
@@ -16,7 +18,7 @@ pub fn put_byte(out: &mut [u8], at: usize, byte: u8) -> usize
 }
 
 // Writes bytes.
-pub fn put_bytes(out: &mut [u8], at: usize, text: &[u8]) -> usize
+fn put_bytes(out: &mut [u8], at: usize, text: &[u8]) -> usize
     requires { ⌜ Room (now out) at (now text) ⌝ }
     ensures { λ r. ⌜ Wrote (now (out .entry)) at (now (text .entry)) (now (out .exit)) r ⌝ }
 {
@@ -30,7 +32,7 @@ pub fn put_bytes(out: &mut [u8], at: usize, text: &[u8]) -> usize
 }
 
 // Writes a number in base ten.
-pub fn put_number(out: &mut [u8], at: usize, n: usize) -> usize
+fn put_number(out: &mut [u8], at: usize, n: usize) -> usize
     requires { ⌜ Room (now out) at (digits n) ⌝ }
     ensures { λ r. ⌜ Wrote (now (out .entry)) at (digits n) (now (out .exit)) r ⌝ }
 {
@@ -68,7 +70,7 @@ fn put_shapes(out: &mut [u8], at: usize, grid: &[u8], base: usize, shapes: usize
 }
 
 // Writes a card's line.
-pub fn put_card(out: &mut [u8], at: usize, grid: &[u8], shapes: usize, n: usize) -> usize
+fn put_card(out: &mut [u8], at: usize, grid: &[u8], shapes: usize, n: usize) -> usize
     requires { ⌜ Shows (now grid) (n * shapes + shapes) (now out) at (cardLine (now grid) shapes n) ⌝ }
     ensures { λ r. ⌜ Wrote (now (out .entry)) at (cardLine (now (grid .entry)) shapes n) (now (out .exit)) r ⌝ }
 {
@@ -141,4 +143,30 @@ pub fn put_refused(out: &mut [u8], at: usize, number: usize, place: usize) -> us
 {
     let word = put_bytes(out, at, b"refused ");
     put_two(out, word, number, place)
+}
+
+// Writes the line of a refusal whose place is a card and a shape.
+pub fn put_refused_pair(
+    out: &mut [u8],
+    at: usize,
+    number: usize,
+    card: usize,
+    shape: usize,
+) -> usize
+    requires { ⌜ Room (now out) at (verdictLine (refusal number (card ∷ shape ∷ []))) ⌝ }
+    ensures { λ r. ⌜ Wrote (now (out .entry)) at (verdictLine (refusal number (card ∷ shape ∷ [])))
+        (now (out .exit)) r ⌝ }
+{
+    let word = put_bytes(out, at, b"refused ");
+    let first = put_number(out, word, number);
+    let gap = put_byte(out, first, b' ');
+    put_two(out, gap, card, shape)
+}
+
+// Writes the line of a grid that is accepted.
+pub fn put_accepted(out: &mut [u8], at: usize) -> usize
+    requires { ⌜ Room (now out) at (verdictLine (values [])) ⌝ }
+    ensures { λ r. ⌜ Wrote (now (out .entry)) at (verdictLine (values [])) (now (out .exit)) r ⌝ }
+{
+    put_bytes(out, at, b"accepted\n")
 }

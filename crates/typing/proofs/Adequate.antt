@@ -69,7 +69,7 @@ module _ (template script : List ℕ) (s : Sheet) (read : readSheet template scr
   met-decided = decided (represented template script s read .1)
 
   -- The sets before and after a round have the same pairs exactly if the set before is sound.
-  pub round-alike-sound : (X Y : Pairs) → Round s X Y → Alike s X Y ↔ Sound s X
+  round-alike-sound : (X Y : Pairs) → Round s X Y → Alike s X Y ↔ Sound s X
   round-alike-sound X Y w =
       let rep = represented template script s read .1 in
       (alike-sound rep w, sound-alike rep w)

@@ -31,7 +31,7 @@ use Rattle.typing.specs.Needs.{Needs, hasNamed, endTest, linkTest, metTe
 use Rattle.words.proofs.Places.{place-in, card-in, shape-in, place-of}
 
 -- ---- an entry of the table
-pub named-of : (X : ℕ → Bool) (base entry : ℕ) → ((u : ℕ) → entry ≡ suc u → X (base + u) ≡ true)
+named-of : (X : ℕ → Bool) (base entry : ℕ) → ((u : ℕ) → entry ≡ suc u → X (base + u) ≡ true)
     → hasNamed X base entry ≡ true
 named-of X base zero f = refl
 named-of X base (suc u) f = f u refl

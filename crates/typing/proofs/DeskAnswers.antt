@@ -3,47 +3,29 @@
 --   desks-one-answer, desks-no-choice   two answers that are allowed for one input are equal, and so are the grids
 -- Assumes nothing.
 use Prim.Native.Nat.{ℕ}
-use mathlib.Core.Path.{_≡_, refl, sym, ap, _∙_}
+use mathlib.Core.Path.{_≡_, sym, ap, _∙_}
 use mathlib.Core.List.{List, [], _∷_}
 use native.Mathlib.Omega.{arith}
 use lib.ListN.{length}
 use Rattle.words.specs.Said.{Said, refusal}
-use Rattle.words.specs.Reading.{Reading, accepted, turnedDown, then}
+use Rattle.words.specs.Reading.{accepted, then}
 use Rattle.words.proofs.Said.{values-refusal}
+use Rattle.words.proofs.Answered.{answered-unique}
 use Rattle.sheet.specs.Sheet.{Sheet, size, readSheet}
 use Rattle.typing.specs.declared.Struck.{Struck}
 use Rattle.typing.specs.declared.Settled.{Settled}
-use Rattle.typing.specs.declared.Settled.the-variants as settled
 use Rattle.typing.specs.declared.Desks.{Desks}
 use Rattle.typing.specs.declared.DesksAnswer.{DesksAnswer}
 use Rattle.typing.specs.declared.DesksAnswer.the-variants as desks
-use Rattle.typing.specs.Answer.{struckSaid, settledSaid, DesksSaid, desksSaid}
+use Rattle.typing.specs.Answer.{struckSaid, settledSaid, DesksSaid, desksRefused, desksSaid}
 use Rattle.typing.specs.Calls.{listedReading, withGrid, BothSays}
-use Rattle.typing.specs.Desks.{DeskGrids, desksReading, DesksFound, DesksAnswered, DesksSays}
+use Rattle.typing.specs.Desks.{DeskGrids, desksReading, DesksFound, DesksSays}
 use Rattle.typing.proofs.Booked.{grid-asked, list-asked}
 use Rattle.typing.proofs.Existence.{represented}
 use Rattle.typing.proofs.DesksApart.{both-asked}
-use Rattle.typing.proofs.Unique.{card-unique, shape-unique, both-found-unique}
+use Rattle.typing.proofs.Unique.{struck-unique, settled-unique, both-found-unique}
 
 -- ---- of one saying one case of the enum
-struck-unique : (a b : Struck) → struckSaid a ≡ struckSaid b → a ≡ b
-struck-unique a b e =
-    let rounds : a .rounds ≡ b .rounds = cc in
-    let struck : a .struck ≡ b .struck = cc in
-    let bare : a .bare ≡ b .bare = cc in
-    ap (λ (x : ℕ). record { rounds = x; struck = a .struck; bare = a .bare }) rounds
-    ∙ ap (λ (x : ℕ). record { rounds = b .rounds; struck = x; bare = a .bare }) struck
-    ∙ ap (λ (x : ℕ). record { rounds = b .rounds; struck = b .struck; bare = x }) bare
-
-settled-unique : (a b : Settled) → settledSaid a ≡ settledSaid b → a ≡ b
-settled-unique (settled.Pairs m) (settled.Pairs k) e = cc
-settled-unique (settled.Pairs m) (settled.NotMet n t) e = cc
-settled-unique (settled.NotMet n t) (settled.Pairs m) e = cc
-settled-unique (settled.NotMet n t) (settled.NotMet n′ t′) e =
-    let card : n ≡ n′ = card-unique (cc) in
-    let shape : t ≡ t′ = shape-unique (cc) in
-    cc
-
 desks-unique : (a b : Desks) → struckSaid (a .largest) ≡ struckSaid (b .largest)
     → settledSaid (a .radio) ≡ settledSaid (b .radio) → settledSaid (a .television) ≡ settledSaid (b .television)
     → a ≡ b
@@ -104,17 +86,11 @@ module _ (template script bookings : List ℕ) where
       let (_, t, et, _) = both-found-unique rep (inside 1) (x .television) (y .television) in
       (saids-unique l r t, grids-unique er et el)
 
-  answered-unique : (q : Reading Sheet)
-      → ((s : Sheet) → q ≡ accepted s → listedReading template script bookings ≡ accepted s)
-      → (before g h : DeskGrids) (a b : DesksSaid) → DesksAnswered q bookings before g a
-      → DesksAnswered q bookings before h b → (a ≡ b) × (g ≡ h)
-  answered-unique (turnedDown number at) sheets before g h a b x y = (x .0 ∙ sym (y .0), x .1 ∙ sym (y .1))
-  answered-unique (accepted s) sheets before g h a b x y = found-unique s (sheets s refl) x y
-
   pub desks-one-answer : (before g h : DeskGrids) (a b : DesksSaid) → DesksSays template script bookings before g a
       → DesksSays template script bookings before h b → (a ≡ b) × (g ≡ h)
-  desks-one-answer before =
-      answered-unique (desksReading template script bookings before) (λ s r. lent before s r .0) before
+  desks-one-answer before g h a b x y =
+      answered-unique desksRefused (desksReading template script bookings before) before g h a b
+      (λ s r. found-unique s (lent before s r .0)) x y
 
   pub desks-no-choice : (before g h : DeskGrids) (a b : DesksAnswer)
       → DesksSays template script bookings before g (desksSaid a)

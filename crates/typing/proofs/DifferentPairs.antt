@@ -15,11 +15,11 @@ use Rattle.board.specs.Grid.{tally}
 use Rattle.board.proofs.Tally.{tally-none, tally-ext, tally-more}
 use Rattle.sheet.specs.Sheet.{Sheet, size}
 use Rattle.bookings.specs.Bookings.{Booking, bookedBefore, repeated}
-use Rattle.bookings.specs.Stored.{storedCardAt, storedShapeAt, storedAt, StoredBooked}
-use Rattle.bookings.specs.Tidied.{different}
+use Rattle.stored.specs.Stored.{storedCardAt, storedShapeAt, storedAt, StoredBooked}
+use Rattle.stored.specs.Tidied.{different}
 use Rattle.bookings.proofs.Repeats.{booking-same, before-exact, before-other, repeated-told}
-use Rattle.bookings.proofs.StoredLists.{stored-booked}
-use Rattle.bookings.proofs.Tidied.{different-again, different-new, before-again}
+use Rattle.stored.proofs.StoredLists.{stored-booked}
+use Rattle.stored.proofs.Tidied.{different-again, different-new, before-again}
 use Rattle.typing.specs.Typing.{Pairs, Has}
 
 module _ (cards shapes : ℕ) (one-shape : 0 < shapes) (bookings : List ℕ) where
@@ -54,7 +54,7 @@ module _ (cards shapes : ℕ) (one-shape : 0 < shapes) (bookings : List ℕ) whe
         other (sym (place-of shapes one-shape p)
         ∙ sym (ap (λ (b : Booking). b .card * shapes + b .shape) e)))))
 
-  pub different-tally : (k : ℕ)
+  different-tally : (k : ℕ)
       → ((i : ℕ) → i < k → (storedCardAt bookings i < cards) × (storedShapeAt bookings i < shapes))
       → different (storedAt bookings) k ≡ tally (bookedAt k) (cards * shapes)
   unfolding different bookedBefore

@@ -14,7 +14,7 @@ use mathlib.Core.List.{List, List·Memᴰ}
 use native.Mathlib.Omega.{arith}
 use lib.ListN.{length, getD}
 use Rattle.words.specs.Limits.{maxKinds, maxLabels}
-use Rattle.bags.specs.Label.{Way, outgoing, incoming, labelOf}
+use Rattle.bags.specs.Label.{Way, outgoing, incoming}
 use Rattle.bags.specs.Part.{Names, Declares}
 use Rattle.bags.specs.Bag.{Fits}
 use Rattle.bags.specs.Look.{seen}
@@ -29,8 +29,7 @@ use Rattle.bags.proofs.Decide.{fits-decided}
 use Rattle.bags.proofs.Choosing.{met-exact}
 use Rattle.template.specs.Machine.{Tabled, entryAt}
 use Rattle.script.specs.Link.{kindAt, nearAt, labelAt, farAt, neighbours}
-use Rattle.script.proofs.Neighbours.{neighbours-exact}
-use Rattle.script.proofs.Counts.{way-count, way-count-none}
+use Rattle.script.proofs.Neighbours.{neighbours-exact, label-none}
 use Rattle.board.specs.Grid.{on}
 use Rattle.board.specs.Board.{Lawful}
 use Rattle.typing.specs.Needs.{Needs, metTest, boardOf, Ready}
@@ -59,10 +58,7 @@ module _ {words : List ℕ} {kinds : ℕ} {s : Sheet} (read : SheetAccepted word
   -- no link has a kind that is none of the template's
   pub none-past : (n k : ℕ) → kinds ≤ k → k < maxKinds → countsOf s n k ≡ 0
   none-past n k past few =
-      let own : k ≡ labelOf outgoing k = omega arith in
-      ap (countsOf s n) own ∙ way-count outgoing (s .script) n k (s .links) few kind-in
-      ∙ way-count-none outgoing (s .script) n k (s .links)
-      (λ i l e. omega (arith, read .links .kind-below i l, e))
+      label-none (s .script) n k (s .links) few (λ i l e. omega (arith, read .links .kind-below i l, e))
 
   fits-counted : (n t : ℕ) → t < s .shapes
       → (fits (opensOf s t) kinds (partOf s t) (countsOf s n) ≡ true)

@@ -12,9 +12,10 @@ use mathlib.Core.Logic.{_↔_}
 use mathlib.Core.List.{List, [], _∷_}
 use lib.ListN.{length}
 use Rattle.words.specs.Said.{Said, values, refusal}
-use Rattle.words.specs.Reading.{Reading, accepted, turnedDown}
+use Rattle.words.specs.Reading.{Reading, accepted}
 use Rattle.words.proofs.Said.{values-refusal}
 use Rattle.words.proofs.Readings.{accepted-same}
+use Rattle.words.proofs.Answered.{answered-values, told-unique}
 use Rattle.board.specs.Grid.{on}
 use Rattle.sheet.specs.Sheet.{Sheet, readSheet}
 use Rattle.bookings.specs.Bookings.{Booked}
@@ -24,20 +25,13 @@ use Rattle.typing.specs.Demand3.{Outcome, pairs, notMet, Refused}
 use Rattle.typing.specs.Answer.{BothSaid, judgeSaid}
 use Rattle.typing.specs.Calls.{bookedReading, largestReading, smallestReading, bothReading, Grids, Leaves}
 use Rattle.typing.specs.Calls.{outcomeSaid, LargestSays, SmallestFound, SmallestSays, BothSays}
-use Rattle.typing.specs.Judge.{passes, Passes, JudgeFound, JudgeAnswered, JudgeSays}
+use Rattle.typing.specs.Judge.{passes, Passes, JudgeFound, JudgeSays}
 use Rattle.typing.proofs.Smallest.{accepted-sound, accepted-holds, turned-down-never}
 use Rattle.typing.proofs.Booked.{grid-asked, grid-taken, bookings-asked}
 use Rattle.typing.proofs.Existence.{represented}
 use Rattle.typing.proofs.Apart.{apart}
-use Rattle.typing.proofs.Values.{largest-values, smallest-values, both-values, judge-values}
+use Rattle.typing.proofs.Values.{smallest-values, both-values, judge-values}
 use Rattle.typing.proofs.Verdicts.{judge-found-unique, judge-said-unique}
-
--- ---- of one reading one answer
-answered-unique : (r : Reading Sheet) (bookings : List ℕ) (desk : ℕ) (grid : List ℕ) (a b : Said)
-    → JudgeAnswered r bookings desk grid a
-    → JudgeAnswered r bookings desk grid b → a ≡ b
-answered-unique (turnedDown number place) bookings desk grid a b x y = x ∙ sym y
-answered-unique (accepted s) bookings desk grid a b x y = judge-found-unique x y
 
 passes-found : {s : Sheet} {bookings : List ℕ} {desk : ℕ} {grid : List ℕ} → Passes s (Booked bookings desk) grid
     → JudgeFound s bookings desk grid (values [])
@@ -51,7 +45,8 @@ not-refused (notMet n t) e r = values-refusal e
 module _ (template script bookings : List ℕ) (desk : ℕ) where
   pub judge-one-answer : (grid : List ℕ) (a b : Said) → JudgeSays template script bookings desk grid a
       → JudgeSays template script bookings desk grid b → a ≡ b
-  judge-one-answer grid = answered-unique (smallestReading template script bookings desk grid) bookings desk grid
+  judge-one-answer grid a b x y =
+      told-unique (smallestReading template script bookings desk grid) a b (λ s r. judge-found-unique) x y
 
   pub judge-no-choice : (grid : List ℕ) (a b : JudgeAnswer) → JudgeSays template script bookings desk grid (judgeSaid a)
       → JudgeSays template script bookings desk grid (judgeSaid b) → a ≡ b
@@ -67,7 +62,7 @@ module _ (template script bookings : List ℕ) (desk : ℕ) where
       (p : Passes s (Booked bookings desk) grid) where
     passes-allowed : JudgeSays template script bookings desk grid (values [])
     passes-allowed =
-        subst (λ (r : Reading Sheet). JudgeAnswered r bookings desk grid (values [])) (sym asked) (passes-found p)
+        rw asked (passes-found p)
 
     passes-only : (said : Said) → JudgeSays template script bookings desk grid said → said ≡ values []
     passes-only said x = judge-one-answer grid said (values []) x passes-allowed
@@ -109,7 +104,7 @@ module _ (template script bookings : List ℕ) (desk : ℕ) where
       large-passes : (s : Sheet) → smallestReading template script bookings desk before ≡ accepted s
           → Passes s (Booked bookings desk) small → Passes s (Booked bookings desk) large
       large-passes s asked p =
-          let (q, large-asked, found) = largest-values (largestReading template script other) other large _ y in
+          let (q, large-asked, found) = answered-values (largestReading template script other) other large _ y in
           let files = grid-asked before listed s asked .0 in
           let read = bookings-asked bookings desk (readSheet template script) s files .0 in
           let again = grid-asked other (readSheet template script) q large-asked in

@@ -42,11 +42,11 @@ module _ {s : Sheet} {B : Board} (rep : Represents s B) where
   }
 
   module _ {r m : ℕ} {X : Pairs} (a : Largest s r m X) where
-    pub largest-is : Alike s X (after B (a .before))
+    largest-is : Alike s X (after B (a .before))
     largest-is = rounds-only rep (a .reached) .0
 
     -- no round before the last is quiet
-    pub largest-last : Last B r
+    largest-last : Last B r
     largest-last = record {
       before = a .before;
       is = a .counted;
@@ -101,7 +101,7 @@ module _ {s : Sheet} {B : Board} (rep : Represents s B) where
       (λ t lt. e (place s n t) (pair-in rep n t ln lt))))
 
   -- the search for the rounds is over: one round more than those that struck something
-  pub largest-answer : {X : Pairs} {striking strikes : ℕ} → Finished B X strikes striking
+  largest-answer : {X : Pairs} {striking strikes : ℕ} → Finished B X strikes striking
       → Largest s (suc striking) strikes X
   largest-answer {X} {striking} {strikes} f =
       let over : Last B (suc striking) = record {

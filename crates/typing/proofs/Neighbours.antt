@@ -16,7 +16,7 @@ use Rattle.bags.specs.Proposition.{labelCount, TargetsHave}
 
 module _ (has : ℕ → ℕ → Type 0) (p : Part) where
   -- the far card has the shape that the part declares for the label
-  abbrev pub TargetHas : ℕ → ℕ → Type 0
+  abbrev TargetHas : ℕ → ℕ → Type 0
   TargetHas label far = (u : ℕ) × Declares p label u × has far u
 
   pub targets-of : (ns : List Neighbour)

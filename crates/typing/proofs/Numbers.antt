@@ -16,18 +16,20 @@ use lib.ListN.{length, getD}
 use lib.Dec.{ltb, eqb}
 use Rattle.words.specs.Said.{refusal}
 use Rattle.words.specs.Reading.{Reading, accepted, turnedDown, refuse, then}
+use Rattle.words.specs.Answered.{Answered}
 use Rattle.words.proofs.Said.{values-refusal, refusal-number, refusal-place}
 use Rattle.words.proofs.Readings.{Numbered, refuse-numbered, then-numbered, mapped-numbered, numbered-map}
 use Rattle.sheet.specs.Sheet.{Sheet, size, readSheet}
 use Rattle.sheet.proofs.Accepted.{SheetNumber, sheet-numbers}
 use Rattle.bookings.specs.Bookings.{readBookings}
-use Rattle.bookings.specs.Stored.{readStored}
-use Rattle.bookings.proofs.Reading.{StoredNumber, stored-numbers, BookingNumber, bookings-numbers}
+use Rattle.stored.specs.Stored.{readStored}
+use Rattle.stored.proofs.StoredLists.{StoredNumber, stored-numbers}
+use Rattle.bookings.proofs.Reading.{BookingNumber, bookings-numbers}
 use Rattle.typing.specs.Calls.{withList, withStored, withDesk, withGrid, listedReading, bookedReading}
 use Rattle.typing.specs.Calls.{largestReading, smallestReading, Grids, bothReading}
 use Rattle.typing.specs.Desks.{DeskGrids, desksReading}
 use Rattle.typing.specs.Tidy.{tidyReading}
-use Rattle.typing.specs.Judge.{Verdict, over, unmet, unheld, passes, verdictSaid, JudgeAnswered, JudgeSays}
+use Rattle.typing.specs.Judge.{Verdict, over, unmet, unheld, passes, verdictSaid, JudgeFound, JudgeSays}
 
 abbrev pub LargestNumber : ℕ → Type 0
 LargestNumber n = SheetNumber n ⊎ (n ≡ 40)
@@ -70,12 +72,12 @@ module _ (template script : List ℕ) where
         (λ s. mapped-numbered Number (λ count. s) (list (s .cards) (s .shapes))
         (numbered-map ListNumber Number (list (s .cards) (s .shapes)) more (h (s .cards) (s .shapes))))
 
-    pub listed-numbers : Numbered SmallestNumber (listedReading template script bookings)
+    listed-numbers : Numbered SmallestNumber (listedReading template script bookings)
     listed-numbers =
         list-numbers (λ cards shapes. readBookings cards shapes bookings) BookingNumber SmallestNumber
         (λ n h. inl (inl h)) (λ n h. inr h) (λ cards shapes. bookings-numbers cards shapes bookings)
 
-    pub booked-numbers : (desk : ℕ) → Numbered SmallestNumber (bookedReading template script bookings desk)
+    booked-numbers : (desk : ℕ) → Numbered SmallestNumber (bookedReading template script bookings desk)
     booked-numbers desk =
         then-numbered SmallestNumber (listedReading template script bookings) (withDesk desk) listed-numbers
         (λ s. refuse-numbered SmallestNumber 66 0 (ltb 1 desk) (accepted s) (inr (inr (omega arith, omega arith))) tt)
@@ -121,7 +123,8 @@ verdict-numbers passes number at e = values-refusal (sym e)
 
 judge-by : (r : Reading Sheet) (bookings : List ℕ) (desk : ℕ) (grid : List ℕ) (number : ℕ) (at : List ℕ)
     → Numbered SmallestNumber r
-    → JudgeAnswered r bookings desk grid (refusal number at) → JudgeRefusal number at
+    → Answered r (λ refused. refusal number at ≡ refused) (λ s. JudgeFound s bookings desk grid (refusal number at))
+    → JudgeRefusal number at
 judge-by (turnedDown n p) bookings desk grid number at h x = inl (inl (subst SmallestNumber (sym (refusal-number x)) h))
 judge-by (accepted s) bookings desk grid number at h x = verdict-numbers (x .verdict) number at (x .says)
 

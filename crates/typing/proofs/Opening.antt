@@ -26,7 +26,7 @@ use Rattle.typing.proofs.Neighbours.{targets-of, targets-at}
 use Rattle.typing.proofs.Instance.{countsOf}
 
 -- Each neighbour of card n under a label that shape t names has the shape named there.
-abbrev pub NamedHave : Sheet → Pairs → ℕ → ℕ → Type 0
+abbrev NamedHave : Sheet → Pairs → ℕ → ℕ → Type 0
 NamedHave s X n t =
     (label far u : ℕ) → List·Memᴰ (to label far) (neighbours (s .script) n (s .links))
     → Declares (partOf s t) label u → Has s X far u

@@ -8,13 +8,14 @@ use mathlib.Core.Logic.{_↔_}
 use mathlib.Core.List.{List}
 use Rattle.words.specs.Said.{Said}
 use Rattle.words.specs.Reading.{Reading, accepted, turnedDown}
+use Rattle.words.specs.Answered.{Answered, Unchanged}
 use Rattle.sheet.specs.Sheet.{Sheet}
 use Rattle.typing.specs.Typing.{Pairs}
 use Rattle.typing.specs.Smallest.{Closure, booked, follow, IsClosure}
 use Rattle.typing.specs.Demand3.{Outcome, pairs, notMet}
-use Rattle.typing.specs.Calls.{Leaves, SmallestFound, SmallestAnswered}
+use Rattle.typing.specs.Calls.{Leaves, SmallestFound}
 
-pub closure-more : {s : Sheet} {P Q : ℕ → ℕ → Type 0} → ((n t : ℕ) → P n t → Q n t) → {n t : ℕ}
+closure-more : {s : Sheet} {P Q : ℕ → ℕ → Type 0} → ((n t : ℕ) → P n t → Q n t) → {n t : ℕ}
     → Closure s P n t → Closure s Q n t
 closure-more more (booked {n} {t} b) = booked (more n t b)
 closure-more more (follow c way i l near names) = follow (closure-more more c) way i l near names
@@ -49,7 +50,8 @@ module _ (s : Sheet) {P Q : ℕ → ℕ → Type 0} (to : (n t : ℕ) → P n t 
 
 pub smallest-answered-same : (r : Reading Sheet) {P Q : ℕ → ℕ → Type 0} → ((n t : ℕ) → P n t ↔ Q n t)
     → (before after : List ℕ) (said : Said)
-    → SmallestAnswered r P before after said ↔ SmallestAnswered r Q before after said
+    → Answered r (Unchanged before after said) (λ s. SmallestFound s P after said)
+    ↔ Answered r (Unchanged before after said) (λ s. SmallestFound s Q after said)
 smallest-answered-same (turnedDown number place) same before after said = (λ x. x, λ x. x)
 smallest-answered-same (accepted s) same before after said = (
   smallest-found-same s (λ n t. same n t .0) (λ n t. same n t .1) after said,

@@ -59,7 +59,7 @@ module _ {s : Sheet} {B : Board} (rep : Represents s B) {Booked : ℕ → ℕ �
   closure-in (follow {n} {t} {u} c way i l e d) =
       (rep .target-in way i l, rep .declared-in t (labelAt way (s .script) i) u (closure-in c .1) d)
 
-  pub closure-place : {n t : ℕ} → Closure s Booked n t → place s n t < size s
+  closure-place : {n t : ℕ} → Closure s Booked n t → place s n t < size s
   closure-place {n} {t} c = let (ln, lt) = closure-in c in pair-in rep n t ln lt
 
   -- what the closure goes on to is what the board's place needs
@@ -88,7 +88,7 @@ module _ {s : Sheet} {B : Board} (rep : Represents s B) {Booked : ℕ → ℕ �
   closure-unique X Y x y p l = bools-equal (closure-under X Y x y p l)
       (λ e. is-false (λ t. never-both (closure-under Y X y x p l t) e))
 
-  pub closure-alike : (X Y : Pairs) → Alike s X Y → IsClosure s Booked X → IsClosure s Booked Y
+  closure-alike : (X Y : Pairs) → Alike s X Y → IsClosure s Booked X → IsClosure s Booked Y
   closure-alike X Y e x = record {
     has = λ n t c. sym (e (place s n t) (closure-place c)) ∙ x .has n t c;
     only = λ n t ln lt h. x .only n t ln lt (e (place s n t) (pair-in rep n t ln lt) ∙ h);
@@ -104,7 +104,7 @@ module _ {s : Sheet} {B : Board} (rep : Represents s B) {Booked : ℕ → ℕ �
         (y .has (farAt (f .way) (s .script) (f .link)) (f .shape)
         (follow c (f .way) (f .link) (f .below) (f .starts) (f .declares)))
 
-    pub closure-met : (B .ok (place s n t) ≡ true) ↔ Met s Y n t
+    closure-met : (B .ok (place s n t) ≡ true) ↔ Met s Y n t
     closure-met =
         let (ln, lt) = closure-in c in (
           λ o. rep .met-exact Y n t ln lt .0 (rep .lawful .met-of Y (place s n t) o closure-has),
@@ -149,7 +149,7 @@ module _ {s : Sheet} {B : Board} (rep : Represents s B) {Booked : ℕ → ℕ �
       }
 
   module _ {X : Pairs} {found : ℕ} (f : Flooded B (PlaceOf s Booked) X found) where
-    pub flooded-closure : IsClosure s Booked X
+    flooded-closure : IsClosure s Booked X
     flooded-closure = record {
       has = λ n t c. f .has (place s n t) (closed-of c);
       only = λ n t ln lt e.
@@ -160,7 +160,7 @@ module _ {s : Sheet} {B : Board} (rep : Represents s B) {Booked : ℕ → ℕ �
     }
 
     -- every place of the closure is ok: the grid is the answer
-    pub smallest-accepted : (grid : List ℕ) → Typing s grid → Alike s (on grid) X
+    smallest-accepted : (grid : List ℕ) → Typing s grid → Alike s (on grid) X
         → ((p : ℕ) → p < size s → X p ≡ true → B .ok p ≡ true) → Accepted s Booked grid found
     smallest-accepted grid typed e oks = record {
       typing = typed;
@@ -176,7 +176,7 @@ module _ {s : Sheet} {B : Board} (rep : Represents s B) {Booked : ℕ → ℕ �
         here = closure-alike X (on grid) (λ p l. sym (e p l)) flooded-closure
 
     -- the lowest pair that is not ok is the refusal's
-    pub smallest-turned-down : (n t : ℕ) → t < s .shapes → place s n t < size s
+    smallest-turned-down : (n t : ℕ) → t < s .shapes → place s n t < size s
         → X (place s n t) ≡ true → B .ok (place s n t) ≡ false
         → ((q : ℕ) → q < place s n t → X q ≡ true → B .ok q ≡ true)
         → TurnedDown s Booked (replicate (size s) 0) n t

@@ -6,65 +6,48 @@
 --   tidy-one-answer, tidy-no-choice   two answers that are allowed for one input are equal, and so are the buffers
 -- Assumes nothing.
 use Prim.Native.Nat.{ℕ}
-use mathlib.Core.Path.{_≡_, refl, sym, ap, _∙_}
+use mathlib.Core.Path.{_≡_}
 use mathlib.Core.Logic.{_↔_}
 use mathlib.Core.List.{List, [], _∷_}
 use native.Mathlib.Omega.{arith}
 use lib.ListN.{length, take, replicate}
-use lib.Seq.{take-at}
 use borrow.Author.Tests.{eq-eqb}
 use Rattle.words.specs.Said.{Said, values}
-use Rattle.words.specs.Reading.{Reading, accepted, turnedDown, then}
-use Rattle.words.proofs.Said.{values-refusal, one-value}
+use Rattle.words.specs.Reading.{accepted, then}
+use Rattle.words.specs.Writes.{writeSaid}
+use Rattle.words.specs.declared.WriteAnswer.{WriteAnswer}
+use Rattle.words.proofs.Writing.{writes-front, writes-unique, write-said-unique}
 use Rattle.words.proofs.Readings.{then-accepted}
+use Rattle.words.proofs.Answered.{answered-values, answered-unique}
 use Rattle.sheet.specs.Sheet.{Sheet, size, readSheet}
 use Rattle.sheet.proofs.Accepted.{mapped-accepted}
 use Rattle.bookings.specs.Bookings.{readBookings, Booked}
-use Rattle.bookings.specs.Stored.{storedAt, readStored}
-use Rattle.bookings.specs.Tidied.{different, tidied}
-use Rattle.bookings.proofs.Tidied.{tidied-booked, tidied-desk, tidied-listed}
-use Rattle.typing.specs.declared.TidyAnswer.{TidyAnswer}
-use Rattle.typing.specs.declared.TidyAnswer.the-variants as tidy
-use Rattle.typing.specs.Answer.{tidySaid}
+use Rattle.stored.specs.Stored.{storedAt, readStored}
+use Rattle.stored.specs.Tidied.{different, tidied}
+use Rattle.stored.proofs.Tidied.{tidied-booked, tidied-desk, tidied-listed}
 use Rattle.typing.specs.Calls.{withStored, withGrid, SmallestFound, SmallestSays}
-use Rattle.typing.specs.Tidy.{tidyReading, TidyFound, TidyAnswered, TidySays, StoredSmallestSays}
+use Rattle.typing.specs.Tidy.{tidyReading, TidySays, StoredSmallestSays}
 use Rattle.typing.proofs.Booked.{buffer-asked}
 use Rattle.typing.proofs.Existence.{represented}
 use Rattle.typing.proofs.SamePairs.{smallest-answered-same}
 use Rattle.typing.proofs.NoneBooked.{none-booked}
 
 -- ---- no choice
-answered-unique : (r : Reading Sheet) (bookings before g h : List ℕ) (a b : Said) → TidyAnswered r bookings before g a
-    → TidyAnswered r bookings before h b → (a ≡ b) × (g ≡ h)
-answered-unique (turnedDown number place) bookings before g h a b x y = (x .0 ∙ sym (y .0), x .1 ∙ sym (y .1))
-answered-unique (accepted s) bookings before g h a b x y =
-    (x .says ∙ sym (y .says), x .writes ∙ sym (y .writes))
-
-tidy-said-unique : (a b : TidyAnswer) → tidySaid a ≡ tidySaid b → a ≡ b
-tidy-said-unique (tidy.Written m) (tidy.Written k) e = cc
-tidy-said-unique (tidy.Written m) (tidy.Refused number at) e = cc
-tidy-said-unique (tidy.Refused number at) (tidy.Written m) e = cc
-tidy-said-unique (tidy.Refused number at) (tidy.Refused number′ at′) e = cc
-
 module _ (template script bookings : List ℕ) where
   pub tidy-one-answer : (before g h : List ℕ) (a b : Said) → TidySays template script bookings before g a
       → TidySays template script bookings before h b → (a ≡ b) × (g ≡ h)
-  tidy-one-answer before = answered-unique (tidyReading template script bookings before) bookings before
+  tidy-one-answer before g h a b x y =
+      answered-unique (λ refused. refused) (tidyReading template script bookings before) before g h a b
+      (λ s r. writes-unique {words = tidied bookings} {before = before}) x y
 
-  pub tidy-no-choice : (before g h : List ℕ) (a b : TidyAnswer)
-      → TidySays template script bookings before g (tidySaid a)
-      → TidySays template script bookings before h (tidySaid b) → (a ≡ b) × (g ≡ h)
+  pub tidy-no-choice : (before g h : List ℕ) (a b : WriteAnswer)
+      → TidySays template script bookings before g (writeSaid a)
+      → TidySays template script bookings before h (writeSaid b) → (a ≡ b) × (g ≡ h)
   tidy-no-choice before g h a b x y =
-      let (e, f) = tidy-one-answer before g h (tidySaid a) (tidySaid b) x y in
-      (tidy-said-unique a b e, f)
+      let (e, f) = tidy-one-answer before g h (writeSaid a) (writeSaid b) x y in
+      (write-said-unique a b e, f)
 
 -- ---- what is written
-tidy-found : (r : Reading Sheet) (bookings before after found : List ℕ)
-    → TidyAnswered r bookings before after (values found)
-    → (s : Sheet) × (r ≡ accepted s) × TidyFound bookings before after (values found)
-tidy-found (accepted s) bookings before after found x = (s, refl, x)
-tidy-found (turnedDown number place) bookings before after found x = values-refusal (x .0)
-
 -- The files are read, the list as a stored one; the buffer begins with the tidied list, of so many
 -- words.
 pub record Tidies (template script bookings after : List ℕ) (words : ℕ) : Type 0 where
@@ -78,19 +61,18 @@ module _ (template script bookings before after : List ℕ) (words : ℕ)
     (x : TidySays template script bookings before after (values (words ∷ []))) where
   pub tidy-values : Tidies template script bookings after words
   tidy-values =
-      let (s, asked, found) = tidy-found (tidyReading template script bookings before) bookings before after _ x in
+      let (s, asked, found) = answered-values (tidyReading template script bookings before) before after _ x in
       let listed = then (readSheet template script) (withStored bookings) in
       let taken = buffer-asked bookings before listed s asked .0 in
       let (p, read, list) = then-accepted (readSheet template script) (withStored bookings) s taken in
       let (count, stored, same) =
       mapped-accepted (λ count. p) (readStored (p .cards) (p .shapes) bookings) s list in
-      let long : words ≡ length (tidied bookings) = one-value (found .says) in
       record {
         sheet = p;
         count = count;
         read = read;
         stored = stored;
-        front = ap (take words) (found .writes) ∙ take-at (tidied bookings) _ words (sym long);
+        front = writes-front words found;
       }
 
   -- every call takes what is written, with as many bookings as there are different pairs

@@ -1,27 +1,22 @@
 -- Values are said only of a sheet that is read.
---   largest-values, both-values     of the calls for the largest and for both: the sheet, and what was found of it
---   smallest-values, judge-values   of the others: the sheet, and that the grid is a sound typing with the bookings
+--   both-values                     of the call for both: the sheet, and what was found of it
+--   smallest-values, judge-values   of these calls: the sheet, and that the grid is a sound typing with the bookings
 -- Assumes nothing.
 use Prim.Native.Nat.{ℕ}
 use mathlib.Core.Path.{_≡_, refl, sym, ap, _∙_}
 use mathlib.Core.List.{List, []}
 use Rattle.words.specs.Said.{values}
 use Rattle.words.specs.Reading.{Reading, accepted, turnedDown}
+use Rattle.words.specs.Answered.{Answered, Unchanged}
 use Rattle.words.proofs.Said.{values-refusal}
+use Rattle.words.proofs.Answered.{answered-values}
 use Rattle.sheet.specs.Sheet.{Sheet}
 use Rattle.bookings.specs.Bookings.{Booked}
 use Rattle.typing.specs.Demand3.{Outcome, pairs, notMet}
-use Rattle.typing.specs.Answer.{BothSaid}
-use Rattle.typing.specs.Calls.{Grids, Leaves, outcomeSaid, LargestFound, LargestAnswered, SmallestAnswered}
-use Rattle.typing.specs.Calls.{BothFound, BothAnswered}
-use Rattle.typing.specs.Judge.{Verdict, over, unmet, unheld, passes, verdictSaid, Passes, Judged, JudgeAnswered}
+use Rattle.typing.specs.Answer.{BothSaid, bothRefused}
+use Rattle.typing.specs.Calls.{Grids, Leaves, outcomeSaid, SmallestFound, BothFound}
+use Rattle.typing.specs.Judge.{Verdict, over, unmet, unheld, passes, verdictSaid, Passes, Judged, JudgeFound}
 use Rattle.typing.proofs.Smallest.{accepted-sound, accepted-holds}
-
-pub largest-values : (r : Reading Sheet) (before after found : List ℕ)
-    → LargestAnswered r before after (values found)
-    → (s : Sheet) × (r ≡ accepted s) × LargestFound s after (values found)
-largest-values (accepted s) before after found x = (s, refl, x)
-largest-values (turnedDown number place) before after found x = values-refusal (x .0)
 
 module _ (Wanted : ℕ → ℕ → Type 0) where
   -- a number of pairs is said of bookings that are accepted
@@ -31,14 +26,16 @@ module _ (Wanted : ℕ → ℕ → Type 0) where
   pairs-by s grid found (notMet n t) e a = values-refusal e
 
   pub smallest-values : (r : Reading Sheet) (before after found : List ℕ)
-      → SmallestAnswered r Wanted before after (values found)
+      → Answered r (Unchanged before after (values found)) (λ s. SmallestFound s Wanted after (values found))
       → (s : Sheet) × (r ≡ accepted s) × Passes s Wanted after
-  smallest-values (accepted s) before after found x =
-      (s, refl, pairs-by s after found (x .outcome) (x .says) (x .leaves))
-  smallest-values (turnedDown number place) before after found x = values-refusal (x .0)
+  smallest-values r before after found x =
+      let (s, asked, f) = answered-values r before after found x in
+      (s, asked, pairs-by s after found (f .outcome) (f .says) (f .leaves))
 
   pub both-values : (r : Reading Sheet) (before after : Grids) (said : BothSaid) (found : List ℕ)
-      → said .smallest ≡ values found → BothAnswered r Wanted before after said
+      → said .smallest ≡ values found
+      → Answered r (λ refused. Unchanged before after said (bothRefused refused))
+      (λ s. BothFound s Wanted (after .small) (after .large) said)
       → (s : Sheet) × (r ≡ accepted s) × BothFound s Wanted (after .small) (after .large) said
   both-values (accepted s) before after said found e x = (s, refl, x)
   both-values (turnedDown number place) before after said found e x =
@@ -54,7 +51,7 @@ passes-by s bookings desk grid (unheld i) e x = values-refusal e
 passes-by s bookings desk grid passes e x = x
 
 pub judge-values : (r : Reading Sheet) (bookings : List ℕ) (desk : ℕ) (grid : List ℕ)
-    → JudgeAnswered r bookings desk grid (values [])
+    → Answered r (λ refused. values [] ≡ refused) (λ s. JudgeFound s bookings desk grid (values []))
     → (s : Sheet) × (r ≡ accepted s) × Passes s (Booked bookings desk) grid
 judge-values (accepted s) bookings desk grid x =
     (s, refl, passes-by s bookings desk grid (x .verdict) (x .says) (x .right))

@@ -1,5 +1,5 @@
--- What each case of the enums `LargestAnswer`, `SmallestAnswer`, `BothAnswer`, `DesksAnswer`, `JudgeAnswer` and
--- `TidyAnswer` says (docs/FORMAT.md, "Operations").
+-- What each case of the enums `LargestAnswer`, `SmallestAnswer`, `BothAnswer`, `DesksAnswer` and `JudgeAnswer` says
+-- (docs/FORMAT.md, "Operations"). What tidying answers is the enum of all that writes (words/specs/Writes).
 -- Assumes nothing.
 use mathlib.Core.List.{[], _∷_}
 use Rattle.words.specs.Said.{Said, values, refusal}
@@ -16,36 +16,8 @@ use Rattle.typing.specs.declared.DesksAnswer.{DesksAnswer}
 use Rattle.typing.specs.declared.DesksAnswer.the-variants as desks
 use Rattle.typing.specs.declared.JudgeAnswer.{JudgeAnswer}
 use Rattle.typing.specs.declared.JudgeAnswer.the-variants as judge
-use Rattle.typing.specs.declared.TidyAnswer.{TidyAnswer}
-use Rattle.typing.specs.declared.TidyAnswer.the-variants as tidy
 
--- Typed: rounds, pairs struck, cards with some link and no shape. Refused: a template's or a script's number and place,
--- or 40.
-abbrev pub largestSaid : LargestAnswer → Said
-largestSaid (large.Typed rounds struck bare) = values (rounds ∷ struck ∷ bare ∷ [])
-largestSaid (large.Refused number place) = refusal number (place ∷ [])
-
--- Pairs: the closure's number of pairs. NotMet: 50, with a card and a shape for its place. Refused: the others.
-abbrev pub smallestSaid : SmallestAnswer → Said
-smallestSaid (small.Pairs pairs) = values (pairs ∷ [])
-smallestSaid (small.NotMet card shape) = refusal 50 (card .0 ∷ shape .0 ∷ [])
-smallestSaid (small.Refused number place) = refusal number (place ∷ [])
-
--- What the two calls say that one call of both stands for.
-pub record BothSaid : Type 0 where
-  pub largest : Said
-  pub smallest : Said
-
--- One case stands for what the two calls say.
-abbrev pub bothSaid : BothAnswer → BothSaid
-bothSaid (both.Typed rounds struck bare pairs) =
-    record { largest = values (rounds ∷ struck ∷ bare ∷ []); smallest = values (pairs ∷ []) }
-bothSaid (both.NotMet rounds struck bare card shape) =
-    record { largest = values (rounds ∷ struck ∷ bare ∷ []); smallest = refusal 50 (card .0 ∷ shape .0 ∷ []) }
-bothSaid (both.Refused number place) =
-    record { largest = refusal number (place ∷ []); smallest = refusal number (place ∷ []) }
-
--- What was found of the largest typing says its numbers.
+-- What was found of the largest typing: rounds, pairs struck, cards with some link and no shape.
 abbrev pub struckSaid : Struck → Said
 struckSaid r = values (r .rounds ∷ r .struck ∷ r .bare ∷ [])
 
@@ -54,11 +26,39 @@ abbrev pub settledSaid : Settled → Said
 settledSaid (settled.Pairs pairs) = values (pairs ∷ [])
 settledSaid (settled.NotMet card shape) = refusal 50 (card .0 ∷ shape .0 ∷ [])
 
+-- Typed: what was found. Refused: a template's or a script's number and place, or 40.
+abbrev pub largestSaid : LargestAnswer → Said
+largestSaid (large.Typed r) = struckSaid r
+largestSaid (large.Refused number place) = refusal number (place ∷ [])
+
+-- Settled: how the bookings fared. Refused: the number and place of what is refused before.
+abbrev pub smallestSaid : SmallestAnswer → Said
+smallestSaid (small.Settled r) = settledSaid r
+smallestSaid (small.Refused number place) = refusal number (place ∷ [])
+
+-- What the two calls say that one call of both stands for.
+pub record BothSaid : Type 0 where
+  pub largest : Said
+  pub smallest : Said
+
+-- One refusal for both.
+abbrev pub bothRefused : Said → BothSaid
+bothRefused refused = record { largest = refused; smallest = refused }
+
+-- One case stands for what the two calls say.
+abbrev pub bothSaid : BothAnswer → BothSaid
+bothSaid (both.Typed r) = record { largest = struckSaid (r .largest); smallest = settledSaid (r .smallest) }
+bothSaid (both.Refused number place) = bothRefused (refusal number (place ∷ []))
+
 -- What the call for both desks says: of the largest, and of each desk's smallest.
 pub record DesksSaid : Type 0 where
   pub largest : Said
   pub radio : Said
   pub television : Said
+
+-- One refusal for all.
+abbrev pub desksRefused : Said → DesksSaid
+desksRefused refused = record { largest = refused; radio = refused; television = refused }
 
 -- Typed: what was found. Refused: one number and place for all.
 abbrev pub desksSaid : DesksAnswer → DesksSaid
@@ -67,19 +67,10 @@ desksSaid (desks.Typed r) = record {
   radio = settledSaid (r .radio);
   television = settledSaid (r .television);
 }
-desksSaid (desks.Refused number place) = record {
-  largest = refusal number (place ∷ []);
-  radio = refusal number (place ∷ []);
-  television = refusal number (place ∷ []);
-}
+desksSaid (desks.Refused number place) = desksRefused (refusal number (place ∷ []))
 
 -- Accepted: there is no number to say. NotMet: 62, with a card and a shape for its place. Refused: the others.
 abbrev pub judgeSaid : JudgeAnswer → Said
 judgeSaid judge.Accepted = values []
 judgeSaid (judge.NotMet card shape) = refusal 62 (card .0 ∷ shape .0 ∷ [])
 judgeSaid (judge.Refused number place) = refusal number (place ∷ [])
-
--- Written: the number of words. Refused: the template's, the script's or the list's number and place, or 40.
-abbrev pub tidySaid : TidyAnswer → Said
-tidySaid (tidy.Written words) = values (words ∷ [])
-tidySaid (tidy.Refused number place) = refusal number (place ∷ [])

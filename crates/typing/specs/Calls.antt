@@ -14,16 +14,17 @@ use mathlib.Core.List.{List, [], _∷_}
 use lib.ListN.{length}
 use lib.Dec.{ltb, eqb}
 use Rattle.words.specs.Said.{Said, values, refusal}
-use Rattle.words.specs.Reading.{Reading, accepted, turnedDown, refuse, then, mapped}
+use Rattle.words.specs.Reading.{Reading, accepted, refuse, then, mapped}
+use Rattle.words.specs.Answered.{Answered, Unchanged}
 use Rattle.board.specs.Grid.{on}
 use Rattle.sheet.specs.Sheet.{Sheet, size, readSheet}
 use Rattle.bookings.specs.Bookings as list
-use Rattle.bookings.specs.Stored.{readStored}
+use Rattle.stored.specs.Stored.{readStored}
 use Rattle.typing.specs.Typing.{Typing}
 use Rattle.typing.specs.Largest.{Largest, bareCards}
 use Rattle.typing.specs.Smallest.{Accepted, TurnedDown}
 use Rattle.typing.specs.Demand3.{Outcome, pairs, notMet, Demand3}
-use Rattle.typing.specs.Answer.{BothSaid}
+use Rattle.typing.specs.Answer.{BothSaid, bothRefused}
 
 -- ---- the sheet of what is lent, or the first refusal
 -- A list of bookings is refused, by a reading of it, for the sheet's cards and shapes.
@@ -84,16 +85,10 @@ pub record LargestFound (s : Sheet) (grid : List ℕ) (said : Said) : Type 0 whe
   pub largest : Largest s rounds struck (on grid)
   pub counted : bare ≡ bareCards s (on grid)
 
--- A refusal changes no grid.
-abbrev pub LargestAnswered : Reading Sheet → List ℕ → List ℕ → Said → Type 0
-LargestAnswered (turnedDown number place) before after said =
-    (said ≡ refusal number (place ∷ [])) × (after ≡ before)
-LargestAnswered (accepted s) before after said = LargestFound s after said
-
 -- Largest: of a template, a script, the grid before and after the call, and what is said.
 abbrev pub LargestSays : List ℕ → List ℕ → List ℕ → List ℕ → Said → Type 0
 LargestSays template script before after said =
-    LargestAnswered (largestReading template script before) before after said
+    Answered (largestReading template script before) (Unchanged before after said) (λ s. LargestFound s after said)
 
 -- ---- smallest
 -- The grid that an outcome of the bookings leaves.
@@ -112,16 +107,11 @@ pub record SmallestFound (s : Sheet) (Booked : ℕ → ℕ → Type 0) (grid : L
   pub says : said ≡ outcomeSaid outcome
   pub leaves : Leaves s Booked grid outcome
 
-abbrev pub SmallestAnswered : Reading Sheet → (ℕ → ℕ → Type 0) → List ℕ → List ℕ → Said → Type 0
-SmallestAnswered (turnedDown number place) Booked before after said =
-    (said ≡ refusal number (place ∷ [])) × (after ≡ before)
-SmallestAnswered (accepted s) Booked before after said = SmallestFound s Booked after said
-
 -- Smallest: of a template, a script, bookings, a desk, the grid before and after the call, and what is said.
 abbrev pub SmallestSays : List ℕ → List ℕ → List ℕ → ℕ → List ℕ → List ℕ → Said → Type 0
 SmallestSays template script bookings desk before after said =
-    SmallestAnswered (smallestReading template script bookings desk before) (list.Booked bookings desk) before after
-    said
+    Answered (smallestReading template script bookings desk before) (Unchanged before after said)
+    (λ s. SmallestFound s (list.Booked bookings desk) after said)
 
 -- ---- both
 -- Both typings of one sheet: each as its own call gives it, and what holds of the two together.
@@ -130,12 +120,9 @@ pub record BothFound (s : Sheet) (Booked : ℕ → ℕ → Type 0) (small large 
   pub smallest : SmallestFound s Booked small (said .smallest)
   pub demand : Demand3 s Booked large (largest .rounds) (largest .struck) (largest .bare) small (smallest .outcome)
 
-abbrev pub BothAnswered : Reading Sheet → (ℕ → ℕ → Type 0) → Grids → Grids → BothSaid → Type 0
-BothAnswered (turnedDown number place) Booked before after said =
-    (said ≡ record { largest = refusal number (place ∷ []); smallest = refusal number (place ∷ []) }) × (after ≡ before)
-BothAnswered (accepted s) Booked before after said = BothFound s Booked (after .small) (after .large) said
-
 -- Both: of a template, a script, bookings, a desk, the two grids before and after the call, and what is said.
 abbrev pub BothSays : List ℕ → List ℕ → List ℕ → ℕ → Grids → Grids → BothSaid → Type 0
 BothSays template script bookings desk before after said =
-    BothAnswered (bothReading template script bookings desk before) (list.Booked bookings desk) before after said
+    Answered (bothReading template script bookings desk before)
+    (λ refused. Unchanged before after said (bothRefused refused))
+    (λ s. BothFound s (list.Booked bookings desk) (after .small) (after .large) said)

@@ -6,13 +6,12 @@
 -- DesksSays      the contract: a refusal other than 50 changes no grid
 -- Assumes nothing.
 use Prim.Native.Nat.{ℕ}
-use mathlib.Core.Path.{_≡_}
-use mathlib.Core.List.{List, [], _∷_}
-use Rattle.words.specs.Said.{refusal}
-use Rattle.words.specs.Reading.{Reading, accepted, turnedDown, then}
+use mathlib.Core.List.{List}
+use Rattle.words.specs.Reading.{Reading, then}
+use Rattle.words.specs.Answered.{Answered, Unchanged}
 use Rattle.sheet.specs.Sheet.{Sheet}
 use Rattle.bookings.specs.Bookings.{Booked}
-use Rattle.typing.specs.Answer.{DesksSaid}
+use Rattle.typing.specs.Answer.{DesksSaid, desksRefused}
 use Rattle.typing.specs.Calls.{listedReading, withGrid, BothFound}
 
 -- The grids, before or after a call.
@@ -34,16 +33,8 @@ pub record DesksFound (s : Sheet) (bookings : List ℕ) (grids : DeskGrids) (sai
   pub television : BothFound s (Booked bookings 1) (grids .television) (grids .large)
       (record { largest = said .largest; smallest = said .television })
 
-abbrev pub DesksAnswered : Reading Sheet → List ℕ → DeskGrids → DeskGrids → DesksSaid → Type 0
-DesksAnswered (turnedDown number place) bookings before after said =
-    (said ≡ record {
-      largest = refusal number (place ∷ []);
-      radio = refusal number (place ∷ []);
-      television = refusal number (place ∷ []);
-    }) × (after ≡ before)
-DesksAnswered (accepted s) bookings before after said = DesksFound s bookings after said
-
 -- Both desks: of a template, a script, bookings, the grids before and after the call, and what is said.
 abbrev pub DesksSays : List ℕ → List ℕ → List ℕ → DeskGrids → DeskGrids → DesksSaid → Type 0
 DesksSays template script bookings before after said =
-    DesksAnswered (desksReading template script bookings before) bookings before after said
+    Answered (desksReading template script bookings before)
+    (λ refused. Unchanged before after said (desksRefused refused)) (λ s. DesksFound s bookings after said)

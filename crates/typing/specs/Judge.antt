@@ -10,7 +10,7 @@ use mathlib.Core.Bool.{false}
 use mathlib.Core.List.{List, [], _∷_}
 use lib.ListN.{getD}
 use Rattle.words.specs.Said.{Said, values, refusal}
-use Rattle.words.specs.Reading.{Reading, accepted, turnedDown}
+use Rattle.words.specs.Answered.{Answered}
 use Rattle.board.specs.Grid.{on}
 use Rattle.sheet.specs.Sheet.{Sheet, place, size}
 use Rattle.bookings.specs.Bookings.{cardIndex, deskAt, cardAt, shapeAt, Booked}
@@ -76,12 +76,9 @@ pub record JudgeFound (s : Sheet) (bookings : List ℕ) (desk : ℕ) (grid : Lis
   pub says : said ≡ verdictSaid verdict
   pub right : Judged s bookings desk grid verdict
 
-abbrev pub JudgeAnswered : Reading Sheet → List ℕ → ℕ → List ℕ → Said → Type 0
-JudgeAnswered (turnedDown number place) bookings desk grid said = said ≡ refusal number (place ∷ [])
-JudgeAnswered (accepted s) bookings desk grid said = JudgeFound s bookings desk grid said
-
 -- Judge: of a template, a script, bookings, a desk, the grid, and what is said. The refusals of the template, the
 -- script, the bookings, the desk and the grid's size come first, as those of the smallest.
 abbrev pub JudgeSays : List ℕ → List ℕ → List ℕ → ℕ → List ℕ → Said → Type 0
 JudgeSays template script bookings desk grid said =
-    JudgeAnswered (smallestReading template script bookings desk grid) bookings desk grid said
+    Answered (smallestReading template script bookings desk grid) (λ refused. said ≡ refused)
+    (λ s. JudgeFound s bookings desk grid said)

@@ -1,23 +1,23 @@
 -- What tidying a list of bookings says and writes, on all inputs (docs/FORMAT.md, "Tidying" and "Tidy bookings").
 -- withBuffer     the refusal of a buffer
 -- tidyReading    the sheet of what is lent, or the first refusal
--- TidyFound      what is said and written where nothing is refused
--- TidySays       the contract: a refusal changes no word of the buffer
+-- TidySays       the contract: the tidied list is written; a refusal changes no word of the buffer
 -- StoredSmallestSays   what the call for the smallest would say of a stored list, if it took one; theorems alone speak
 --                      of it
 -- Assumes nothing.
 use Prim.Native.Nat.{ℕ, _+_, _*_}
-use mathlib.Core.Path.{_≡_}
 use mathlib.Core.Bool.{not}
-use mathlib.Core.List.{List, [], _∷_, _++_}
-use lib.ListN.{length, getD, drop}
+use mathlib.Core.List.{List}
+use lib.ListN.{length, getD}
 use lib.Dec.{eqb}
-use Rattle.words.specs.Said.{Said, values, refusal}
-use Rattle.words.specs.Reading.{Reading, accepted, turnedDown, refuse, then}
+use Rattle.words.specs.Said.{Said}
+use Rattle.words.specs.Reading.{Reading, accepted, refuse, then}
+use Rattle.words.specs.Answered.{Answered, Unchanged}
+use Rattle.words.specs.Writes.{Writes}
 use Rattle.sheet.specs.Sheet.{Sheet, readSheet}
-use Rattle.bookings.specs.Stored.{StoredBooked}
-use Rattle.bookings.specs.Tidied.{tidied}
-use Rattle.typing.specs.Calls.{withStored, withGrid, SmallestAnswered}
+use Rattle.stored.specs.Stored.{StoredBooked}
+use Rattle.stored.specs.Tidied.{tidied}
+use Rattle.typing.specs.Calls.{withStored, withGrid, SmallestFound}
 
 -- 40: the buffer has not a word for the count and three for each booking of the list.
 abbrev pub withBuffer : List ℕ → List ℕ → Sheet → Reading Sheet
@@ -28,23 +28,15 @@ abbrev pub tidyReading : List ℕ → List ℕ → List ℕ → List ℕ → Rea
 tidyReading template script bookings out =
     then (then (readSheet template script) (withStored bookings)) (withBuffer bookings out)
 
--- The tidied list stands at the buffer's start, the rest of it is as before, and what is said is the list's length.
-pub record TidyFound (bookings before after : List ℕ) (said : Said) : Type 0 where
-  pub says : said ≡ values (length (tidied bookings) ∷ [])
-  pub writes : after ≡ tidied bookings ++ drop (length (tidied bookings)) before
-
-abbrev pub TidyAnswered : Reading Sheet → List ℕ → List ℕ → List ℕ → Said → Type 0
-TidyAnswered (turnedDown number place) bookings before after said =
-    (said ≡ refusal number (place ∷ [])) × (after ≡ before)
-TidyAnswered (accepted s) bookings before after said = TidyFound bookings before after said
-
--- Tidy: of a template, a script, bookings, the buffer before and after the call, and what is said.
+-- Tidy: of a template, a script, bookings, the buffer before and after the call, and what is said. Where nothing is
+-- refused the tidied list is written to the buffer's front.
 abbrev pub TidySays : List ℕ → List ℕ → List ℕ → List ℕ → List ℕ → Said → Type 0
 TidySays template script bookings before after said =
-    TidyAnswered (tidyReading template script bookings before) bookings before after said
+    Answered (tidyReading template script bookings before) (Unchanged before after said)
+    (λ s. Writes (tidied bookings) before after said)
 
 -- Smallest, of a stored list: of a template, a script, bookings, the grid before and after, and what is said.
 abbrev pub StoredSmallestSays : List ℕ → List ℕ → List ℕ → List ℕ → List ℕ → Said → Type 0
 StoredSmallestSays template script bookings before after said =
-    SmallestAnswered (then (then (readSheet template script) (withStored bookings)) (withGrid before))
-    (StoredBooked bookings) before after said
+    Answered (then (then (readSheet template script) (withStored bookings)) (withGrid before))
+    (Unchanged before after said) (λ s. SmallestFound s (StoredBooked bookings) after said)

@@ -58,13 +58,13 @@ last-none key m (suc k) i l h e =
     (eq-or-ne (key k) m))
     (eq-or-lt-of-le (le-of-suc-le-suc h))
 
-pub last-zero : (key : ℕ → ℕ) (m k : ℕ) → ((i : ℕ) → i < k → key i ≡ m → ⊥) → lastAt key m k ≡ 0
+last-zero : (key : ℕ → ℕ) (m k : ℕ) → ((i : ℕ) → i < k → key i ≡ m → ⊥) → lastAt key m k ≡ 0
 unfolding lastAt
 last-zero key m zero h = refl
 last-zero key m (suc k) h =
     last-other key m k (h k (omega arith)) ∙ last-zero key m k (λ i l. h i (omega arith))
 
-pub last-same : (key other : ℕ → ℕ) (m k : ℕ) → ((i : ℕ) → i < k → key i ≡ other i) → lastAt key m k ≡ lastAt other m k
+last-same : (key other : ℕ → ℕ) (m k : ℕ) → ((i : ℕ) → i < k → key i ≡ other i) → lastAt key m k ≡ lastAt other m k
 unfolding lastAt
 last-same key other m zero same = refl
 last-same key other m (suc k) same =

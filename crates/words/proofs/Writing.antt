@@ -6,7 +6,10 @@
 --   wrote-length                the buffer keeps its length
 --   wrote-front                 what is written from the start on is the buffer's front
 --   wrote-head                  a word in front of what was written behind the first place
---   wrote-unique                no choice is left
+--   wrote-writes                what was written from the start on is what a writer promises
+--   writes-front, writes-rest   its words are the buffer's front, and the rest is as before
+--   writes-unique               no choice is left by that promise
+--   write-said-unique           and none of the enum's cases
 -- Assumes nothing.
 use mathlib.Core.Path.{_≡_, refl, sym, ap, _∙_, subst}
 use mathlib.Core.List.{List, [], _∷_, _++_, append-assoc}
@@ -15,7 +18,12 @@ use native.Mathlib.Numerals.{add-one}
 use native.Mathlib.Omega.{arith}
 use lib.ListN.{length, take, drop, set, getD, length-append, length-drop, take-append-drop}
 use lib.Seq.{length-take-le, take-at, drop-at, drop-drop, take-suc, set-split}
+use Rattle.words.specs.Said.{Said, values}
 use Rattle.words.specs.Wrote.{Room, Wrote}
+use Rattle.words.specs.Writes.{Writes, writeSaid}
+use Rattle.words.specs.declared.WriteAnswer.{WriteAnswer}
+use Rattle.words.specs.declared.WriteAnswer.the-variants as write
+use Rattle.words.proofs.Said.{one-value}
 
 pub wrote-nothing : (b : List ℕ) (at : ℕ) → at ≤ length b → Wrote b at [] b at
 wrote-nothing b at h = record { room = h; moved = omega arith; holds = sym (take-append-drop at b) }
@@ -80,9 +88,31 @@ wrote-head x [] s c next some w = absurd (omega arith)
 wrote-head x (y ∷ ys) s c next some w =
     record { room = w .room; moved = omega (arith, w .moved); holds = ap (λ (l : List ℕ). set l 0 x) (w .holds) }
 
--- no choice is left
-pub wrote-unique : {b s c d : List ℕ} {at next end : ℕ} → Wrote b at s c next → Wrote b at s d end
-    → (c ≡ d) × (next ≡ end)
-wrote-unique {b} {s} {c} {d} {at} {next} {end} w v =
-    let same : next ≡ end = w .moved ∙ sym (v .moved) in
-    (w .holds ∙ ap (λ (n : ℕ). take at b ++ (s ++ drop n b)) same ∙ sym (v .holds), same)
+-- what an operation promises that writes from the start on
+pub wrote-writes : {before words after : List ℕ} {next : ℕ} → Wrote before 0 words after next
+    → Writes words before after (values (next ∷ []))
+wrote-writes {before} {words} {after} {next} w =
+    let long : next ≡ length words = omega (arith, w .moved) in
+    record {
+      says = ap (λ (n : ℕ). values (n ∷ [])) long;
+      writes = w .holds ∙ ap (λ (n : ℕ). words ++ drop n before) long;
+    }
+
+module _ {words before after : List ℕ} (count : ℕ) (w : Writes words before after (values (count ∷ []))) where
+  pub writes-front : take count after ≡ words
+  writes-front = ap (take count) (w .writes) ∙ take-at words _ count (sym (one-value (w .says)))
+
+  pub writes-rest : drop count after ≡ drop count before
+  writes-rest =
+      let long : count ≡ length words = one-value (w .says) in
+      ap (drop count) (w .writes) ∙ drop-at words _ count (sym long) ∙ ap (λ (n : ℕ). drop n before) (sym long)
+
+pub writes-unique : {words before g h : List ℕ} {a b : Said} → Writes words before g a → Writes words before h b
+    → (a ≡ b) × (g ≡ h)
+writes-unique v w = (v .says ∙ sym (w .says), v .writes ∙ sym (w .writes))
+
+pub write-said-unique : (a b : WriteAnswer) → writeSaid a ≡ writeSaid b → a ≡ b
+write-said-unique (write.Written m) (write.Written k) e = cc
+write-said-unique (write.Written m) (write.Refused number at) e = cc
+write-said-unique (write.Refused number at) (write.Written m) e = cc
+write-said-unique (write.Refused number at) (write.Refused number′ at′) e = cc

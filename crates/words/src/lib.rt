@@ -1,4 +1,5 @@
-// The format's limits, and words and bytes as sizes: what every reader starts with.
+// The format's limits, the numbers of cards, kinds and shapes, words and bytes as sizes, and the answer of what writes:
+// what every crate starts with.
 ghost use Rattle.words.specs.Bounded.{Bounded};
 
 // The limits, as specs/Limits and specs/Sizes have them.
@@ -31,6 +32,21 @@ pub const MAX_INPUT: usize = 65536;
 pub const TABLE_SIZE: usize = MAX_SHAPES * MAX_LABELS;
 
 pub const MAX_GRID: usize = MAX_CARDS * MAX_SHAPES;
+
+// The number of a card: it counts the script's cards from 0.
+pub struct Card(pub u16);
+
+// The number of a kind: it counts the template's kinds from 0.
+pub struct Kind(pub u16);
+
+// The number of a shape: it counts the template's shapes from 0.
+pub struct Shape(pub u16);
+
+// What an operation answers that writes into a buffer: how many words or bytes it wrote, or number and place.
+pub enum WriteAnswer {
+    Written(usize),
+    Refused(u16, usize),
+}
 
 // A word as a size.
 pub fn wide(x: u16) -> usize

@@ -47,7 +47,8 @@ div-t12 c = search needs
 
 returns-4 : tie.Need-returns-4
 returns-4 c =
-    let a = c .before .before .before .before .before .args in
+    let start = c .before .before .before .before .before in
+    let a = start .args in
     high-some (a .count) (a .high) _ (omega arith) (omega arith) (omega arith) (cc)
 
 pub high-room-spec : {M : Type 1} → statement M

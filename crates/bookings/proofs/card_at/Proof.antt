@@ -12,11 +12,11 @@ use Rattle.bookings.proofs.card_at.Tie as tie
 card-index-requires : tie.Need-card-index-requires
 card-index-requires c κs = search needs
 
-mul-result : tie.Need-mul-result
-mul-result c = search needs
+mul-t4 : tie.Need-mul-t4
+mul-t4 c = search needs
 
-shared-slice-read-result : tie.Need-shared-slice-read-result
-shared-slice-read-result c = search needs
+shared-slice-read-t6 : tie.Need-shared-slice-read-t6
+shared-slice-read-t6 c = search needs
 
 returns : tie.Need-returns
 unfolding cardAt
@@ -24,4 +24,4 @@ returns c =
     ap (λ (i : ℕ). getD (now (c .before .before .before .args .bookings)) i 0) (c .before .card-index .ensures)
 
 pub card-at-spec : {M : Type 1} → statement M
-card-at-spec = tie.close (tie.spec card-index-requires mul-result shared-slice-read-result returns)
+card-at-spec = tie.close (tie.spec card-index-requires mul-t4 shared-slice-read-t6 returns)

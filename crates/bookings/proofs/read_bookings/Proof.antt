@@ -1,6 +1,5 @@
 -- `bookings::read_bookings` reads a list of both desks: its count and length first, and then its bookings.
 -- Assumes nothing.
-use mathlib.Core.Path.{_∙_}
 use borrow.Author.Needs.{needs}
 use Rattle.bookings.proofs.Reading.{counted-refused, counted-sized, counted-listed}
 use Rattle.bookings.proofs.read_bookings.Statement.{statement}
@@ -29,8 +28,8 @@ returns c = counted-refused 3 _ (c .before .before .before .list-count .ensures)
 returns-2 : tie.Need-returns-2
 returns-2 c =
     let told = c .before in
-    c .read-pairs .ensures
-    ∙ counted-listed 3 _ (told .before .before .before .list-count .ensures) _ (told .before .counted2 .given .1)
+    counted-listed 3 _ (told .before .before .before .list-count .ensures) _ (told .before .counted2 .given .1)
+    (c .read-pairs .ensures)
 
 pub read-bookings-spec : {M : Type 1} → statement M
 read-bookings-spec =

@@ -1,11 +1,11 @@
--- `calls::largest` answers as the format says: a law of proofs/Answered for each way out. Assumes nothing.
+-- `calls::largest` answers as the format says: a law of proofs/WaysOut for each way out. Assumes nothing.
 use native.Mathlib.Omega.{arith}
 use denote.Ref.{now}
 use borrow.Author.Needs.{needs}
 use Rattle.sheet.specs.Opened.{Known}
-use Rattle.calls.proofs.Known.{sheet, asked}
-use Rattle.calls.proofs.Readings.{known-by, refused-by}
-use Rattle.calls.proofs.Answered.{largest-refused, largest-size, largest-done}
+use Rattle.lent.proofs.KnownSheet.{sheet, asked}
+use Rattle.lent.proofs.Readings.{known-by, refused-by}
+use Rattle.calls.proofs.WaysOut.{largest-refused, largest-size, largest-done}
 use Rattle.calls.proofs.largest.Statement.{statement}
 use Rattle.calls.proofs.largest.Tie as tie
 
@@ -53,9 +53,6 @@ largest-of-requires c κs =
     let size = c .before .before .before in
     record { known = known (size .before); size = omega (arith, size .grid-size .ensures) }
 
-struck-answer-requires : tie.Need-struck-answer-requires
-struck-answer-requires c κs = search needs
-
 returns-2 : tie.Need-returns-2
 returns-2 c =
     let sheet = c .before .before .before .before in
@@ -68,14 +65,13 @@ same-length c = search needs
 
 returns-3 : tie.Need-returns-3
 returns-3 c =
-    let found = c .before .before .before in
+    let found = c .before .before in
     let size = found .before .before .before .before in
     let told = size .before in
     let s = start (read told) .args in
     let k = known told in
     largest-done (now (s .template)) (now (s .script)) (sheet k) (asked k) (now (s .grid)) _ _
-    (omega (arith, size .grid-size .ensures)) (c .struck-answer .ensures)
-    (found .largest-of .ensures (sheet k) (asked k))
+    (omega (arith, size .grid-size .ensures)) (found .largest-of .ensures (sheet k) (asked k))
 
 pub largest-spec : {M : Type 1} → statement M
 largest-spec =
@@ -89,7 +85,6 @@ largest-spec =
     returns
     slice-aggregate-largest-of
     largest-of-requires
-    struck-answer-requires
     returns-2
     same-length
     returns-3)

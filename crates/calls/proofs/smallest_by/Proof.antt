@@ -1,33 +1,17 @@
 -- `calls::smallest_by` tests the pairs and settles the bookings. Assumes nothing.
 use borrow.Author.Needs.{needs}
-use Rattle.calls.proofs.Tested.{some-tested}
 use Rattle.calls.proofs.smallest_by.Statement.{statement}
 use Rattle.calls.proofs.smallest_by.Tie as tie
 
--- The start, and the pairs as they were tested.
-abbrev start : tie.After-test-pairs-arg → tie.Start
-start c = c .before .before .before .before .before .before .before .before .before .before
-
+-- The pairs as they were tested.
 abbrev tested : tie.After-queue → tie.After-test-pairs
 tested c = c .before .before .before .before .before .before
 
 test-pairs-requires : tie.Need-test-pairs-requires
-test-pairs-requires c κs =
-    let asked = start c .pre in
-    record {
-      sized = record { known = asked .lent .listed .known; size = asked .lent .other-size };
-      arriving = asked .arriving;
-    }
+test-pairs-requires c κs = search needs
 
 settle-requires : tie.Need-settle-requires
-settle-requires c κs =
-    let pairs = tested c in
-    let lent = start (pairs .before) .pre .lent in
-    record {
-      some = some-tested (lent .listed .known) (pairs .test-pairs .ensures);
-      list = lent .listed .list;
-      size = lent .size;
-    }
+settle-requires c κs = search needs
 
 same-length : tie.Need-same-length
 same-length c = search needs
@@ -42,10 +26,4 @@ returns c s q =
 
 pub smallest-by-spec : {M : Type 1} → statement M
 smallest-by-spec =
-    tie.close
-    (tie.spec
-    test-pairs-requires
-    settle-requires
-    same-length
-    same-length-2
-    returns)
+    tie.close (tie.spec test-pairs-requires settle-requires same-length same-length-2 returns)

@@ -1,5 +1,5 @@
 -- `capi::prep_tidy_bookings` tells what the call that tidies bookings says. Assumes nothing.
-use Rattle.typing.specs.Answer.{tidySaid}
+use Rattle.words.specs.Writes.{writeSaid}
 use Rattle.typing.specs.Tidy.{TidySays}
 use Rattle.capi.proofs.Told.{Plain, said-by, tells-found, tells-refused}
 use Rattle.capi.proofs.Refusals.{tidy-plain}
@@ -42,13 +42,13 @@ same-length-2 c = search needs
 returns : tie.Need-returns
 returns c =
     let a = c .before .before .before .before .before in
-    let says = said-by (Allowed a) tidySaid (c .before .answer .given .1) (a .tidy-bookings .ensures) in
+    let says = said-by (Allowed a) writeSaid (c .before .answer .given .1) (a .tidy-bookings .ensures) in
     tells-found (Allowed a) _ says
 
 returns-2 : tie.Need-returns-2
 returns-2 c =
     let a = c .before .before .before .before .before in
-    let says = said-by (Allowed a) tidySaid (c .before .answer2 .given .1) (a .tidy-bookings .ensures) in
+    let says = said-by (Allowed a) writeSaid (c .before .answer2 .given .1) (a .tidy-bookings .ensures) in
     let number = c .before .answer2 .given .0 .0 in
     let place = c .before .answer2 .given .0 .1 .0 in
     tells-refused (Allowed a) 1 number place (plain a number place says) says

@@ -10,9 +10,16 @@ use borrow.Author.Needs.{needs}
 use Rattle.counts.proofs.fit_accepted.Statement.{statement}
 use Rattle.counts.proofs.fit_accepted.Tie as tie
 
--- The function's entry, from where the shape's place was found.
+-- The function's entry, from where the count of kinds is a size, the counts are looked over and the shape's place is
+-- found.
+abbrev at-wide : tie.After-wide → tie.Start
+at-wide c = c .before .before .before .before .before
+
+abbrev at-over : tie.After-first-over → tie.Start
+at-over c = at-wide (c .before .before)
+
 abbrev entry : tie.After-shape-place → tie.Start
-entry c = c .before .before .before .before .before .before .before .before .before .before
+entry c = at-over (c .before .before .before)
 
 returns : tie.Need-returns
 returns c =
@@ -28,8 +35,7 @@ mul-if2 c = search needs
 
 returns-2 : tie.Need-returns-2
 returns-2 c =
-    let start = c .before .before .before .before .before .before in
-    let (t, e, kinds, shapes) = template-read _ _ _ (start .pre .said) in
+    let (t, e, kinds, shapes) = template-read _ _ _ (at-wide (c .before) .pre .said) in
     fit-length _ _ _ t e (omega arith) (omega arith)
 
 first-over-requires : tie.Need-first-over-requires
@@ -37,8 +43,7 @@ first-over-requires c κs = search needs
 
 returns-3 : tie.Need-returns-3
 returns-3 c =
-    let start = c .before .before .before .before .before .before .before .before in
-    let (t, e, kinds, shapes) = template-read _ _ _ (start .pre .said) in
+    let (t, e, kinds, shapes) = template-read _ _ _ (at-over (c .before) .pre .said) in
     fit-over _ _ _ t e (omega arith) (omega arith) _ (c .before .first-over .ensures) (c .if3 .taken)
 
 wide-requires-2 : tie.Need-wide-requires-2
@@ -90,9 +95,13 @@ list-fits-requires c κs =
     fits-asks _ t e _ (omega arith) (start .args .names .now) _ _ _ _ _ (start .pre .table t e) (start .pre .size)
     (spread .spread .ensures .full) (omega arith) (found .shape-place .ensures) base size
 
+-- Where the counts are spread, from where they are tested.
+abbrev spread-done : tie.After-list-fits → tie.After-spread
+spread-done c = c .before .before .before .before
+
 returns-4 : tie.Need-returns-4
 returns-4 c =
-    let spread = c .before .before .before .before .before in
+    let spread = spread-done (c .before) in
     let found = spread .before .before in
     let over = found .before .before .before in
     let (t, e, kinds, shapes) = template-read _ _ _ (entry found .pre .said) in
@@ -102,7 +111,7 @@ returns-4 c =
 
 returns-5 : tie.Need-returns-5
 returns-5 c =
-    let spread = c .before .before .before .before .before in
+    let spread = spread-done (c .before) in
     let found = spread .before .before in
     let over = found .before .before .before in
     let (t, e, kinds, shapes) = template-read _ _ _ (entry found .pre .said) in

@@ -23,17 +23,19 @@ slice-aggregate-fit-accepted c = search needs
 
 fit-accepted-requires : tie.Need-fit-accepted-requires
 fit-accepted-requires c κs =
-    let read = c .before .before .before .before .before .read-names .ensures in
+    let told = c .before .before in
+    let (said, table) = told .before .before .before .read-names .ensures in
     record {
-      said = sym (ap templateSaid (c .before .before .read2 .given .1)) ∙ read .0;
+      said = sym (ap templateSaid (told .read2 .given .1)) ∙ said;
       size = search needs;
-      table = read .1;
+      table = table;
     }
 
 returns : tie.Need-returns
 returns c =
-    fit-template _ _ _ _ _
-    (sym (ap templateSaid (c .before .read .given .1)) ∙ c .before .before .before .before .read-names .ensures .0)
+    let told = c .before in
+    let (said, table) = told .before .before .before .read-names .ensures in
+    fit-template _ _ _ _ _ (sym (ap templateSaid (told .read .given .1)) ∙ said)
 
 returns-2 : tie.Need-returns-2
 returns-2 c = search needs

@@ -1,4 +1,4 @@
--- `list_fits` meets its contract: a law of proofs/Evaluations for each answer. Assumes nothing.
+-- `list_fits` meets its contract: a law of proofs/Listing for each answer. Assumes nothing.
 use Prim.Native.Nat.{ℕ, _+_}
 use mathlib.Core.Path.{_≡_, ap, sym, _∙_}
 use mathlib.Core.List.{[]}
@@ -8,10 +8,9 @@ use borrow.Author.Needs.{needs}
 use Rattle.words.specs.Limits.{maxDepth}
 use Rattle.bags.specs.Bag.{count}
 use Rattle.bags.specs.Interval.{inside, interval}
-use Rattle.script.specs.Runs.{amount}
-use Rattle.counts.specs.Trees.{treeAt}
-use Rattle.counts.proofs.Listing.{list-ready, listed-all}
-use Rattle.counts.proofs.Evaluations.{fits-open, fits-closed, fits-not}
+use Rattle.links.specs.Runs.{amount}
+use Rattle.trees.specs.Trees.{treeAt}
+use Rattle.counts.proofs.Listing.{list-ready, listed-all, fits-open, fits-closed, fits-not}
 use Rattle.counts.proofs.list_fits.Statement.{statement}
 use Rattle.counts.proofs.list_fits.Tie as tie
 
@@ -55,7 +54,9 @@ returns c =
     (c .part-fits .ensures ∙ by-list s (s .args .at + 2))
 
 others-zero-requires : tie.Need-others-zero-requires
-others-zero-requires c κs = let s = entry (c .before) in (s .pre .kinds-in, omega (arith, s .pre .few, s .pre .counted))
+others-zero-requires c κs =
+    let s = entry (c .before) in
+    record { kinds-in = s .pre .kinds-in; counted = omega (arith, s .pre .few, s .pre .counted) }
 
 add-part-fits-2 : tie.Need-add-part-fits-2
 add-part-fits-2 c = search needs

@@ -3,9 +3,9 @@ use borrow.Author.Needs.{needs}
 use mathlib.Core.Path.{subst}
 use denote.Ref.{now}
 use Rattle.words.specs.Limits.{maxDepth}
-use Rattle.script.specs.Runs.{amount}
+use Rattle.links.specs.Runs.{amount}
 use Rattle.flat.specs.Meeting.{MetAs}
-use Rattle.counts.specs.Trees.{treeAt}
+use Rattle.trees.specs.Trees.{treeAt}
 use Rattle.fits.proofs.CardTests.{flat-named, flat-met, other-open, other-named, other-not}
 use Rattle.fits.proofs.card_fits.Statement.{statement}
 use Rattle.fits.proofs.card_fits.Tie as tie

@@ -3,7 +3,7 @@ use borrow.Author.Needs.{needs}
 use mathlib.Core.Path.{refl, ap, _∙_}
 use denote.Ref.{now}
 use Rattle.bags.specs.Label.{incoming}
-use Rattle.script.specs.Counts.{wayCount}
+use Rattle.links.specs.Counts.{wayCount}
 use native.Mathlib.Omega.{arith}
 use Rattle.words.proofs.Bools.{never-both}
 use Rattle.fits.proofs.CardCounts.{back-asked}
@@ -24,20 +24,22 @@ same-length c = search needs
 returns : tie.Need-returns
 returns c =
     let counted = c .before .before .count-arriving in
-    let s = c .before .before .before .before .before .before .before .before .before .before in
+    let taken = c .before .before .before .before .before in
+    let s = taken .before .before .before .before .before in
     record {
-      room = counted .ensures .1 ∙ s .pre .room;
-      yes = λ y. counted .ensures .1 ∙ s .pre .room;
-      exact = λ y k l. counted .ensures .0 k (omega (arith, s .pre .room))
+      room = counted .ensures .size ∙ s .pre .room;
+      yes = λ y. counted .ensures .size ∙ s .pre .room;
+      exact = λ y k l. counted .ensures .exact k (omega (arith, s .pre .room))
           ∙ ap (wayCount incoming (now (s .args .script)) (s .args .n) k)
           (c .before .before .before .before .wide .ensures .same);
-      no = λ o. never-both (c .before .before .before .before .before .if1 .taken) o;
+      no = λ o. never-both (taken .if1 .taken) o;
     }
 
 returns-2 : tie.Need-returns-2
 returns-2 c =
+    let s = c .before .before .before .before .before in
     record {
-      room = c .before .before .before .before .before .pre .room;
+      room = s .pre .room;
       yes = λ y. never-both y (c .if1 .left);
       exact = λ y. never-both y (c .if1 .left);
       no = λ o. refl;

@@ -102,25 +102,29 @@ fit-shape-requires c κs =
       opened = opened;
       leaving = ready .leaving;
       arriving = ready .arriving;
-      alike = twins-found _ _ _ (s .args .e) opened (ready .leaving) _ cards _ (f .find-twins .ensures .0);
+      alike = twins-found _ _ _ (s .args .e) opened (ready .leaving) _ cards _ (f .find-twins .ensures .each);
       named = row-named _ _ _ (s .args .e) (ready .known) _ (below i) _ (l .loop .inv .place);
       size = l .loop .inv .size;
     }
 
+-- The loop's body, from where its shape is tested.
+abbrev body : tie.After-slice-known2 Inv-loop μ-loop → tie.In-loop Inv-loop μ-loop
+body c = c .before .before .before .before .before .before
+
 add-at : tie.Need-add-at Inv-loop μ-loop
-add-at c = let i = shape-of (c .before .before .before .before .before .before) in search needs
+add-at c = let i = shape-of (body c) in search needs
 
 mul-wide : tie.Need-mul-wide Inv-loop μ-loop
-mul-wide c = let i = shape-of (c .before .before .before .before .before .before) in search needs
+mul-wide c = let i = shape-of (body c) in search needs
 
 shared-slice-read-wide : tie.Need-shared-slice-read-wide Inv-loop μ-loop
-shared-slice-read-wide c = let i = shape-of (c .before .before .before .before .before .before .before) in search needs
+shared-slice-read-wide c = let i = shape-of (body (c .before)) in search needs
 
 wide-requires-3 : tie.Need-wide-requires-3 Inv-loop μ-loop
 wide-requires-3 c κs = search needs
 
 add-at-2 : tie.Need-add-at-2 Inv-loop μ-loop
-add-at-2 c = let i = shape-of (c .before .before .before .before .before .before .before .before) in search needs
+add-at-2 c = let i = shape-of (body (c .before .before)) in search needs
 
 add-t : tie.Need-add-t Inv-loop μ-loop
 add-t c = search needs
@@ -130,7 +134,7 @@ loop-less c = search needs
 
 loop-again : tie.Need-loop-again Inv-loop μ-loop
 loop-again c =
-    let i = c .before .before .before .before .before .before .before .before in
+    let i = body (c .before .before) in
     let l = i .before in
     shapes-next _ _ (start (l .before) .args .e) _ _ _ _ (l .loop .inv) (below i) (c .wide3 .ensures .same) _
     (c .before .before .before .before .fit-shape .ensures)

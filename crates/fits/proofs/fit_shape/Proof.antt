@@ -10,7 +10,7 @@ use Rattle.words.specs.Limits.{maxShapes}
 use Rattle.words.specs.Sizes.{maxGrid}
 use native.Mathlib.Omega.{arith}
 use Rattle.words.proofs.Bools.{false-of-not}
-use Rattle.script.specs.Alike.{TwinOf}
+use Rattle.twins.specs.Twins.{TwinOf}
 use Rattle.sheet.specs.Opened.{templateAs}
 use Rattle.fits.proofs.CardCounts.{pair-byte}
 use Rattle.fits.proofs.Twins.{twin-byte}
@@ -94,7 +94,8 @@ plan-shape-requires c κs =
 
 looks-back-requires : tie.Need-looks-back-requires Inv-loop μ-loop
 looks-back-requires c κs =
-    c .before .before .before .before .before .before .before .before .before .before .before .pre .named .asked
+    let s = c .before .before .before .before .before .before .before .before .before .before .before in
+    s .pre .named .asked
 
 wide-requires : tie.Need-wide-requires Inv-loop μ-loop
 wide-requires c κs = search needs

@@ -59,7 +59,7 @@ open-at-requires : tie.Need-open-at-requires
 open-at-requires c κs = shape-of (c .before .before .before .before) .start
 
 part-at-requires : tie.Need-part-at-requires
-part-at-requires c κs = shape-of (c .before .before .before .before .before) .start
+part-at-requires c κs = let s = c .before .before .before .before .before in shape-of s .start
 
 core-place-requires : tie.Need-core-place-requires
 core-place-requires c κs = (omega (arith, part-core c .standing .ends), end-in c)
@@ -85,8 +85,9 @@ same-length c = search needs
 
 returns : tie.Need-returns
 returns c =
-    let surveyed = c .before .before .before .before .before .survey-part .ensures in
-    let place = c .before .before .before .before .before .before .before in
+    let survey = c .before .before .before .before .before in
+    let surveyed = survey .survey-part .ensures in
+    let place = survey .before .before in
     let a = place .before in
     record {
       is-open = a .before .open-at .ensures;

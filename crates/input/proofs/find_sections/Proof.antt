@@ -1,165 +1,77 @@
--- `input::find_sections` tells what reading the input gives: one law of `Inputs` for each return. Assumes nothing.
-use Prim.Native.Nat.{ℕ, _+_, _*_}
-use mathlib.Core.Path.{_≡_, refl, ap, _∙_}
-use mathlib.Core.List.{List}
+-- `input::find_sections` finds the front of the input, and that nothing follows it. Assumes nothing.
 use native.Mathlib.Omega.{arith}
+use mathlib.Core.Path.{_≡_, ap, _∙_, subst}
+use mathlib.Core.List.{List}
+use Prim.Native.Nat.{ℕ}
 use denote.Ref.{now}
 use borrow.Author.Needs.{needs}
-use Rattle.words.specs.Reading.{accepted}
-use Rattle.input.specs.Input.{scriptStart, bookingsStart, inputEnd}
-use Rattle.input.proofs.Inputs.{script-at, bookings-at, end-at, words-at, same-input, reads-too-long}
-use Rattle.input.proofs.Inputs.{reads-no-template, reads-no-script, reads-no-bookings, reads-short}
-use Rattle.input.proofs.Inputs.{reads-going-on, reads-sections}
+use Rattle.words.specs.Limits.{maxInput}
+use Rattle.input.specs.Input.{readFront}
+use Rattle.input.specs.Machine.{sectionsRead, FrontInside}
+use Rattle.input.specs.declared.Sections.{Sections}
+use Rattle.input.specs.declared.Sections.the-variants.{Found}
+use Rattle.input.proofs.Inputs.{reads-faulty, reads-going-on, reads-front}
 use Rattle.input.proofs.find_sections.Statement.{statement}
 use Rattle.input.proofs.find_sections.Tie as tie
 
--- The bytes, and where the second and the third section and the end of the input are by the counts read so far.
-abbrev bytes-of : tie.After-count-at → List ℕ
-bytes-of a = now (a .before .before .before .before .args .bytes)
+-- The bytes; what is known of the sections of their front; and that these are read there.
+abbrev bytes-of : tie.After-front → List ℕ
+bytes-of k = now (k .before .before .before .before .args .bytes)
 
-second : (a : tie.After-count-at) → 2 + 2 * a .count-at .result ≡ scriptStart (bytes-of a)
-second a = script-at (bytes-of a) (a .count-at .ensures .same)
+abbrev told : tie.After-front → Sections
+told k = Found (k .front .given .0 .0) (k .front .given .0 .1 .0) (k .front .given .0 .1 .1 .0)
 
-third : (a : tie.After-count-at2) →
-    let first = a .before .before in
-    2 + 2 * first .count-at .result + 2 + 2 * a .count-at2 .result ≡ bookingsStart (bytes-of first)
-third a =
-    let first = a .before .before in
-    bookings-at (bytes-of first) (second first) (a .count-at2 .ensures .same)
+laid : (k : tie.After-front) → FrontInside maxInput (bytes-of k) (told k)
+laid k = subst (FrontInside maxInput (bytes-of k)) (k .front .given .1) (k .before .before .find-front .ensures .1)
 
-end : (a : tie.After-count-at3) →
-    let next = a .before .before in
-    let first = next .before .before in
-    2 + 2 * first .count-at .result + 2 + 2 * next .count-at2 .result + 2 + 2 * a .count-at3 .result
-    ≡ inputEnd (bytes-of first)
-end a =
-    let next = a .before .before in
-    end-at (bytes-of (next .before .before)) (third next) (a .count-at3 .ensures .same)
+front-read : (k : tie.After-front) → readFront maxInput (bytes-of k) ≡ sectionsRead (bytes-of k) (told k)
+front-read k = k .before .before .find-front .ensures .0 ∙ ap (sectionsRead (bytes-of k)) (k .front .given .1)
+
+find-front-requires : tie.Need-find-front-requires
+find-front-requires c κs = search needs
+
+enum-told : tie.Need-enum-told
+enum-told c = search needs
+
+enum-known-front : tie.Need-enum-known-front
+enum-known-front c = search needs
+
+mul-if1 : tie.Need-mul-if1
+mul-if1 c = omega (arith, (laid (c .before .before)) .few, (laid (c .before .before)) .bookings .ends)
+
+add-if1 : tie.Need-add-if1
+add-if1 c =
+    let f = laid (c .before .before .before) in
+    omega (arith, f .few, f .bookings .ends)
 
 returns : tie.Need-returns
-returns c = (reads-too-long _ (omega arith), tt)
+returns c =
+    let known = c .before .before .before .before in
+    (reads-going-on _ (front-read known) (omega (arith, laid known .end)), tt)
 
 returns-2 : tie.Need-returns-2
-returns-2 c = (reads-no-template _ (omega arith) (omega arith), tt)
-
-count-at-requires : tie.Need-count-at-requires
-count-at-requires c κs = search needs
-
-mul-script-at : tie.Need-mul-script-at
-mul-script-at c = search needs
-
-add-script-at : tie.Need-add-script-at
-add-script-at c = search needs
-
-add-if3 : tie.Need-add-if3
-add-if3 c = search needs
+returns-2 c =
+    let read = c .before .before in
+    let bytes = now (read .before .before .args .bytes) in
+    (reads-faulty bytes (read .find-front .ensures .0 ∙ ap (sectionsRead bytes) (c .enum-told .given .1)), tt)
 
 returns-3 : tie.Need-returns-3
 returns-3 c =
-    let first = c .before in
-    (reads-no-script _ (omega arith) (omega arith) (omega (arith, second first)), tt)
-
-count-at-requires-2 : tie.Need-count-at-requires-2
-count-at-requires-2 c κs = search needs
-
-add-bookings-at : tie.Need-add-bookings-at
-add-bookings-at c = search needs
-
-mul-bookings-at : tie.Need-mul-bookings-at
-mul-bookings-at c = search needs
-
-add-bookings-at-2 : tie.Need-add-bookings-at-2
-add-bookings-at-2 c = search needs
-
-add-if4 : tie.Need-add-if4
-add-if4 c = search needs
-
-returns-4 : tie.Need-returns-4
-returns-4 c =
-    let next = c .before in
-    let first = next .before .before in
-    (reads-no-bookings _ (omega arith) (omega arith) (omega (arith, second first)) (omega (arith, third next)), tt)
-
-count-at-requires-3 : tie.Need-count-at-requires-3
-count-at-requires-3 c κs = search needs
-
-add-end : tie.Need-add-end
-add-end c = search needs
-
-mul-end : tie.Need-mul-end
-mul-end c = search needs
-
-add-end-2 : tie.Need-add-end-2
-add-end-2 c = search needs
-
-returns-5 : tie.Need-returns-5
-returns-5 c =
-    let last = c .before in
-    let next = last .before .before in
-    let first = next .before .before in
-    let script = second first in
-    let bookings = third next in
-    let all = end last in
-    (reads-short _ (omega arith) (omega arith) (omega arith) (omega arith) (omega arith), tt)
-
-returns-6 : tie.Need-returns-6
-returns-6 c =
-    let last = c .before .before in
-    let next = last .before .before in
-    let first = next .before .before in
-    let script = second first in
-    let bookings = third next in
-    let all = end last in
-    (reads-going-on _ (omega arith) (omega arith) (omega arith) (omega arith) (omega arith) (omega arith), tt)
-
-add-t11 : tie.Need-add-t11
-add-t11 c = search needs
-
-add-t13 : tie.Need-add-t13
-add-t13 c = search needs
-
-returns-7 : tie.Need-returns-7
-returns-7 c =
-    let last = c .before .before in
-    let next = last .before .before in
-    let first = next .before .before in
-    let script = second first in
-    let bookings = third next in
-    let all = end last in (
-      reads-sections _ (omega arith) (omega arith) (omega arith) (omega arith) (omega arith) (omega arith)
-          ∙ ap accepted (same-input (words-at _ refl (first .count-at .ensures .same))
-          (words-at _ script (next .count-at2 .ensures .same)) (words-at _ bookings (last .count-at3 .ensures .same))),
-      record {
-        few = omega arith;
-        template = record { ends = omega arith; even = omega arith };
-        script = record { ends = omega arith; even = omega arith };
-        bookings = record { ends = omega arith; even = omega arith };
-      },
+    let known = c .before .before .before .before in
+    let f = laid known in (
+      reads-front _ (front-read known) (omega (arith, f .end)),
+      record { few = f .few; template = f .template; script = f .script; bookings = f .bookings },
     )
 
 pub find-sections-spec : {M : Type 1} → statement M
 find-sections-spec =
     tie.close
     (tie.spec
+    find-front-requires
+    enum-told
+    enum-known-front
+    mul-if1
+    add-if1
     returns
     returns-2
-    count-at-requires
-    mul-script-at
-    add-script-at
-    add-if3
-    returns-3
-    count-at-requires-2
-    add-bookings-at
-    mul-bookings-at
-    add-bookings-at-2
-    add-if4
-    returns-4
-    count-at-requires-3
-    add-end
-    mul-end
-    add-end-2
-    returns-5
-    returns-6
-    add-t11
-    add-t13
-    returns-7)
+    returns-3)

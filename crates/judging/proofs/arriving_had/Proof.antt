@@ -13,10 +13,10 @@ use Rattle.bags.specs.Label.{incoming}
 use Rattle.script.specs.Link.{fromAt, kindAt, toAt}
 use Rattle.words.specs.Chain.{lastAt}
 use Rattle.board.specs.Grid.{on}
-use Rattle.search.specs.Walks.{HasAll}
-use Rattle.search.specs.Follows.{EntryGood, LedGood}
-use Rattle.search.proofs.Needs.{from-word, kind-word}
-use Rattle.search.proofs.Walks.{Testing, test-start, test-in, test-less, test-next, test-one, test-done}
+use Rattle.walks.specs.Walks.{HasAll}
+use Rattle.walks.specs.Entries.{EntryGood, LedGood}
+use Rattle.walks.proofs.Needs.{from-word, kind-word}
+use Rattle.walks.proofs.Walks.{Testing, test-start, test-in, test-less, test-next, test-one, test-done}
 use Rattle.judging.proofs.arriving_had.Statement.{statement}
 use Rattle.judging.proofs.arriving_had.Tie as tie
 

@@ -6,7 +6,7 @@ use lib.ListN.{length}
 use denote.Ref.{now}
 use borrow.Author.Needs.{needs}
 use Rattle.board.specs.Grid.{on}
-use Rattle.search.proofs.Entries.{one-named, had-nothing, had-named}
+use Rattle.walks.proofs.Entries.{one-named, had-nothing, had-named}
 use Rattle.judging.proofs.entry_had.Statement.{statement}
 use Rattle.judging.proofs.entry_had.Tie as tie
 

@@ -11,40 +11,28 @@ use Rattle.bookings.specs.Bookings.{cardAt, shapeAt}
 use Rattle.judging.proofs.is_held.Statement.{statement}
 use Rattle.judging.proofs.is_held.Tie as tie
 
--- the function's entry, and the place that is read
-abbrev Start : tie.After-wide2 → tie.Start
-Start a = a .before .before .before .before .before .before
+-- the function's entry
+abbrev Start : tie.After-pair-place → tie.Start
+Start a = a .before .before .before .before .before
 
-abbrev Place : tie.After-wide2 → ℕ
-Place a = a .before .before .wide .result * Start a .args .shapes + a .wide2 .result
-
--- it is that of the booking's pair
-place-is : (a : tie.After-wide2) → let s = Start a .args in
-    Place a ≡ cardAt (now (s .bookings)) (s .i) * s .shapes + shapeAt (now (s .bookings)) (s .i)
+-- the place that is read is that of the booking's pair
+place-is : (a : tie.After-pair-place) → let s = Start a .args in
+    a .pair-place .result ≡ cardAt (now (s .bookings)) (s .i) * s .shapes + shapeAt (now (s .bookings)) (s .i)
 place-is a =
     let s = Start a .args in
-    let card = a .before .before in
-    ap (λ (n : ℕ). n * s .shapes + a .wide2 .result) (card .wide .ensures .same ∙ card .before .card-at .ensures)
-    ∙ ap (λ (t : ℕ). cardAt (now (s .bookings)) (s .i) * s .shapes + t)
-    (a .wide2 .ensures .same ∙ a .before .shape-at .ensures)
+    let shape = a .before .shape-at in
+    a .pair-place .ensures
+    ∙ ap (λ (n : ℕ). n * s .shapes + shape .result .0) (a .before .before .card-at .ensures)
+    ∙ ap (λ (t : ℕ). cardAt (now (s .bookings)) (s .i) * s .shapes + t) (shape .ensures)
 
 card-at-requires : tie.Need-card-at-requires
 card-at-requires c κs = search needs
 
-wide-requires : tie.Need-wide-requires
-wide-requires c κs = search needs
-
 shape-at-requires : tie.Need-shape-at-requires
 shape-at-requires c κs = search needs
 
-wide-requires-2 : tie.Need-wide-requires-2
-wide-requires-2 c κs = search needs
-
-mul-result : tie.Need-mul-result
-mul-result c = omega (arith, place-is c, Start c .pre .inside)
-
-add-result : tie.Need-add-result
-add-result c = omega (arith, place-is c, Start c .pre .inside)
+pair-place-requires : tie.Need-pair-place-requires
+pair-place-requires c κs = c .before .before .before .before .pre .few-shapes
 
 shared-slice-read-result : tie.Need-shared-slice-read-result
 shared-slice-read-result c = omega (arith, place-is (c .before), Start (c .before) .pre .inside)
@@ -58,10 +46,7 @@ is-held-spec =
     tie.close
     (tie.spec
     card-at-requires
-    wide-requires
     shape-at-requires
-    wide-requires-2
-    mul-result
-    add-result
+    pair-place-requires
     shared-slice-read-result
     returns)

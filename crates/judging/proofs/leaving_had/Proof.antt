@@ -2,9 +2,9 @@
 -- those below i lead to. Assumes nothing.
 use mathlib.Core.Path.{subst, subst₂, _≡_, refl, sym, _∙_, ap}
 use mathlib.Core.Bool.{Bool}
-use Prim.Native.Nat.{ℕ, _<_, _≤_, _+_, _*_, _-_}
+use Prim.Native.Nat.{ℕ, _<_, _≤_, _*_, _-_}
 use native.Mathlib.Omega.{arith}
-use lib.ListN.{length, getD}
+use lib.ListN.{getD}
 use denote.Ref.{now}
 use borrow.Author.Needs.{needs}
 use borrow.Author.Tests.{not-true, not-false}
@@ -12,10 +12,10 @@ use Rattle.words.proofs.Bools.{false-true, never-both}
 use Rattle.bags.specs.Label.{outgoing}
 use Rattle.script.specs.Link.{kindAt, toAt}
 use Rattle.board.specs.Grid.{on}
-use Rattle.search.specs.Walks.{Leaving, HasAll}
-use Rattle.search.specs.Follows.{EntryGood, LedGood}
-use Rattle.search.proofs.Needs.{kind-word, to-word}
-use Rattle.search.proofs.Walks.{had-none, had-more, had-one}
+use Rattle.walks.specs.Walks.{Leaving, HasAll}
+use Rattle.walks.specs.Entries.{EntryGood, LedGood}
+use Rattle.walks.proofs.Needs.{kind-word, to-word}
+use Rattle.walks.proofs.Walks.{had-none, had-more, had-one}
 use Rattle.judging.proofs.leaving_had.Statement.{statement}
 use Rattle.judging.proofs.leaving_had.Tie as tie
 

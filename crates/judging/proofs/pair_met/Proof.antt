@@ -13,10 +13,10 @@ use Rattle.words.proofs.Places.{shape-in}
 use Rattle.bags.specs.Label.{outgoing, incoming}
 use Rattle.board.specs.Grid.{on}
 use Rattle.board.proofs.Grids.{on-yes, on-no}
-use Rattle.search.specs.Walks.{Leaving, HasAll}
-use Rattle.search.specs.Follows.{LedGood}
-use Rattle.search.proofs.Needs.{Half, half-row, row-asked, range-rising, range-in, arrivals-at}
-use Rattle.search.proofs.Following.{had-first, had-out, had-both}
+use Rattle.walks.specs.Walks.{Leaving, HasAll}
+use Rattle.walks.specs.Entries.{LedGood}
+use Rattle.walks.proofs.Needs.{Half, half-row, row-asked, range-rising, range-in, arrivals-at}
+use Rattle.walks.proofs.Following.{had-first, had-out, had-both}
 use Rattle.judging.proofs.Judging.{pair-in, card-here, unfit-unmet, met-by-needs}
 use Rattle.judging.proofs.pair_met.Statement.{statement}
 use Rattle.judging.proofs.pair_met.Tie as tie
@@ -174,7 +174,8 @@ part-row-end c = omega (arith, row-in (High (c .before .before .before .before))
 
 arriving-had-requires : tie.Need-arriving-had-requires
 arriving-had-requires c κs =
-    let s = High (c .before .before .before .before .before) in
+    let ends = c .before .before .before .before .before in
+    let s = High ends in
     let links = s .pre .lent .links in
     record {
       row-in = row-asked (links .ready) (shape-is s) (back-half s _ refl) (s .pre .lent .full);

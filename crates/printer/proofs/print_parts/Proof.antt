@@ -1,23 +1,10 @@
 -- `printer::print_parts` lends a part of the words for each section. Assumes nothing.
-use Prim.Native.Nat.{ℕ, _+_, _-_, _/_}
-use mathlib.Core.Path.{_≡_, ap}
-use mathlib.Core.List.{List}
-use native.Mathlib.Omega.{arith}
-use lib.ListN.{take, drop}
 use denote.Ref.{now}
 use borrow.Author.Needs.{needs}
-use Rattle.input.specs.declared.Section.{Section}
-use Rattle.printer.specs.Steps.{partIn}
-use Rattle.printer.proofs.Sheets.{same-words}
+use Rattle.input.proofs.Words.{part-lent}
+use Rattle.printer.proofs.Writes.{same-words}
 use Rattle.printer.proofs.print_parts.Statement.{statement}
 use Rattle.printer.proofs.print_parts.Tie as tie
-
--- What is lent from a section's first word up to its end is the section's part.
-part-same : (words : List ℕ) (s : Section)
-    → take (s .at / 2 + s .count - s .at / 2) (drop (s .at / 2) words) ≡ partIn words s
-part-same words s =
-    let size : s .at / 2 + s .count - s .at / 2 ≡ s .count = omega arith in
-    ap (λ (n : ℕ). take n (drop (s .at / 2) words)) size
 
 add-template-end : tie.Need-add-template-end
 add-template-end c = search needs
@@ -76,7 +63,7 @@ returns c =
     let args = printed .before .before .before .before .before .before .before .before .before .before .before .before
     .before .args in
     let words = now (args .words) in
-    same-words (part-same words (args .first)) (part-same words (args .second)) (part-same words (args .third))
+    same-words (part-lent words (args .first)) (part-lent words (args .second)) (part-lent words (args .third))
     (printed .print-words .ensures)
 
 pub print-parts-spec : {M : Type 1} → statement M

@@ -2,8 +2,8 @@
 use native.Mathlib.Omega.{arith}
 use denote.Ref.{now}
 use borrow.Author.Needs.{needs}
-use Rattle.input.proofs.Words.{section-words}
-use Rattle.printer.proofs.Sheets.{same-words}
+use Rattle.input.proofs.Words.{section-words, parts-in}
+use Rattle.printer.proofs.Writes.{same-words}
 use Rattle.printer.proofs.print_sections.Statement.{statement}
 use Rattle.printer.proofs.print_sections.Tie as tie
 
@@ -30,9 +30,7 @@ print-parts-requires c κs =
     let s = start (decoded c) .pre in
     let laid = s .laid in
     record {
-      template = omega (arith, laid .few, laid .template .ends, laid .template .even);
-      script = omega (arith, laid .few, laid .script .ends, laid .script .even);
-      bookings = omega (arith, laid .few, laid .bookings .ends, laid .bookings .even);
+      parts = parts-in _ _ _ _ _ (omega (arith, laid .few)) (laid .template) (laid .script) (laid .bookings);
       room = s .room;
     }
 

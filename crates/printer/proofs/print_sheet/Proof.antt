@@ -5,7 +5,7 @@ use native.Mathlib.Nat.{le-trans}
 use denote.Ref.{now}
 use borrow.Author.Needs.{needs}
 use Rattle.words.specs.Reading.{turnedDown}
-use Rattle.input.specs.Machine.{sectionsRead, Inside}
+use Rattle.input.specs.Machine.{sectionsRead, SectionsInside}
 use Rattle.printer.proofs.Writes.{refused-end, written-by}
 use Rattle.printer.proofs.print_sheet.Statement.{statement}
 use Rattle.printer.proofs.print_sheet.Tie as tie
@@ -29,7 +29,7 @@ print-sections-requires c κs =
     let read = known .before .before in
     let input = now (read .before .before .args .input) in
     record {
-      laid = subst (Inside input) (known .found .given .1) (read .find-sections .ensures .1);
+      laid = subst (SectionsInside input) (known .found .given .1) (read .find-sections .ensures .1);
       room = omega arith;
     }
 
@@ -39,7 +39,7 @@ returns c =
     let read = told .before .before in
     let input = now (read .before .before .args .input) in
     let faulty = read .find-sections .ensures .0 ∙ ap (sectionsRead input) (told .enum-told .given .1) in
-    written-by (turnedDown 60 0) faulty refl (c .put-refused .ensures)
+    written-by input (turnedDown 60 0) faulty refl (c .put-refused .ensures)
 
 returns-2 : tie.Need-returns-2
 returns-2 c =
@@ -48,7 +48,7 @@ returns-2 c =
     let input = now (read .before .before .args .input) in
     let sections = read .find-sections .ensures .0 ∙ ap (sectionsRead input) (known .found .given .1) in
     let sheet = c .print-sections .ensures in
-    written-by _ sections (sheet .prints) (sheet .wrote)
+    written-by input _ sections (sheet .prints) (sheet .wrote)
 
 pub print-sheet-spec : {M : Type 1} → statement M
 print-sheet-spec =

@@ -6,10 +6,9 @@ use native.Mathlib.Nat.{le-trans}
 use denote.Ref.{now}
 use borrow.Author.Needs.{needs}
 use Rattle.words.specs.Sizes.{maxGrid}
-use Rattle.calls.specs.Steps.{Listed, BookedAs}
-use Rattle.calls.proofs.Known.{few-pairs}
-use Rattle.printer.proofs.Writes.{refused-end}
-use Rattle.printer.proofs.Sheets.{refused-written}
+use Rattle.lent.specs.Readings.{BookedSheet, BookedAs}
+use Rattle.lent.proofs.KnownSheet.{few-pairs}
+use Rattle.printer.proofs.Writes.{refused-end, refused-written}
 use Rattle.printer.proofs.print_words.Statement.{statement}
 use Rattle.printer.proofs.print_words.Tie as tie
 
@@ -21,7 +20,7 @@ abbrev read : tie.After-known-told2 → tie.After-read-booked
 read c = c .before .before .before .before
 
 listed : (c : tie.After-known-told2) → let s = start (read c) .args in
-    Listed (now (s .template)) (now (s .script)) (read c .read-booked .last .1 .1 .1 .0) (c .before .read2 .given .0 .0)
+    BookedSheet (now (s .template)) (now (s .script)) (read c .read-booked .last .1 .1 .1 .0) (c .before .read2 .given .0 .0)
     (now (s .bookings)) (c .before .read2 .given .0 .1 .0)
 listed c =
     let s = start (read c) .args in
@@ -95,7 +94,7 @@ print-grids-requires c κs =
     let few = few-pairs (l .known) in
     record {
       lent = record {
-        listed = l;
+        booked = l;
         radio-size = omega (arith, size .grid-size .ensures, few);
         television-size = omega (arith, size .grid-size .ensures, few);
         large-size = omega (arith, size .grid-size .ensures, few);

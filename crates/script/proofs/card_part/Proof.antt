@@ -6,7 +6,7 @@ use native.Mathlib.Omega.{arith}
 use denote.Ref.{now}
 use borrow.Author.Needs.{needs}
 use Rattle.script.specs.Link.{fromIndex}
-use Rattle.script.specs.Steps.{Within}
+use Rattle.script.specs.Steps.{LinksIn}
 use Rattle.script.proofs.Cards.{part-within, part-words}
 use Rattle.script.proofs.card_part.Tie as tie
 use Rattle.script.proofs.card_part.Statement.{statement}
@@ -22,7 +22,7 @@ count-below-requires-2 c κs = search needs
 
 -- The part lies inside the script.
 lies : (a : tie.After-count-below2) →
-    Within (now (a .before .before .before .args .script)) (a .before .count-below .result) (a .count-below2 .result)
+    LinksIn (now (a .before .before .before .args .script)) (a .before .count-below .result) (a .count-below2 .result)
 lies a =
     let s = a .before .before .before in
     part-within _ _ (s .pre .ascending) _ _ _ (a .before .count-below .ensures) (a .count-below2 .ensures)
@@ -54,10 +54,13 @@ part-result-end c = omega (arith, lies c .order, lies c .few, lies c .end)
 returns : tie.Need-returns
 returns c =
     let a = c .before in
-    let s = a .before .before .before in (
-      part-words _ _ (s .pre .ascending) _ _ _ (a .before .count-below .ensures) (a .count-below2 .ensures),
-      (refl, ap (λ (x : ℕ). fromIndex x * 2 + s .args .script .ptr .1) (a .before .count-below .ensures)),
-    )
+    let s = a .before .before .before in
+    let start = a .before .count-below .ensures in
+    record {
+      list = part-words _ _ (s .pre .ascending) _ _ _ start (a .count-below2 .ensures);
+      lent = refl;
+      place = ap (λ (x : ℕ). fromIndex x * 2 + s .args .script .ptr .1) start;
+    }
 
 pub card-part-spec : {M : Type 1} → statement M
 card-part-spec =

@@ -63,8 +63,8 @@ returns-2 c =
     let words = card-links-part _ _ _ _ _ both inside in
     let start = at-word _ (links-start-part _ _ _ _ _ both inside) in
     let part = c .card-part .ensures in (
-      part .0 ∙ rw (w .wide2 .ensures .same, w .before .wide .ensures .same) words,
-      (part .1 .0, part .1 .1 ∙ rw (w .wide2 .ensures .same, w .before .wide .ensures .same) start),
+      part .list ∙ rw (w .wide2 .ensures .same, w .before .wide .ensures .same) words,
+      (part .lent, part .place ∙ rw (w .wide2 .ensures .same, w .before .wide .ensures .same) start),
     )
 
 returns-3 : tie.Need-returns-3

@@ -19,6 +19,10 @@ Inv-loop kinds cards links script count i₀ i =
 abbrev μ-loop : tie.MeasureT-loop
 μ-loop kinds cards links script count i₀ i = count - i
 
+-- The loop's point from the one where a link was tested.
+abbrev turn : tie.After-test-link Inv-loop μ-loop → tie.At-loop Inv-loop μ-loop
+turn a = a .before .before
+
 wide-requires : tie.Need-wide-requires Inv-loop μ-loop
 wide-requires c κs = search needs
 
@@ -41,20 +45,22 @@ loop-less c = search needs
 
 loop-again : tie.Need-loop-again Inv-loop μ-loop
 loop-again c =
-    let l = c .before .before .before .before in
-    let t = c .before .before .test-link in
-    (omega arith, l .loop .inv .1 ∙ links-next _ _ _ _ _ _ _ (omega arith) (t .ensures) (c .enum-told .given .1))
+    let a = c .before .before in (
+      omega arith,
+      turn a .loop .inv .1
+          ∙ links-next _ _ _ _ _ _ _ (omega arith) (a .test-link .ensures) (c .enum-told .given .1),
+    )
 
 enum-known-test : tie.Need-enum-known-test Inv-loop μ-loop
 enum-known-test c = search needs
 
 returns : tie.Need-returns Inv-loop μ-loop
 returns c =
-    let l = c .before .before .before .before .before in
-    let t = c .before .before .before .test-link in
+    let a = c .before .before .before in
     sym
     (ap (saidOf scriptValues)
-    (l .loop .inv .1 ∙ links-refused _ _ _ _ _ _ _ (omega arith) (t .ensures) _ _ (c .before .test .given .1)))
+    (turn a .loop .inv .1
+    ∙ links-refused _ _ _ _ _ _ _ (omega arith) (a .test-link .ensures) _ _ (c .before .test .given .1)))
 
 returns-2 : tie.Need-returns-2 Inv-loop μ-loop
 returns-2 c =

@@ -68,8 +68,8 @@ same-length c = search needs
 
 returns : tie.Need-returns
 returns c =
-    let names = c .before .before .before .before .before .read-names .ensures in
-    sheet-template _ _ _ _ (sym (ap templateSaid (c .before .first .given .1)) ∙ names .0)
+    let read = c .before .before .before .before .before in
+    sheet-template _ _ _ _ (sym (ap templateSaid (c .before .first .given .1)) ∙ read .read-names .ensures .0)
 
 same-length-2 : tie.Need-same-length-2
 same-length-2 c = search needs

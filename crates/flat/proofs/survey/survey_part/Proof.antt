@@ -10,7 +10,7 @@ use borrow.Author.Needs.{needs}
 use Rattle.words.specs.Limits.{maxLabels}
 use Rattle.bags.specs.Part.{Part, Parts, none, more}
 use Rattle.board.proofs.Tally.{tally-le}
-use Rattle.template.proofs.Trees.{no-entry}
+use Rattle.parts.proofs.Trees.{no-entry}
 use Rattle.flat.specs.Places.{must, Standing}
 use Rattle.flat.proofs.Codes.{link-size}
 use Rattle.flat.proofs.Pending.{Pending, Step, pending-start, pending-room, pending-next, pending-done}

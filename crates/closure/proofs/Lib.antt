@@ -1,0 +1,3 @@
+-- Marks: the bookings' pairs, marked. Closures: the closure of the bookings.
+pub mod Marks
+pub mod Closures

@@ -1,0 +1,2 @@
+-- Followed: the search forwards.
+pub mod Followed

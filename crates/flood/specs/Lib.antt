@@ -1,0 +1,2 @@
+-- Follows: the search forwards. No part of a promise.
+pub mod Follows

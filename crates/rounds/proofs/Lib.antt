@@ -1,0 +1,2 @@
+-- Rounds: where the loop of strikes stands.
+pub mod Rounds

@@ -1,0 +1,2 @@
+-- Tallies: a tally in memory.
+pub mod Tallies

@@ -1,0 +1,2 @@
+-- Tally: what closing a round does. No part of a promise.
+pub mod Tally

@@ -1,0 +1,2 @@
+-- Twins: cards whose links have the same kinds.
+pub mod Twins

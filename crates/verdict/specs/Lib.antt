@@ -1,0 +1,2 @@
+-- Judged: what judging a grid asks for. No part of a promise.
+pub mod Judged
