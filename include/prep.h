@@ -25,20 +25,30 @@
  *
  * What is proved. The functions from prep_read_template to prep_tidy_bookings are proved to answer
  * as FORMAT.md says, on all inputs, to do nothing undefined, and to end, as long as pointers and
- * lengths are what they say. prep_version, prep_reason and prep_file_of are plain C: words are no
- * matter of proof.
+ * lengths are what they say. prep_version and the functions after it are plain C: words are no matter
+ * of proof.
  *
  * Threads and memory. The library keeps no state, allocates nothing, writes to no file and calls
  * nothing of the C library but memset. Any number of threads may call it at once, each with arrays
  * of its own to write.
  *
+ * Debugging. There is no debug information, and the proved functions have neither unwind tables
+ * (.eh_frame, .debug_frame) nor frame pointers: the kit that compiles them writes none and cannot be
+ * told to. So a debugger, a profiler or a crash handler that looks while such a call runs sees where
+ * it is, but not who called; before the call and after it all frames are there. prep_version and the
+ * functions after it have unwind tables. Symbols: in libprep.a those of inner functions too, in
+ * libprep.so only those declared here. Nothing is called back and nothing is thrown, so no exception
+ * has to pass through a call. A signal handler must not throw one through it, and a thread must not
+ * be cancelled asynchronously inside it.
+ *
  * Binary compatibility. Of two versions with the same PREP_VERSION_MAJOR the later has every
  * function, struct and constant of the earlier, with the same layout and value, and gives the same
  * answer to every call. Functions, structs and constants may be added (PREP_VERSION_MINOR), and
- * prep_file_of then knows the added refusals; words of prep_reason and PREP_STACK_BYTES may change
- * with any version. So a program built with an older header runs with a newer shared library of the
- * same major version, and the soname is libprep.so.MAJOR. Whatever else changes an answer or a
- * struct raises the major version. Structs are passed as the System V ABI for x86-64 says.
+ * prep_file_of and prep_call_file then know the added refusals; the words of refusals and
+ * PREP_STACK_BYTES may change with any version. So a program built with an older header runs with a
+ * newer shared library of the same major version, and the soname is libprep.so.MAJOR. Whatever else
+ * changes an answer or a struct raises the major version. Structs are passed as the System V ABI for
+ * x86-64 says.
  */
 #ifndef PREP_H
 #define PREP_H
@@ -47,7 +57,7 @@
 #include <stdint.h>
 
 /* The version of this header; prep_version gives the library's. */
-#define PREP_VERSION_MAJOR 5
+#define PREP_VERSION_MAJOR 6
 #define PREP_VERSION_MINOR 0
 #define PREP_VERSION_PATCH 0
 #define PREP_VERSION (PREP_VERSION_MAJOR * 10000 + PREP_VERSION_MINOR * 100 + PREP_VERSION_PATCH)
@@ -70,8 +80,8 @@ enum {
 
 /*
  * The size of a thread's stack that is enough for any call. This figure is measured, not proved: on
- * inputs at the limits no call took more than some 131,000 bytes, and the C library some 4,600 of a
- * thread's stack for itself; the rest is room for the caller's own functions. The example stack.c
+ * inputs at the limits no call took more than some 131,000 bytes, and the C library took some 4,500
+ * of a thread's stack for itself; the rest is for the caller's own functions. The example stack.c
  * makes every call in a thread with a stack of just this size.
  */
 enum { PREP_STACK_BYTES = 192 * 1024 };
@@ -90,7 +100,6 @@ enum prep_refusal {
     PREP_NOT_REFUSED = 0,
 #define PREP_REFUSAL(number, name, file, words) PREP_##name = number,
 #include "prep_refusals.def"
-#undef PREP_REFUSAL
 };
 
 /* Where a refusal's place is counted: in a file, in another array of the call, or in nothing. */
@@ -100,8 +109,21 @@ enum prep_file {
     PREP_IN_SCRIPT = 2,
     PREP_IN_BOOKINGS = 3,
     PREP_IN_COUNTS = 4,
-    PREP_IN_GRID = 5, /* or, for 40, in the array that prep_tidy_bookings writes */
-    PREP_IN_INPUT = 6
+    PREP_IN_GRID = 5,
+    PREP_IN_INPUT = 6,
+    PREP_IN_TIDIED = 7 /* the array that prep_tidy_bookings writes */
+};
+
+/* The functions that refuse, for those that tell a refusal in words. */
+enum prep_call {
+    PREP_CALL_READ_TEMPLATE = 1,
+    PREP_CALL_FIT_COUNTS = 2,
+    PREP_CALL_READ_SCRIPT = 3,
+    PREP_CALL_LARGEST = 4,
+    PREP_CALL_SMALLEST = 5,
+    PREP_CALL_BOTH_TYPINGS = 6,
+    PREP_CALL_JUDGE = 7,
+    PREP_CALL_TIDY_BOOKINGS = 8
 };
 
 /* A template's counts of kinds and of shapes. */
@@ -171,11 +193,11 @@ struct prep_judge_answer {
     size_t place;
 };
 
-/* Of a tidied booking list: how many words were written. */
-struct prep_tidy_answer {
+/* Of a function that writes into an array: how many elements it wrote, from the array's start. */
+struct prep_written_answer {
     uint16_t number;
     size_t place;
-    size_t words;
+    size_t written;
 };
 
 #ifdef __cplusplus
@@ -259,33 +281,42 @@ struct prep_judge_answer prep_judge(const uint16_t *template_words, size_t templ
                                     uint16_t desk_number, const uint8_t *judged_grid, size_t judged_length);
 
 /*
- * Tidies a list that was stored with a version before 5: a count and then the card and the shape of
- * each booking, two words each, where a pair may stand several times. Writes to `tidied_words`,
+ * Tidies a list that was stored without desks: a count and then the card and the shape of each
+ * booking, two words each, where a pair may stand several times. Writes to `tidied_words`,
  * which has 1 + 3 x count words, the new count and then the first booking of each pair, in the
  * list's order, with the radio desk before it; leaves the rest as it was, and answers how many words
  * were written. The list that is written has no fault: for the radio desk it books what the stored
  * list books, for the television desk nothing. Refusals: the template's, the script's, 30 to 33 at
  * places of the stored list, then 40 at place 0 if `tidied_words` has another length.
  */
-struct prep_tidy_answer prep_tidy_bookings(const uint16_t *template_words, size_t template_length,
-                                           const uint16_t *script_words, size_t script_length,
-                                           const uint16_t *stored_words, size_t stored_length,
-                                           uint16_t *tidied_words, size_t tidied_length);
+struct prep_written_answer prep_tidy_bookings(const uint16_t *template_words, size_t template_length,
+                                              const uint16_t *script_words, size_t script_length,
+                                              const uint16_t *stored_words, size_t stored_length,
+                                              uint16_t *tidied_words, size_t tidied_length);
 
 /* The version of the library that is linked, as PREP_VERSION is made. */
 uint32_t prep_version(void);
 
 /*
- * What a refusal's number means, in English words without the place; never NULL. The text is the
- * library's: do not free it.
+ * What a refusal's number means, whichever call it is of, in English words without the place; never
+ * NULL. The text is the library's: do not free it.
  */
 const char *prep_reason(uint16_t refusal_number);
 
 /*
- * Where the place of a refusal with this number is counted. PREP_IN_NOTHING for 0, for 42, 50 and
- * 62, and for numbers not known.
+ * Where the place of a refusal with this number is counted, if it is that of a word or a byte at
+ * fault. PREP_IN_NOTHING for 0, for 42, 50 and 62, and for numbers not known.
  */
 enum prep_file prep_file_of(uint16_t refusal_number);
+
+/*
+ * The same two for a refusal as a call answered it, with the words that are right for this call. The
+ * place tells the desk of the call, 66 at place 0, from that of a booking; 40 is for one array or
+ * for another. Where there is nothing of the kind to tell, or no such call, these answer what the
+ * functions above do.
+ */
+const char *prep_call_reason(enum prep_call refused_call, uint16_t refusal_number, size_t refusal_place);
+enum prep_file prep_call_file(enum prep_call refused_call, uint16_t refusal_number, size_t refusal_place);
 
 #ifdef __cplusplus
 }

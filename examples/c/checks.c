@@ -540,9 +540,9 @@ static void check_no_desk(void)
 }
 
 /* Every number of an answer to prep_tidy_bookings. */
-static int tidied(struct prep_tidy_answer t, uint16_t number, size_t place, size_t words)
+static int tidied(struct prep_written_answer t, uint16_t number, size_t place, size_t words)
 {
-    return t.number == number && t.place == place && t.words == words;
+    return t.number == number && t.place == place && t.written == words;
 }
 
 /* A stored list of the sheet that is tidied. */
@@ -587,7 +587,7 @@ static void check_tidy_refuses(void)
     static const uint16_t no_such_card[] = {3, 2, 1, 2, 1, 3, 9};
     static const uint16_t no_such_shape[] = {1, 2, 2};
     uint16_t out[13];
-    struct prep_tidy_answer t;
+    struct prep_written_answer t;
     memcpy(out, sevens, sizeof out);
     t = prep_tidy_bookings(LENT(code_4), LENT(to_card_2), LENT(over), LENT(out));
     CHECK(tidied(t, PREP_TEMPLATE_CODE, 3, 0));
@@ -639,7 +639,7 @@ static void check_most_stored(void)
     static uint16_t list[PREP_MAX_STORED_WORDS], out[PREP_MAX_BOOKING_WORDS];
     static uint8_t grid[PREP_MAX_CARDS];
     struct prep_smallest_answer s;
-    struct prep_tidy_answer t;
+    struct prep_written_answer t;
     size_t i;
     list[0] = PREP_MAX_BOOKINGS;
     for (i = 0; i < PREP_MAX_BOOKINGS; i++) {
@@ -673,11 +673,57 @@ static void check_words(void)
     CHECK(prep_file_of(value) == PREP_IN_##file);        \
     known--;
 #include "prep_refusals.def"
-#undef PREP_REFUSAL
     CHECK(known == 0);
     CHECK(strcmp(prep_reason(PREP_NOT_REFUSED), "nothing is refused") == 0);
     CHECK(prep_file_of(0) == PREP_IN_NOTHING && prep_file_of(65535) == PREP_IN_NOTHING);
     CHECK(prep_version() == PREP_VERSION);
+}
+
+/* Whether a refusal is told for a call as it is without one. */
+static int told_alike(int call, uint16_t number, size_t place)
+{
+    return strcmp(prep_call_reason((enum prep_call)call, number, place), prep_reason(number)) == 0 &&
+           prep_call_file((enum prep_call)call, number, place) == prep_file_of(number);
+}
+
+/* Each line of the table is told at place 0 of its call; all else is told as without a call. */
+static void check_call_words(void)
+{
+    int call, others = 0;
+    uint16_t number;
+    for (call = 0; call <= PREP_CALL_TIDY_BOOKINGS + 1; call++) {
+        for (number = 0; number < 100; number++) {
+            others += !told_alike(call, number, 0);
+            CHECK(told_alike(call, number, 1));
+        }
+    }
+#define PREP_CALL_REFUSAL(of, name, file, words)                               \
+    CHECK(strcmp(prep_call_reason(PREP_CALL_##of, PREP_##name, 0), words) == 0); \
+    CHECK(prep_call_file(PREP_CALL_##of, PREP_##name, 0) == PREP_IN_##file);     \
+    others--;
+#include "prep_refusals.def"
+    CHECK(others == 0);
+}
+
+/* The desk of a call is in no file, that of a booking is; a wrong length is told of the array that has it. */
+static void check_told(void)
+{
+    static const uint16_t no_such_desk[] = {1, NO_DESK, 2, 1};
+    uint8_t grid[6];
+    uint16_t out[4];
+    struct prep_smallest_answer s;
+    struct prep_both_answer b;
+    struct prep_written_answer t;
+    s = prep_smallest(LENT(sheet_template), LENT(sheet_script), LENT(sheet_bookings), NO_DESK, LENT(grid));
+    CHECK(prep_call_file(PREP_CALL_SMALLEST, s.number, s.place) == PREP_IN_NOTHING);
+    s = prep_smallest(LENT(sheet_template), LENT(sheet_script), LENT(no_such_desk), RADIO, LENT(grid));
+    CHECK(prep_call_file(PREP_CALL_SMALLEST, s.number, s.place) == PREP_IN_BOOKINGS);
+    b = prep_both_typings(LENT(sheet_template), LENT(sheet_script), LENT(sheet_bookings), RADIO, LENT(grid), NULL, 0);
+    CHECK(strstr(prep_call_reason(PREP_CALL_BOTH_TYPINGS, b.number, b.place), "smallest or the largest grid") != NULL);
+    CHECK(prep_call_file(PREP_CALL_BOTH_TYPINGS, b.number, b.place) == PREP_IN_GRID);
+    t = TIDY(no_bookings, out, 2);
+    CHECK(strstr(prep_call_reason(PREP_CALL_TIDY_BOOKINGS, t.number, t.place), "grid") == NULL);
+    CHECK(prep_call_file(PREP_CALL_TIDY_BOOKINGS, t.number, t.place) == PREP_IN_TIDIED);
 }
 
 /* The layout that binary compatibility promises for this major version. */
@@ -696,9 +742,9 @@ static void check_layout(void)
     CHECK(offsetof(struct prep_both_answer, rounds) == 16 && offsetof(struct prep_both_answer, struck) == 24);
     CHECK(sizeof(struct prep_judge_answer) == 16 && offsetof(struct prep_judge_answer, place) == 8);
     CHECK(offsetof(struct prep_judge_answer, card) == 2 && offsetof(struct prep_judge_answer, shape) == 4);
-    CHECK(sizeof(struct prep_tidy_answer) == 24 && offsetof(struct prep_tidy_answer, place) == 8);
-    CHECK(offsetof(struct prep_tidy_answer, words) == 16);
-    CHECK(sizeof(enum prep_file) == 4);
+    CHECK(sizeof(struct prep_written_answer) == 24 && offsetof(struct prep_written_answer, place) == 8);
+    CHECK(offsetof(struct prep_written_answer, written) == 16);
+    CHECK(sizeof(enum prep_file) == 4 && sizeof(enum prep_call) == 4);
 }
 
 int main(void)
@@ -730,5 +776,7 @@ int main(void)
     check_most_bookings();
     check_most_stored();
     check_words();
+    check_call_words();
+    check_told();
     return failures != 0;
 }

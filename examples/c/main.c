@@ -60,7 +60,7 @@ static int print_sheet(const uint16_t *bookings, size_t bookings_length)
                               smallest, grid_length, largest, grid_length);
         if (both.number != PREP_NOT_REFUSED && both.number != PREP_NOT_MET) {
             printf("refused %u %zu\n", (unsigned)both.number, both.place);
-            fprintf(stderr, "%s\n", prep_reason(both.number));
+            fprintf(stderr, "%s\n", prep_call_reason(PREP_CALL_BOTH_TYPINGS, both.number, both.place));
             return 1;
         }
         if (desk == PREP_DESK_RADIO) {

@@ -1,6 +1,8 @@
-"""Tests of prep.py: python3 -m unittest test_prep, in this folder."""
+"""Tests of the module prep: python3 -m unittest test_prep, in this folder."""
 
+import copy
 import pathlib
+import pickle
 import re
 import unittest
 
@@ -83,8 +85,14 @@ class Words(unittest.TestCase):
             self.refused(33, 6, script.both, [(RADIO, 0, 0), (TELEVISION, 0, 2)], desk)
             self.refused(31, 0, script.both, [(RADIO, 0, 0)] * 1025, desk)
             self.refused(31, 0, script.smallest, [(RADIO, 0, 0)] * 70000, desk)
-            # Two words a booking are one too few.
-            self.refused(30, 0, script.smallest, [(2, 1)], desk)
+
+    def test_no_bookings(self):
+        script = prep.Script(prep.Template(TEMPLATE), SCRIPT)
+        for call in (script.smallest, script.both, lambda listed, desk: script.judge(listed, desk, [])):
+            for listed in ([(2, 1)], [(RADIO, 2, 1), ()], [(0, 0, 0, 1), (1, 0)]):
+                self.assertRaises(ValueError, call, listed, RADIO)
+        for stored in ([(RADIO, 2, 1)], [(2,)], [(2, 1, 0), (0,)]):
+            self.assertRaises(ValueError, script.tidy_bookings, stored)
 
     def test_repeats_are_refused(self):
         script = prep.Script(prep.Template(TEMPLATE), SCRIPT)
@@ -103,7 +111,10 @@ class Words(unittest.TestCase):
         script = prep.Script(prep.Template(TEMPLATE), SCRIPT)
         for call in (script.smallest, script.both, lambda listed, desk: script.judge(listed, desk, [2])):
             told = self.refused(66, 0, call, [(RADIO, 2, 1)], 2)
-            self.assertEqual(str(told), "a desk is neither 0 nor 1 (refusal 66, word 0)")
+            self.assertEqual(str(told), "the desk asked for is neither radio, 0, nor television, 1 (refusal 66)")
+            self.assertEqual(told.file, "nothing")
+            told = self.refused(66, 1, call, [(2, 2, 1)], 2)
+            self.assertEqual(str(told), "a desk is neither radio, 0, nor television, 1 (refusal 66, word 1)")
             self.assertEqual(told.file, "bookings")
             self.refused(66, 0, call, [], 65535)
             self.assertRaises(ValueError, call, [], -1)
@@ -115,8 +126,6 @@ class Words(unittest.TestCase):
         self.refused(31, 0, script.tidy_bookings, [(0, 0)] * 70000)
         self.refused(32, 5, script.tidy_bookings, [(2, 1), (2, 1), (3, 9)])
         self.refused(33, 2, script.tidy_bookings, [(2, 2)])
-        # Desks are not stored: three words a booking are one too many.
-        self.refused(30, 0, script.tidy_bookings, [(RADIO, 2, 1)])
         self.assertRaises(ValueError, script.tidy_bookings, [(2, 65536)])
 
     def test_grids_are_refused(self):
@@ -125,8 +134,7 @@ class Words(unittest.TestCase):
         self.refused(32, 2, script.judge, [(RADIO, 3, 0)], RADIO, [])
         self.refused(33, 6, script.judge, [(RADIO, 0, 0), (RADIO, 0, 2)], RADIO, [])
         told = self.refused(40, 0, script.judge, [(RADIO, 2, 1)], RADIO, [2, 1, 1, 0, 0])
-        words = "a grid has not cards x shapes bytes, or a buffer not 1 + 3 x bookings words"
-        self.assertEqual(str(told), f"{words} (refusal 40, byte 0)")
+        self.assertEqual(str(told), "the grid has not cards x shapes bytes (refusal 40, byte 0)")
         told = self.refused(61, 5, script.judge, [(RADIO, 1, 0)], RADIO, [0, 1, 0, 0, 0, 2])
         self.assertEqual(str(told), "a byte of the grid is over 1 (refusal 61, byte 5)")
         told = self.refused(63, 5, script.judge, [(RADIO, 2, 1), (RADIO, 0, 0)], RADIO, [0, 0, 0, 0, 0, 1])
@@ -139,7 +147,7 @@ class Words(unittest.TestCase):
         self.assertIsInstance(told, prep.GridNotMet)
         self.assertIsInstance(told, prep.PairRefused)
         self.assertEqual((told.card, told.shape, told.file), (1, 0, "nothing"))
-        self.assertEqual(str(told), "a pair of the grid is not met (refusal 62, card 1, shape 0)")
+        self.assertEqual(str(told), "a pair of the grid is not met under it (refusal 62, card 1, shape 0)")
 
     def test_no_words(self):
         template = prep.Template(TEMPLATE)
@@ -149,12 +157,21 @@ class Words(unittest.TestCase):
         for numbers in ([0, 0, 0, 0, 0, -1], [0, 0, 0, 0, 0, 256]):
             self.assertRaises(ValueError, prep.Script(template, SCRIPT).judge, [], RADIO, numbers)
 
+    def test_bytes_are_no_words(self):
+        template = prep.Template(TEMPLATE)
+        for made in (bytes, bytearray):
+            self.assertRaises(TypeError, template.fits, 0, made(8))
+            self.assertRaises(TypeError, prep.Template, made([1, 1, 1, 0]))
+            self.assertRaises(TypeError, prep.Script, template, made(2))
+            # The bytes of a grid are its numbers.
+            self.assertIsNone(prep.Script(template, SCRIPT).judge([], RADIO, made(6)))
+
     def test_table(self):
         table = (include() / "prep_refusals.def").read_text()
         rows = re.findall(r'^PREP_REFUSAL\((\d+), \w+, (\w+), "(.*)"\)$', table, re.M)
         self.assertGreater(len(rows), 20)
         for number, file, words in rows:
-            refused = prep.Refused(int(number), 0)
+            refused = prep.Refused(int(number), 1)
             self.assertEqual((refused.reason, refused.file), (words, file.lower()))
 
     def test_version(self):
@@ -162,6 +179,23 @@ class Words(unittest.TestCase):
         numbers = re.findall(r"^#define PREP_VERSION_\w+ (\d+)$", header, re.M)
         self.assertEqual(prep.version(), tuple(map(int, numbers)))
         self.assertEqual(prep.version()[:2], (prep.MAJOR, prep.MINOR))
+        project = (pathlib.Path(__file__).resolve().parent / "pyproject.toml").read_text()
+        self.assertIn('\nversion = "{}.{}.{}"\n'.format(*prep.version()), project)
+
+    def test_structs(self):
+        header = (include() / "prep.h").read_text()
+        structs = re.findall(r"^struct prep_(\w+)_answer \{(.*?)^\};", header, re.M | re.S)
+        self.assertEqual(len(structs), 8)
+        sizes = {"uint16_t": 2, "size_t": 8}
+        for name, fields in structs:
+            declared = [(field, sizes[kind]) for kind, field in re.findall(r"(\w+) (\w+);", fields)]
+            ours = getattr(prep, f"_{name.capitalize()}Answer")
+            self.assertEqual([(field, getattr(ours, field).size) for field, _ in ours._fields_], declared)
+
+    def test_names(self):
+        public = {name for name, value in vars(prep).items() if getattr(value, "__module__", "") == "prep"}
+        self.assertLessEqual({name for name in public if not name.startswith("_")}, set(prep.__all__))
+        self.assertTrue(all(hasattr(prep, name) for name in prep.__all__))
 
 
 class Answers(unittest.TestCase):
@@ -284,7 +318,7 @@ class Answers(unittest.TestCase):
         ):
             tidied = prep._words([7] * len(left))
             answer = prep._library.prep_tidy_bookings(*lent, *prep._lend(tidied))
-            self.assertEqual((answer.number, answer.place, answer.words), (number, 0, words))
+            self.assertEqual((answer.number, answer.place, answer.written), (number, 0, words))
             self.assertEqual(list(tidied), left)
 
     def test_no_cards(self):
@@ -292,6 +326,51 @@ class Answers(unittest.TestCase):
         both = script.both([], RADIO)
         self.assertEqual((both.largest.rounds, both.smallest.pairs, both.largest.typing.grid), (1, 0, b""))
         self.assertIsNone(script.judge([], RADIO, b""))
+
+
+class Copies(unittest.TestCase):
+    """What goes from one process to another."""
+
+    def setUp(self):
+        self.script = prep.Script(prep.Template(TEMPLATE), SCRIPT)
+
+    def copies(self, one):
+        """The same by pickling and by copying."""
+        return pickle.loads(pickle.dumps(one)), copy.deepcopy(one)
+
+    def test_refusals(self):
+        for call, parameters in (
+            (prep.Template, ([1, 1, 1, 4],)),
+            (self.script.smallest, ([(RADIO, 0, 0)], RADIO)),
+            (self.script.judge, ([(RADIO, 2, 1)], 2, [])),
+            (self.script.judge, ([(RADIO, 0, 0)], RADIO, [0, 0, 1, 1, 0, 1])),
+        ):
+            with self.assertRaises(prep.Refused) as caught:
+                call(*parameters)
+            for other in self.copies(caught.exception):
+                self.assertIs(type(other), type(caught.exception))
+                self.assertEqual((str(other), vars(other)), (str(caught.exception), vars(caught.exception)))
+
+    def test_scripts(self):
+        for other in self.copies(self.script):
+            self.assertEqual((other.words, other.template.words), (tuple(SCRIPT), tuple(TEMPLATE)))
+            self.assertEqual(other.largest(), self.script.largest())
+            self.assertEqual(other.links_of(0), self.script.links_of(0))
+        for template in self.copies(self.script.template):
+            self.assertIs(template.fits(0, [1, 1, 0, 0]), True)
+
+    def test_answers(self):
+        both = self.script.both([(RADIO, 2, 1)], RADIO)
+        for other in self.copies(both):
+            self.assertEqual(other, both)
+
+    def test_typings(self):
+        largest = self.script.largest().typing
+        self.assertEqual(largest, self.script.smallest([(RADIO, 2, 1)], RADIO).typing)
+        self.assertNotEqual(largest, self.script.smallest([], RADIO).typing)
+        self.assertNotEqual(largest, prep.Typing(largest.grid, 2, 3))
+        self.assertEqual(repr(largest), "Typing(grid=b'\\x00\\x00\\x00\\x00\\x00\\x01', cards=3, shapes=2)")
+        self.assertEqual(len({largest, self.script.largest().typing}), 1)
 
 
 class Builders(unittest.TestCase):

@@ -1,12 +1,15 @@
-//! Links libprep.a from the folder that PREP_LIB_DIR names, and makes the constants and the words of refusals from
-//! prep_refusals.def, which stands in the include folder beside that one, or in one above this package.
+//! Links libprep.a, from the folder that PREP_LIB_DIR names or from the package in which this wrapper stands. The
+//! include folder beside it has the library's version, which is compared with this wrapper's, and the table of
+//! refusals, from which constants are made.
 
 use std::path::{Path, PathBuf};
 use std::{env, fs, process};
 
 const VARIABLE: &str = "PREP_LIB_DIR";
 const LIBRARY: &str = "libprep.a";
-const TABLE: &str = "include/prep_refusals.def";
+const HOW: &str =
+    "It names the folder that has libprep.a: the lib folder of the package that ./package writes, \
+                   target/package/prep-VERSION-x86_64-linux/lib.";
 
 fn main() {
     println!("cargo:rerun-if-env-changed={VARIABLE}");
@@ -21,60 +24,97 @@ fn build() -> Result<(), String> {
     println!("cargo:rerun-if-changed={}", folder.join(LIBRARY).display());
     println!("cargo:rustc-link-search=native={}", folder.display());
     println!("cargo:rustc-link-lib=static=prep");
-    let table = table_near(&folder)?;
-    println!("cargo:rerun-if-changed={}", table.display());
-    let text = fs::read_to_string(&table).map_err(|e| format!("{} cannot be read: {e}", table.display()))?;
-    let code = code_of(&text).map_err(|line| format!("{}: not a refusal: {line}", table.display()))?;
-    let out = PathBuf::from(env::var_os("OUT_DIR").ok_or("cargo has not set OUT_DIR")?);
-    fs::write(out.join("refusals.rs"), code).map_err(|e| format!("refusals.rs cannot be written: {e}"))
+    compare_versions(&folder, &included(&folder, "prep.h")?)?;
+    let code = constants(&included(&folder, "prep_refusals.def")?)?;
+    fs::write(cargo_s("OUT_DIR")?.join("refusals.rs"), code)
+        .map_err(|e| format!("refusals.rs cannot be written: {e}"))
+}
+
+/// A folder that cargo names.
+fn cargo_s(variable: &str) -> Result<PathBuf, String> {
+    env::var_os(variable).map(PathBuf::from).ok_or(format!("cargo has not set {variable}"))
 }
 
 /// The folder that has the library, or what is missing.
 fn library_folder() -> Result<PathBuf, String> {
-    let how = "It names the folder that has libprep.a: the lib folder of the package that ./package writes, \
-               target/package/prep-VERSION-x86_64-linux/lib.";
-    let name = env::var_os(VARIABLE).ok_or(format!("{VARIABLE} is not set. {how}"))?;
+    let name = match env::var_os(VARIABLE) {
+        Some(name) => name,
+        None => return package_s_own()?.ok_or(format!("{VARIABLE} is not set. {HOW}")),
+    };
     let folder = fs::canonicalize(&name).map_err(|e| {
-        format!("{VARIABLE} is {name:?}, and that folder cannot be found ({e}); give its whole path. {how}")
+        format!("{VARIABLE} is {name:?}, and that folder cannot be found ({e}); give its whole path. {HOW}")
     })?;
     if !folder.join(LIBRARY).is_file() {
-        return Err(format!("{VARIABLE} is {name:?}, but there is no {LIBRARY} in it. {how}"));
+        return Err(format!("{VARIABLE} is {name:?}, but there is no {LIBRARY} in it. {HOW}"));
     }
     Ok(folder)
 }
 
-/// The table of the library's own package, or of the folders above this one.
-fn table_near(library: &Path) -> Result<PathBuf, String> {
-    let here =
-        PathBuf::from(env::var_os("CARGO_MANIFEST_DIR").ok_or("cargo has not set CARGO_MANIFEST_DIR")?);
-    let folders = library.parent().into_iter().chain(here.ancestors());
-    let tables: Vec<PathBuf> = folders.map(|folder| folder.join(TABLE)).collect();
-    let found = tables.iter().find(|table| table.is_file());
-    found.cloned().ok_or(format!("{TABLE} is neither beside {} nor above this package", library.display()))
+/// The lib folder of the package in which this wrapper stands, as examples/rust, if it does.
+fn package_s_own() -> Result<Option<PathBuf>, String> {
+    let here = cargo_s("CARGO_MANIFEST_DIR")?;
+    let folder = here.ancestors().nth(2).map(|package| package.join("lib"));
+    Ok(folder.filter(|folder| folder.join(LIBRARY).is_file()))
 }
 
-/// Rust for the lines of the table: a constant for each refusal, and a row for each.
-fn code_of(text: &str) -> Result<String, String> {
-    let mut constants = String::new();
-    let mut rows = String::new();
-    for line in text.lines().filter(|line| line.starts_with("PREP_REFUSAL(")) {
-        let (number, name, file, words) = row_of(line).ok_or(line)?;
-        constants += &format!("    /// {words}.\n    pub const {name}: u16 = {number};\n");
-        rows += &format!("    ({number}, File::{file}, {words:?}),\n");
+/// The text of a file in the include folder beside the library's.
+fn included(library: &Path, name: &str) -> Result<String, String> {
+    let file = library.with_file_name("include").join(name);
+    println!("cargo:rerun-if-changed={}", file.display());
+    fs::read_to_string(&file)
+        .map_err(|e| format!("{} tells what {LIBRARY} is, and it cannot be read: {e}", file.display()))
+}
+
+/// The library has this wrapper's major version, and its minor one or a later one.
+fn compare_versions(library: &Path, header: &str) -> Result<(), String> {
+    let ours = version(|part| env::var(format!("CARGO_PKG_VERSION_{part}")).ok())
+        .ok_or("cargo has not set this wrapper's version")?;
+    let theirs = version(|part| defined(header, &format!("PREP_VERSION_{part}")))
+        .ok_or(format!("the prep.h beside {} has no version", library.display()))?;
+    if theirs.0 == ours.0 && theirs.1 >= ours.1 {
+        return Ok(());
     }
-    Ok(format!(
-        "/// A constant for each refusal's number.\npub mod refusals {{\n{constants}}}\n\n\
-         const TABLE: &[(u16, File, &str)] = &[\n{rows}];\n"
+    Err(format!(
+        "the library in {} is {}.{}, and this wrapper is for {}.{}: take both from one package",
+        library.display(),
+        theirs.0,
+        theirs.1,
+        ours.0,
+        ours.1
     ))
 }
 
-/// The number, the name, the file and the words of a line.
-fn row_of(line: &str) -> Option<(u16, &str, String, &str)> {
+/// The major and the minor version, from how each of them is told.
+fn version(told: impl Fn(&str) -> Option<String>) -> Option<(u32, u32)> {
+    let number = |part| told(part)?.parse().ok();
+    Some((number("MAJOR")?, number("MINOR")?))
+}
+
+/// What a header defines a name as.
+fn defined(header: &str, name: &str) -> Option<String> {
+    let after = |line: &'_ str| {
+        line.strip_prefix("#define ")?.strip_prefix(name)?.strip_prefix(' ').map(str::to_string)
+    };
+    header.lines().find_map(after)
+}
+
+/// Rust for the refusals of the table: a constant for each.
+fn constants(table: &str) -> Result<String, String> {
+    let mut constants = String::new();
+    for line in table.lines().filter(|line| line.starts_with("PREP_REFUSAL(")) {
+        let (number, name, words) =
+            row_of(line).ok_or(format!("prep_refusals.def: not a refusal: {line}"))?;
+        constants += &format!("    /// {words}.\n    pub const {name}: u16 = {number};\n");
+    }
+    Ok(format!("/// A constant for each refusal's number.\npub mod refusals {{\n{constants}}}\n"))
+}
+
+/// The number, the name and the words of a line.
+fn row_of(line: &str) -> Option<(u16, &str, &str)> {
     let inside = line.strip_prefix("PREP_REFUSAL(")?.strip_suffix(')')?;
     let mut columns = inside.splitn(4, ',').map(str::trim);
     let number = columns.next()?.parse().ok()?;
-    let (name, file) = (columns.next()?, columns.next()?);
-    let words = columns.next()?.strip_prefix('"')?.strip_suffix('"')?;
-    let file = file.get(..1)?.to_string() + &file.get(1..)?.to_lowercase();
-    Some((number, name, file, words))
+    let name = columns.next()?;
+    let words = columns.nth(1)?.strip_prefix('"')?.strip_suffix('"')?;
+    Some((number, name, words))
 }

@@ -39,7 +39,7 @@ unset PKG_CONFIG_PATH
 
 for setting in C:OFF CXX:ON; do
     folder=$out/cmake-${setting%:*}
-    quietly cmake -S "$package/share/prep/examples" -B "$folder" -DCMAKE_PREFIX_PATH="$package" \
+    quietly cmake -S "$package/examples/c" -B "$folder" -DCMAKE_PREFIX_PATH="$package" \
         -DCMAKE_C_COMPILER="$cc" -DCMAKE_CXX_COMPILER="$cxx" -DPREP_LANGUAGE="${setting%:*}" \
         -DBUILD_SHARED_LIBS="${setting#*:}" -DCMAKE_C_FLAGS="$flags" -DCMAKE_CXX_FLAGS="$flags"
     quietly cmake --build "$folder"

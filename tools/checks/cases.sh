@@ -1,21 +1,24 @@
-# Part of ./check-tools: stored and generated inputs at the C boundary, compared with the other implementation's text,
-# and generated inputs that book the same for one desk, compared with each other.
+# Part of ./check-tools: the stored cases of every operation at the C boundary, compared with what is owed for them,
+# and generated sheets that book the same for one desk, compared with each other.
 
-for host in cases desks; do
-    quietly $cc -std=c11 -O2 -Wall -Wextra -Werror -pedantic -I"$package/include" "tools/checks/$host.c" \
-        "$package/lib/libprep.a" -o "$out/$host"
-done
+# Builds a host from its sources: HOST SOURCE...
+build_host() {
+    host=$1
+    shift
+    quietly $cc -std=c11 -O2 -Wall -Wextra -Werror -pedantic -I"$package/include" "$@" "$package/lib/libprep.a" \
+        -o "$out/$host"
+}
 
-stored=crates/sheet_cases
+checks=tools/checks
+build_host cases $checks/cases.c $checks/readers.c $checks/sheet.c $checks/judge.c $checks/tidy.c
+build_host desks $checks/desks.c
+
+stored=crates/cases
 through "$out/cases" $stored/stdin $stored/stdout
-say "cases: $(cat "$out/number") stored inputs through the static library in C"
+say "cases: $(cat "$out/number") stored cases through the static library in C"
 
-through "PYTHONPATH='$package/share/prep/python' python3 tools/checks/cases.py" $stored/stdin $stored/stdout
-say "cases: $(cat "$out/number") stored inputs through the shared library in Python"
-
-quietly "$tools" stream "$out/stream" "$out/stream-text" "$seed" "$count"
-through "$out/cases" "$out/stream" "$out/stream-text"
-say "cases: $(cat "$out/number") generated inputs (seed $seed) through the static library in C"
+through "PYTHONPATH='$package/examples/python' python3 $checks/cases.py" $stored/stdin $stored/stdout
+say "cases: $(cat "$out/number") stored cases through the shared library in Python"
 
 quietly "$tools" desk-pairs "$out/pairs" "$seed" "$count"
 quietly "$out/desks" <"$out/pairs"

@@ -1,11 +1,11 @@
 /*
  * Compares what one desk is answered on two lists that book the same for it, whatever the other desk books. Standard
- * input holds sheets, each after its length in four bytes, low first. Sheets 2k and 2k + 1 have the same template and
- * script, and the same bookings of desk k mod 2; for this desk the smallest typing of both must be the same, alone and
- * with the largest. How many pairs of sheets there were goes to standard error.
+ * input holds cases of the sheet printer. Sheets 2k and 2k + 1 have the same template and script, and the same
+ * bookings of desk k mod 2; for this desk the smallest typing of both must be the same, alone and with the largest.
+ * How many pairs of sheets there were goes to standard error.
  */
+#include "input.h"
 #include "prep.h"
-#include "sections.h"
 
 #include <string.h>
 
@@ -17,13 +17,18 @@ struct typings {
     uint8_t alone[PREP_MAX_GRID_BYTES], smallest[PREP_MAX_GRID_BYTES], largest[PREP_MAX_GRID_BYTES];
 };
 
-/* The next sheet, after its length in four bytes. */
-static struct files read_sheet(void)
+/* The tag of the sheet printer's cases. */
+enum { SHEET_TAG = 5 };
+
+/* The sheet of the case whose tag was read. */
+static struct files read_sheet(unsigned tag)
 {
-    size_t low = read_number();
-    size_t length = low + 65536 * read_number();
-    struct files sheet = read_files();
-    REQUIRE(length == 6 + 2 * (sheet.sheet_template.length + sheet.script.length + sheet.bookings.length));
+    struct files sheet;
+    struct bytes input;
+    REQUIRE(tag == SHEET_TAG);
+    input = read_bytes();
+    REQUIRE(split(input, &sheet));
+    free(input.byte);
     return sheet;
 }
 
@@ -78,24 +83,30 @@ static void check_same(const struct typings *one, const struct typings *two)
     REQUIRE(memcmp(one->largest, two->largest, one->size) == 0);
 }
 
-static void compare_next(void)
+/* Compares two sheets for a desk. */
+static void compare(uint16_t desk, const struct files *first, const struct files *second)
 {
     static struct typings one, two;
-    static size_t before = 0;
-    uint16_t desk = (uint16_t)(before++ % 2);
-    struct files first = read_sheet();
-    struct files second = read_sheet();
-    REQUIRE(same_words(first.sheet_template, second.sheet_template) && same_words(first.script, second.script));
-    type_sheet(&first, desk, 0xa5, &one);
-    type_sheet(&second, desk, 0x5a, &two);
-    REQUIRE(books_no_more(desk, first.bookings, second.bookings));
-    REQUIRE(books_no_more(desk, second.bookings, first.bookings));
+    REQUIRE(same_words(first->sheet_template, second->sheet_template) && same_words(first->script, second->script));
+    type_sheet(first, desk, 0xa5, &one);
+    type_sheet(second, desk, 0x5a, &two);
+    REQUIRE(books_no_more(desk, first->bookings, second->bookings));
+    REQUIRE(books_no_more(desk, second->bookings, first->bookings));
     check_same(&one, &two);
-    free_files(&first);
-    free_files(&second);
 }
 
 int main(void)
 {
-    return run_cases(compare_next);
+    size_t count = 0;
+    unsigned tag;
+    while ((tag = read_tag()) != 0) {
+        struct files first = read_sheet(tag);
+        struct files second = read_sheet(read_tag());
+        compare((uint16_t)(count % 2), &first, &second);
+        free_files(&first);
+        free_files(&second);
+        count++;
+    }
+    fprintf(stderr, "%zu\n", count);
+    return count == 0 || fflush(stdout) != 0;
 }

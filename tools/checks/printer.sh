@@ -11,6 +11,8 @@ cp "$out/printed" "$out/longest"
 quietly python3 tools/checks/pieces.py "$printer" examples/prep/*.bin "$out/longest"
 say "printer: $(cat "$out/printed")"
 
-# The examples of the format's page, here and by the printer.
-quietly "$tools" page docs/FORMAT.md --printer "$printer"
-say "page: docs/FORMAT.md: $(tail -n 1 "$out/printed")"
+# The examples of the pages, here and by the printer.
+for page in docs/FORMAT.md docs/HOW-TO-SAY.md; do
+    quietly "$tools" page "$page" --printer "$printer"
+    say "page: $page: $(tail -n 1 "$out/printed")"
+done

@@ -1,6 +1,6 @@
 /*
- * What judge.c, tidy.c and desks.c share: a stream of cases on standard input. Each has a template, a script and
- * bookings, as words after their count in two bytes, low first.
+ * What the C hosts share: cases on standard input. A case is a tag in two bytes, and the sections that its operation
+ * takes, each after its length in bytes in four bytes; low bytes first. docs/FORMAT.md has the tags.
  */
 #ifndef SECTIONS_H
 #define SECTIONS_H
@@ -15,6 +15,11 @@ struct words {
     size_t length;
 };
 
+struct bytes {
+    uint8_t *byte;
+    size_t length;
+};
+
 struct files {
     struct words sheet_template, script, bookings;
 };
@@ -25,16 +30,7 @@ struct files {
 /* The files as the parameters that lend them. */
 #define LENT_FILES(files) LENT((files).sheet_template), LENT((files).script), LENT((files).bookings)
 
-/* The next two bytes of the stream as a number. */
-static size_t read_number(void)
-{
-    int low = getchar();
-    int high = getchar();
-    REQUIRE(low != EOF && high != EOF);
-    return (size_t)low + 256 * (size_t)high;
-}
-
-static void *memory(size_t size)
+static inline void *memory(size_t size)
 {
     void *found = malloc(size);
     REQUIRE(found != NULL || size == 0);
@@ -42,7 +38,7 @@ static void *memory(size_t size)
 }
 
 /* Words that are all 7. */
-static struct words new_words(size_t length)
+static inline struct words new_words(size_t length)
 {
     struct words made;
     size_t i;
@@ -54,17 +50,52 @@ static struct words new_words(size_t length)
     return made;
 }
 
-static struct words read_words(void)
+/* The words of bytes, low byte first. */
+static inline struct words words_of(const uint8_t *byte, size_t count)
 {
-    struct words file = new_words(read_number());
+    struct words made = new_words(count);
     size_t i;
-    for (i = 0; i < file.length; i++) {
-        file.word[i] = (uint16_t)read_number();
+    for (i = 0; i < count; i++) {
+        made.word[i] = (uint16_t)(byte[2 * i] + 256 * byte[2 * i + 1]);
     }
-    return file;
+    return made;
 }
 
-static struct files read_files(void)
+/* The next section. */
+static inline struct bytes read_bytes(void)
+{
+    uint8_t head[4];
+    struct bytes section;
+    REQUIRE(fread(head, 1, sizeof head, stdin) == sizeof head);
+    section.length = head[0] + 256 * (size_t)head[1] + 65536 * (size_t)head[2] + 16777216 * (size_t)head[3];
+    section.byte = (uint8_t *)memory(section.length);
+    REQUIRE(fread(section.byte, 1, section.length, stdin) == section.length);
+    return section;
+}
+
+/* The words of the next section. */
+static inline struct words read_words(void)
+{
+    struct bytes section = read_bytes();
+    struct words made;
+    REQUIRE(section.length % 2 == 0);
+    made = words_of(section.byte, section.length / 2);
+    free(section.byte);
+    return made;
+}
+
+/* The number of a section that has one word. */
+static inline uint16_t read_number(void)
+{
+    struct words section = read_words();
+    uint16_t number;
+    REQUIRE(section.length == 1);
+    number = section.word[0];
+    free(section.word);
+    return number;
+}
+
+static inline struct files read_files(void)
 {
     struct files files;
     files.sheet_template = read_words();
@@ -73,25 +104,20 @@ static struct files read_files(void)
     return files;
 }
 
-static void free_files(struct files *files)
+static inline void free_files(struct files *files)
 {
     free(files->sheet_template.word);
     free(files->script.word);
     free(files->bookings.word);
 }
 
-/* Runs a host on every case; how many there were goes to standard error. */
-static int run_cases(void (*run_next)(void))
+/* The next tag; 0 at the end of the cases. */
+static inline unsigned read_tag(void)
 {
-    size_t count = 0;
-    int next;
-    while ((next = getchar()) != EOF) {
-        REQUIRE(ungetc(next, stdin) != EOF);
-        run_next();
-        count++;
-    }
-    fprintf(stderr, "%zu\n", count);
-    return count == 0 || fflush(stdout) != 0;
+    int low = getchar();
+    int high = getchar();
+    REQUIRE((low == EOF) == (high == EOF));
+    return low == EOF ? 0 : (unsigned)low + 256 * (unsigned)high;
 }
 
 #endif

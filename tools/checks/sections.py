@@ -1,9 +1,8 @@
-"""What judge.py and tidy.py share: a stream of cases on standard input, made of sections after their length in two
+"""What the Python hosts share: cases on standard input, made of sections, each after its length in bytes in four
 bytes, low first."""
 
 import struct
-import sys
-from typing import Callable, List
+from typing import List
 
 
 class Stream:
@@ -12,32 +11,31 @@ class Stream:
     def __init__(self, data: bytes):
         self.data, self.at = data, 0
 
-    def number(self) -> int:
-        """The next two bytes as a number."""
-        (number,) = struct.unpack_from("<H", self.data, self.at)
-        self.at += 2
+    def take(self, form: str) -> int:
+        """The next bytes as a number of this form."""
+        (number,) = struct.unpack_from(form, self.data, self.at)
+        self.at += struct.calcsize(form)
         return number
 
-    def section(self, size: int) -> bytes:
-        """The next section, of elements of so many bytes."""
-        end = size * self.number() + self.at
+    def tag(self) -> int:
+        """The next tag."""
+        return self.take("<H")
+
+    def section(self) -> bytes:
+        """The next section."""
+        end = self.take("<I") + self.at
         found, self.at = self.data[self.at : end], end
         return found
 
     def words(self) -> List[int]:
         """The words of the next section."""
-        return [word for (word,) in struct.iter_unpack("<H", self.section(2))]
+        return [word for (word,) in struct.iter_unpack("<H", self.section())]
+
+    def number(self) -> int:
+        """The number of a section that has one word."""
+        (number,) = self.words()
+        return number
 
     def goes_on(self) -> bool:
         """Whether another case begins."""
         return self.at < len(self.data)
-
-
-def run(line: Callable[[Stream], str]) -> None:
-    """A line for each case to standard output, and how many there were to standard error."""
-    stream = Stream(sys.stdin.buffer.read())
-    count = 0
-    while stream.goes_on():
-        print(line(stream))
-        count += 1
-    print(count, file=sys.stderr)

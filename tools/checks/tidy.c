@@ -1,11 +1,9 @@
 /*
- * Tidies the stored lists of a stream by the library. Standard input holds case after case: template, script and
- * stored list, each after its count of words in two bytes, low first, then in two bytes how many words the buffer has,
- * which are all 7 before the call. A line for each case goes to standard output: `written WORDS` or
- * `refused NUMBER PLACE`, then ` :` and every word of the buffer after the call. On the way it checks that a list that
- * is written has no fault, that it is the whole stored list, with the radio desk before each pair, exactly if no pair
- * stands there twice, and that numbers which say nothing are 0.
+ * The cases of tidying a stored list. On the way it is checked that a list that is written has no fault, that it is
+ * the whole stored list, with the radio desk before each pair, exactly if no pair stands there twice, and that numbers
+ * which say nothing are 0.
  */
+#include "cases.h"
 #include "prep.h"
 #include "sections.h"
 
@@ -46,14 +44,14 @@ static void check_tidy(const struct files *files, struct words tidied)
     free(whole.word);
 }
 
-static void print_answer(struct prep_tidy_answer t, struct words buffer)
+static void print_answer(struct prep_written_answer t, struct words buffer)
 {
     size_t i;
     if (t.number == PREP_NOT_REFUSED) {
         REQUIRE(t.place == 0);
-        printf("written %zu :", t.words);
+        printf("written %zu :", t.written);
     } else {
-        REQUIRE(t.words == 0);
+        REQUIRE(t.written == 0);
         printf("refused %u %zu :", (unsigned)t.number, t.place);
     }
     for (i = 0; i < buffer.length; i++) {
@@ -62,22 +60,17 @@ static void print_answer(struct prep_tidy_answer t, struct words buffer)
     printf("\n");
 }
 
-static void tidy_next(void)
+void tidy_case(void)
 {
     struct files files = read_files();
     struct words buffer = new_words(read_number());
-    struct prep_tidy_answer t = prep_tidy_bookings(LENT_FILES(files), LENT(buffer));
+    struct prep_written_answer t = prep_tidy_bookings(LENT_FILES(files), LENT(buffer));
     print_answer(t, buffer);
     if (t.number == PREP_NOT_REFUSED) {
-        struct words tidied = {buffer.word, t.words};
-        REQUIRE(t.words <= buffer.length);
+        struct words tidied = {buffer.word, t.written};
+        REQUIRE(t.written <= buffer.length);
         check_tidy(&files, tidied);
     }
     free_files(&files);
     free(buffer.word);
-}
-
-int main(void)
-{
-    return run_cases(tidy_next);
 }

@@ -1,15 +1,12 @@
-"""Tidies the stored lists of a stream by the library that the Python wrapper loads. Standard input holds case after
-case: template, script and stored list, each after its count of words in two bytes, low first, then in two bytes how
-many words the buffer has, which are all 7 before the call. A line for each case goes to standard output, and how many
-there were to standard error. The wrapper lends a buffer of the right length, so unless that of the case has another
-one it has to answer the same."""
+"""The cases of tidying a stored list, by the library that the Python wrapper loads. The wrapper lends a buffer of the
+right length, so unless that of the case has another one it has to answer the same."""
 
 import sys
 from typing import List, Tuple
 
 import prep
-from cases import bookings_of
-from sections import Stream, run
+from lists import bookings_of
+from sections import Stream
 
 
 def by_wrapper(template: List[int], script: List[int], stored: List[int]) -> Tuple[str, List[int]]:
@@ -22,19 +19,15 @@ def by_wrapper(template: List[int], script: List[int], stored: List[int]) -> Tup
     return f"written {len(words)}", words
 
 
-def line(stream: Stream) -> str:
-    """`written WORDS` or what is refused, and the buffer, for the next case."""
+def tidy_text(stream: Stream) -> str:
+    """`written WORDS` or what is refused, and the buffer."""
     files = [stream.words() for _ in range(3)]
     buffer = prep._words([7] * stream.number())
     answer = prep._library.prep_tidy_bookings(*prep._lend(*map(prep._words, files), buffer))
     if answer.number == 0:
-        told = f"written {answer.words}"
+        told = f"written {answer.written}"
     else:
         told = f"refused {answer.number} {answer.place}"
-    if answer.number != 40 and by_wrapper(*files) != (told, buffer[: answer.words]):
+    if answer.number != 40 and by_wrapper(*files) != (told, buffer[: answer.written]):
         sys.exit(f"the wrapper tidies in another way, where the library answers {told}")
     return f"{told} :" + "".join(f" {word}" for word in buffer)
-
-
-if __name__ == "__main__":
-    run(line)

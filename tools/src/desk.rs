@@ -18,6 +18,12 @@ impl Desk {
         Desk::BOTH.get(usize::from(number)).copied()
     }
 
+    /// The desk that a word means: its number or its name.
+    pub fn called(word: &str) -> Option<Desk> {
+        let means = |desk: &Desk| word == desk.name() || word == desk.number().to_string();
+        Desk::BOTH.into_iter().find(means)
+    }
+
     /// Its number.
     pub fn number(self) -> u16 {
         self as u16

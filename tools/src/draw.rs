@@ -29,9 +29,11 @@
 //! | `signs`    | what the signs of a picture mean                                          |
 //! | `shapes`   | shapes as lines of text                                                   |
 //! | `legend`   | the legend below a picture                                                |
+//! | `answers`  | what the heading says about the typings                                   |
 //! | `page`     | the page: title, picture, legend, notes                                   |
 //! | `listing`  | pages of lists: shapes, and where each card stands                        |
 
+pub mod answers;
 pub mod cards;
 pub mod choice;
 pub mod columns;
@@ -65,6 +67,7 @@ use crate::numbers::Card;
 use crate::text::check::Sheet;
 use crate::text::reasons::path;
 use crate::typing::Pair;
+use answers::Answers;
 use choice::Choice;
 use graph::{Arrow, Graph};
 use layout::{layout, Layout};
@@ -96,9 +99,10 @@ pub struct Tally {
 
 /// The drawing of the chosen cards of a sheet.
 pub fn draw(sheet: &Sheet, choice: Choice) -> Drawing {
-    let graph = Graph::new(sheet);
+    let (graph, answers) = (Graph::new(sheet), Answers::new(sheet));
     let mut whole = Whole {
         sheet,
+        answers: &answers,
         page_of: vec![None; graph.cards],
         graph,
     };
@@ -107,6 +111,7 @@ pub fn draw(sheet: &Sheet, choice: Choice) -> Drawing {
     let blamed = blamed(sheet);
     let around = Around {
         sheet,
+        answers: &answers,
         number: (1, 99),
         notes: choice_note(&whole, choice, cards.len()).into_iter().collect(),
         blamed: &blamed,

@@ -169,8 +169,8 @@ pub fn alike_cases(seed: u64, count: usize) -> impl Iterator<Item = Case> {
 /// What a seed and the seed for alike cards differ in.
 const ALIKE: u64 = 0x5555_5555_5555_5555;
 
-/// Random inputs of one seed. Of each seven the sixth is about counting and the seventh has alike cards; these come from
-/// sources of their own, so that the others don't depend on them.
+/// Random inputs of one seed. Of each seven the sixth is about counting and the seventh has alike cards; these come
+/// from sources of their own, so that the others don't depend on them.
 fn in_turn<T>(
     seed: u64,
     any: fn(&mut Random) -> T,
@@ -243,8 +243,8 @@ pub fn loose(random: &mut Random, scale: Scale) -> Files {
 
 /// A sheet that is made in one of these ways.
 pub fn any(random: &mut Random, scale: Scale) -> Files {
-    let make = random.pick(&[derived, matched::matched, loose]);
-    make(random, scale)
+    let ways: [fn(&mut Random, Scale) -> Files; 3] = [derived, matched::matched, loose];
+    random.pick(&ways)(random, scale)
 }
 
 /// A sheet with a script that is made in this way. Many have cards that few links touch or none.

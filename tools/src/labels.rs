@@ -107,7 +107,7 @@ impl<T> Labelled<T> {
 impl<T> From<Vec<T>> for Labelled<T> {
     /// The values of a list that has two for each kind.
     fn from(values: Vec<T>) -> Labelled<T> {
-        assert!(values.len().is_multiple_of(2), "a kind has two labels");
+        assert!(values.len() % 2 == 0, "a kind has two labels");
         Labelled { values }
     }
 }

@@ -6,6 +6,7 @@
 //! | `markdown`  | the tables and the blocks of a page, with their lines                       |
 //! | `cells`     | a cell's words, names and grids                                             |
 //! | `examples`  | which tables are examples, and what each row asks                           |
+//! | `texts`     | what tables ask by names about a text above them                            |
 //! | `answers`   | what this implementation answers                                            |
 //! | `printed`   | which input shows a printer the same question, and what its text then says  |
 
@@ -14,6 +15,7 @@ pub mod cells;
 pub mod examples;
 pub mod markdown;
 pub mod printed;
+pub mod texts;
 
 use crate::compare;
 use examples::Example;

@@ -159,7 +159,7 @@ pub fn table_text() -> Result<String, String> {
         let by_intervals = written(fit::fit(&words, 0, &sample.counts));
         let by_bags = written(fit::fit_by_bags(&words, 0, &sample.counts));
         let page = written(Ok(sample.fits));
-        let counts = spaced(&sample.counts).replace(' ', ",");
+        let counts = sample.counts.map(|count| count.to_string()).join(",");
         let line = format!("{} {}: {counts}", sample.label, sample.text);
         if by_intervals != page || by_bags != page {
             return Err(format!(
@@ -169,9 +169,4 @@ pub fn table_text() -> Result<String, String> {
         text += &format!("{line} {page}\n");
     }
     Ok(text)
-}
-
-/// The words in base ten, a space between them.
-pub fn spaced(words: &[u16]) -> String {
-    words.iter().map(u16::to_string).collect::<Vec<_>>().join(" ")
 }

@@ -29,14 +29,6 @@ impl Files {
         }
         bytes
     }
-
-    /// How many words the longest of the files has.
-    pub fn longest(&self) -> usize {
-        self.template
-            .len()
-            .max(self.script.len())
-            .max(self.bookings.len())
-    }
 }
 
 /// The text of the sheet: what the printer writes for this input.
@@ -55,7 +47,7 @@ pub fn typings(input: &[u8]) -> Result<Typings, Refusal> {
 
 /// Cuts the input into its three files; 60 if it ends early, goes on, or is too long.
 pub fn split(input: &[u8]) -> Result<Files, Refusal> {
-    if input.len() > MOST_BYTES || !input.len().is_multiple_of(2) {
+    if input.len() > MOST_BYTES || input.len() % 2 != 0 {
         return Err(Refusal::at(60, 0));
     }
     let words: Vec<u16> = input

@@ -4,16 +4,19 @@
 //! |--------------|----------------------------------------------------------------------------|
 //! | `quotations` | titles: how they are read and written                                      |
 //! | `brackets`   | which brackets are open, and how deep                                      |
-//! | `tokens`     | cuts a text into tokens, each with its line and column                     |
-//! | `parse`      | reads the lines of a text                                                  |
+//! | `tokens`     | cuts a text into statements and tokens, each with its line and column      |
+//! | `parse`      | reads the statements of a text                                             |
+//! | `listed`     | the first entries of a list, and how many more there are                   |
 //! | `nearest`    | the known word that was perhaps meant by an unknown one                    |
+//! | `names`      | the names of a text and their numbers                                      |
 //! | `compile`    | text to words; for each word, where it comes from                          |
+//! | `refusals`   | all refusals of a text's words, not only the first                         |
 //! | `form`       | whether a file holds text or words                                         |
 //! | `load`       | loads a sheet from the bytes of a file, be they text or words              |
 //! | `trouble`    | why a file isn't a sheet                                                   |
 //! | `told`       | a refusal with the word at fault, what it is for and where it stands       |
 //! | `roles`      | what the word at a place of a file is for                                  |
-//! | `explain`    | a refusal of a text's words                                                |
+//! | `explain`    | refusals of a text's words                                                 |
 //! | `hints`      | what a refusal means for the text that the words come from                 |
 //! | `check`      | a sheet that was loaded and run                                            |
 //! | `write`      | a sheet as text                                                            |
@@ -24,9 +27,10 @@
 //! | `reasons`    | why a card can't have a shape, and who asks for a pair                     |
 //! | `sentences`  | reasons in words                                                           |
 //! | `report`     | the outcome of a sheet in words                                            |
-//! | `judged`     | what is said about a grid that is judged, in words                         |
+//! | `judged`     | what is said about a grid that is judged                                   |
+//! | `printed`    | what is said about a refusal that some program printed                     |
 //! | `json`       | writes JSON                                                                |
-//! | `machine`    | the outcome of a sheet as JSON                                             |
+//! | `machine`    | what commands tell, as JSON                                                |
 
 pub mod brackets;
 pub mod check;
@@ -37,13 +41,17 @@ pub mod form;
 pub mod hints;
 pub mod json;
 pub mod judged;
+pub mod listed;
 pub mod load;
 pub mod machine;
 pub mod misfit;
+pub mod names;
 pub mod nearest;
 pub mod parse;
+pub mod printed;
 pub mod quotations;
 pub mod reasons;
+pub mod refusals;
 pub mod report;
 pub mod roles;
 pub mod roots;
@@ -55,10 +63,11 @@ pub mod trouble;
 pub mod write;
 
 use crate::labels::Way;
+use listed::Listed;
 use std::fmt;
 
 /// A line and a column of a text, both from 1.
-#[derive(Clone, Copy, PartialEq, Eq, Debug)]
+#[derive(Clone, Copy, PartialEq, Eq, PartialOrd, Ord, Hash, Debug)]
 pub struct Spot {
     /// The line.
     pub line: usize,
@@ -90,6 +99,9 @@ impl Fault {
         }
     }
 }
+
+/// What is wrong with a text, all of it or as much as is told.
+pub type Faults = Listed<Fault>;
 
 impl fmt::Display for Fault {
     fn fmt(&self, out: &mut fmt::Formatter<'_>) -> fmt::Result {
@@ -126,8 +138,8 @@ pub struct Text {
 /// A booking as it is written.
 #[derive(Clone, PartialEq, Eq, Debug)]
 pub struct BookLine {
-    /// The desk's number and where it stands; nowhere if none is written, which means desk 0.
-    pub desk: Option<(u16, Spot)>,
+    /// The desk's number, and how and where it is written; none if it isn't, which means desk 0.
+    pub desk: Option<(u16, Name)>,
     /// The card.
     pub card: Name,
     /// The shape.

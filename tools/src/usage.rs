@@ -1,8 +1,9 @@
 //! How commands are called: their arguments and options, what is missing, and help.
 
 use prep_tools::text::nearest::nearest;
+use prep_tools::text::trouble::Trouble;
 
-/// How a command ended; an error is told in words instead.
+/// How a command ended.
 #[derive(Clone, Copy, PartialEq, Eq, Debug)]
 pub enum Outcome {
     /// As it should; exit code 0.
@@ -13,8 +14,28 @@ pub enum Outcome {
     Failed,
 }
 
+/// Why a command couldn't do its work; exit code 2.
+pub enum Failure {
+    /// In words.
+    Words(String),
+    /// A file isn't a sheet.
+    Trouble(Trouble),
+}
+
+impl From<String> for Failure {
+    fn from(words: String) -> Failure {
+        Failure::Words(words)
+    }
+}
+
+impl From<Trouble> for Failure {
+    fn from(trouble: Trouble) -> Failure {
+        Failure::Trouble(trouble)
+    }
+}
+
 /// What a command does with what is given.
-pub type Run = fn(&Given) -> Result<Outcome, String>;
+pub type Run = fn(&Given) -> Result<Outcome, Failure>;
 
 /// One command.
 pub struct Command {

@@ -136,11 +136,11 @@ fn why_a_booked_blank_card_cannot_have_its_shape_is_told() {
     let sheet = sheet(&format!("{TEXT}book first Item\n"));
     let report = sheet.report("x.txt");
     assert!(report.contains(
-        "x.txt:3:6: A pause can't be an Item: 1 guest wanted, 0 there\n  \
+        "x.txt:3:6: A pause can't be Item: 1 guest wanted, 0 there\n  \
          refused 50 0 0 for radio: its bookings ask for first to have shape Item\n  this is booked by radio\n"
     ));
     assert!(
-        report.ends_with("its guest ann can't be an Item: 1 guest wanted, 0 there\n"),
+        report.ends_with("its guest ann can't be Item: 1 guest wanted, 0 there\n"),
         "{report}"
     );
     let written = machine::outcome(&sheet, "x.txt").to_string();
@@ -153,10 +153,10 @@ fn the_outcome_as_json_lists_as_many_cards_as_it_counts() {
     let listed = bare(&sheet, &Roots::new(&sheet.setting));
     assert_eq!(listed.iter().map(|(card, _)| *card).collect::<Vec<_>>(), [3, 1]);
     let written = machine::outcome(&sheet, "x.txt").to_string();
-    assert!(written.contains("\"largest\":{\"rounds\":3,\"struck\":4,\"bare\":2}"));
+    assert!(written.contains("\"largest\":{\"rounds\":3,\"struck\":4,\"bare\":2,\"typing\":{}}"));
     assert!(written.contains("\"bare\":[{\"card\":3,"));
     assert!(!written.contains("{\"card\":0,") && !written.contains("{\"card\":2,"));
-    assert!(written.contains("{\"name\":\"between\",\"title\":null,\"line\":5,\"column\":6,\"largest\":[]"));
+    assert!(written.contains("{\"name\":\"between\",\"title\":null,\"line\":5,\"column\":6}"));
 }
 
 /// The edge of a blank card with no shape, and its sign in the legend.
@@ -194,7 +194,7 @@ fn a_blank_card_with_a_shape_is_drawn_like_any() {
 fn a_blank_card_of_the_unmet_pair_keeps_its_mark() {
     let text = page("kinds: a\nshape A = a[1;1]@A\ncard x \"A pause\"\nbook x A\n");
     assert!(text.contains("0 cards with links and no shape."));
-    assert!(text.contains("“A pause” can't be A (50)."));
+    assert!(text.contains("“A pause” can't be A (50): 1 a wanted, 0 there."));
     assert!(text.contains(">the unmet pair of 50<") && text.contains(SIGN));
     // The card has a red edge; only the legend shows a dashed one.
     assert_eq!(text.matches(DASHED).count(), 1);

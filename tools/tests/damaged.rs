@@ -1,14 +1,18 @@
 //! Damaged files: whatever is in a file, it is a sheet or it is told why not, and nothing panics.
 
+use prep_tools::desk::Desk;
 use prep_tools::generate;
+use prep_tools::numbers::{Card, Shape};
 use prep_tools::random::Random;
 use prep_tools::refusal::Refusal;
 use prep_tools::text::check::Sheet;
 use prep_tools::text::form::{form, Form};
-use prep_tools::text::load::{load_input, load_sheet, tell_refusal};
+use prep_tools::text::judged::{self, Verdict};
+use prep_tools::text::load::{load_input, load_sheet};
+use prep_tools::text::printed;
 use prep_tools::text::tidy::tidy;
 use prep_tools::text::trouble::{Trouble, Why};
-use prep_tools::text::{judged, machine, write};
+use prep_tools::text::{machine, write};
 
 const TEXTS: [&str; 6] = [
     include_str!("../../examples/prep/programme.txt"),
@@ -57,9 +61,10 @@ const PIECES: [&str; 27] = [
 /// Everything that can be said about a file, to see that nothing panics.
 fn try_all(bytes: &[u8]) -> bool {
     let _ = load_input("x", bytes);
-    for number in [0, 1, 4, 12, 20, 25, 33, 40, 50, 60, 61, 62, 63, 65, 66, 65535] {
-        let place = usize::from(number) * 7 % 90;
-        let _ = tell_refusal("x", bytes, Refusal::at(number, place)).to_string();
+    let number = [0, 4, 25, 33, 40, 43, 60, 61, 63, 65, 66, 65535][bytes.len() % 12];
+    let _ = printed::refusal("x", bytes, Refusal::at(number, usize::from(number) * 7 % 90));
+    for number in [50, 62] {
+        let _ = printed::pair("x", bytes, number, (Card(number % 7), Shape(number % 3)));
     }
     let loaded = load_sheet("x", bytes);
     try_tidy(bytes, &loaded);
@@ -85,8 +90,8 @@ fn try_all(bytes: &[u8]) -> bool {
 /// are tidied if their bookings are a stored list, and become a sheet.
 fn try_tidy(bytes: &[u8], loaded: &Result<Sheet, Trouble>) {
     let number = |trouble: &Trouble| match &trouble.why {
-        Why::Refused(told) => told.refusal.number,
-        Why::Fault(_) => 0,
+        Why::Refused(refusals) => refusals.told[0].refusal.number,
+        Why::Short(_) | Why::Faults(_) => 0,
     };
     let is_text = form(bytes) == Form::Text;
     match (loaded, tidy("x", bytes)) {
@@ -99,10 +104,8 @@ fn try_tidy(bytes: &[u8], loaded: &Result<Sheet, Trouble>) {
             assert!(load_sheet("x", &tidied.bytes).is_ok(), "{trouble}");
         }
         (Err(trouble), Err(other)) if is_text => {
-            assert!(
-                (number(trouble) == 65) != (*trouble == other),
-                "{trouble} {other}"
-            );
+            let is_same = trouble.to_string().starts_with(&other.to_string());
+            assert!((number(trouble) == 65) != is_same, "{trouble} {other}");
         }
         (Err(trouble), Err(other)) => {
             let of_list = |number: u16| (30..=33).contains(&number) || number >= 65;
@@ -119,15 +122,19 @@ fn try_tidy(bytes: &[u8], loaded: &Result<Sheet, Trouble>) {
 fn try_grids(sheet: &Sheet) {
     let size = sheet.setting.size();
     for grid in [vec![0; size], vec![1; size], vec![1; size + 1], vec![2; size]] {
-        for desk in [0, 1, 2] {
-            let (told, accepted) = judged::report(sheet, "x", desk, ("y", &grid));
-            assert_eq!(accepted, told.contains("is accepted"), "{told}");
+        for desk in Desk::BOTH {
+            let verdict = judged::judge(sheet, desk, &grid);
+            let told = judged::words(sheet, desk, ("x", "y"), &verdict);
+            let is_accepted = matches!(verdict, Verdict::Accepted(_));
+            assert_eq!(is_accepted, told.contains("is accepted"), "{told}");
+            let _ = machine::judged(sheet, "x", desk, &verdict).to_string();
         }
     }
-    assert_eq!(judged::explain_byte(sheet, "x", size), None);
     for pair in sheet.setting.pairs().take(20) {
-        assert!(judged::explain_byte(sheet, "x", sheet.setting.place(pair)).is_some());
-        assert!(judged::explain_pair(sheet, "x", pair).starts_with("x:"));
+        let byte = judged::byte(sheet, sheet.setting.place(pair), None);
+        assert!(byte.note.is_some());
+        let told = judged::explain_pair(sheet, "x", pair);
+        assert!(told.is_none_or(|told| told.starts_with("x:")));
     }
 }
 

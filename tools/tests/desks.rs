@@ -110,7 +110,9 @@ fn the_pairs_are_written_one_after_the_other() {
     let mut rest = &bytes[..];
     for SheetPair { sheets, .. } in pairs(5, 40) {
         for files in sheets {
-            let (length, after) = rest.split_first_chunk::<4>().expect("a length stands there");
+            let Some(([5, 0, length @ ..], after)) = rest.split_first_chunk::<6>() else {
+                panic!("the printer's tag and a length stand there");
+            };
             let (input, after) = after.split_at(u32::from_le_bytes(*length) as usize);
             assert_eq!(sheet::split(input), Ok(files));
             rest = after;

@@ -5,7 +5,11 @@ use prep_tools::text::check::run;
 use prep_tools::text::json::Json;
 use prep_tools::text::load::load_sheet;
 use prep_tools::text::machine;
+use std::env;
+use std::fs;
 use std::iter::Peekable;
+use std::path::PathBuf;
+use std::process::{self, Command};
 use std::str::Chars;
 
 /// Reads one JSON value and the blanks after it; none if it isn't well-formed.
@@ -89,7 +93,9 @@ fn every_outcome_is_well_formed() {
         let written = json.to_string();
         assert!(is_json(&written), "{}: {written}", case.name);
         assert!(
-            written.starts_with("{\"file\":\"a \\\"file\\\"\\\\\\n\",\"form\":\"words\",\"outcome\":\""),
+            written.starts_with(
+                "{\"format\":1,\"file\":\"a \\\"file\\\"\\\\\\n\",\"form\":\"words\",\"outcome\":\""
+            ),
             "{written}"
         );
     }
@@ -109,18 +115,21 @@ book quiz Item
 #[test]
 fn a_sheet_that_is_met() {
     let sheet = run("x.txt", SHEET).expect("the text is a sheet");
-    let expected = "{\"file\":\"x.txt\",\"form\":\"text\",\"outcome\":\"met\",\
-        \"title\":\"Say \\\"hello\\\"\",\"kinds\":[\"guest\"],\"shapes\":[\"Item\",\"Guest\"],\"links\":1,\
-        \"bookings\":[{\"desk\":0,\"desk_name\":\"radio\",\
-        \"card\":0,\"card_name\":\"quiz\",\"shape\":0,\"shape_name\":\"Item\"}],\
-        \"largest\":{\"rounds\":2,\"struck\":2,\"bare\":0},\
-        \"desks\":[{\"desk\":0,\"desk_name\":\"radio\",\"smallest\":{\"pairs\":2},\"unmet\":null,\"also_unmet\":[]},\
-        {\"desk\":1,\"desk_name\":\"television\",\"smallest\":{\"pairs\":0},\"unmet\":null,\"also_unmet\":[]}],\
-        \"bare\":[],\
-        \"cards\":[{\"name\":\"quiz\",\"title\":\"The quiz\",\"line\":5,\"column\":6,\
-        \"largest\":[\"Item\"],\"smallest\":[[\"Item\"],[]]},\
-        {\"name\":\"ann\",\"title\":null,\"line\":6,\"column\":6,\
-        \"largest\":[\"Guest\"],\"smallest\":[[\"Guest\"],[]]}]}";
+    let typing = "\"typing\":{\"quiz\":[\"Item\"],\"ann\":[\"Guest\"]}";
+    let expected = format!(
+        "{{\"format\":1,\"file\":\"x.txt\",\"form\":\"text\",\"outcome\":\"met\",\
+         \"title\":\"Say \\\"hello\\\"\",\"kinds\":[\"guest\"],\"shapes\":[\"Item\",\"Guest\"],\"links\":1,\
+         \"bookings\":[{{\"desk\":0,\"desk_name\":\"radio\",\
+         \"card\":0,\"card_name\":\"quiz\",\"shape\":0,\"shape_name\":\"Item\"}}],\
+         \"largest\":{{\"rounds\":2,\"struck\":2,\"bare\":0,{typing}}},\
+         \"desks\":[{{\"desk\":0,\"desk_name\":\"radio\",\"smallest\":{{\"pairs\":2,{typing}}},\
+         \"unmet\":null,\"also_unmet\":[]}},\
+         {{\"desk\":1,\"desk_name\":\"television\",\"smallest\":{{\"pairs\":0,\"typing\":{{}}}},\
+         \"unmet\":null,\"also_unmet\":[]}}],\
+         \"bare\":[],\
+         \"cards\":[{{\"name\":\"quiz\",\"title\":\"The quiz\",\"line\":5,\"column\":6}},\
+         {{\"name\":\"ann\",\"title\":null,\"line\":6,\"column\":6}}]}}"
+    );
     assert_eq!(machine::outcome(&sheet, "x.txt").to_string(), expected);
 }
 
@@ -139,8 +148,8 @@ fn a_sheet_that_is_not_met() {
          \"shapes\":[\"Item\",\"Guest\"],\"links\":1,\
          \"bookings\":[{{\"desk\":1,\"desk_name\":\"television\",\
          \"card\":0,\"card_name\":\"quiz\",\"shape\":0,\"shape_name\":\"Item\"}}],\
-         \"largest\":{{\"rounds\":2,\"struck\":3,\"bare\":1}},\
-         \"desks\":[{{\"desk\":0,\"desk_name\":\"radio\",\"smallest\":{{\"pairs\":0}},\
+         \"largest\":{{\"rounds\":2,\"struck\":3,\"bare\":1,\"typing\":{{\"ann\":[\"Guest\"]}}}},\
+         \"desks\":[{{\"desk\":0,\"desk_name\":\"radio\",\"smallest\":{{\"pairs\":0,\"typing\":{{}}}},\
          \"unmet\":null,\"also_unmet\":[]}},\
          {{\"desk\":1,\"desk_name\":\"television\",\"smallest\":null,\
          \"unmet\":{{\"card\":0,\"card_name\":\"quiz\",\"shape\":0,\"shape_name\":\"Item\",\"line\":5,\"column\":6,\
@@ -184,20 +193,177 @@ fn a_file_that_is_no_sheet() {
     };
     assert_eq!(
         told(b"kinds: a\nshape A = all(a[0;1]@A"),
-        "{\"file\":\"x\",\"form\":\"text\",\"outcome\":\"fault\",\
-         \"fault\":{\"line\":2,\"column\":14,\"message\":\"this `(` is never closed\"}}"
+        "{\"format\":1,\"file\":\"x\",\"form\":\"text\",\"outcome\":\"fault\",\
+         \"faults\":[{\"line\":2,\"column\":14,\"message\":\"this `(` is never closed\"}],\"more\":0}"
     );
     assert_eq!(
         told(b"kinds: a\nshape A = a[2;1]@A"),
-        "{\"file\":\"x\",\"form\":\"text\",\"outcome\":\"refused\",\"refusal\":{\"number\":10,\"place\":5,\
+        "{\"format\":1,\"file\":\"x\",\"form\":\"text\",\"outcome\":\"refused\",\
+         \"refusals\":[{\"number\":10,\"place\":5,\
          \"message\":\"a link's low or high is out of bounds\",\"section\":\"template\",\"word\":2,\
          \"role\":\"the low of the link a in shape A\",\
-         \"note\":\"the low 2 is above the high 1\",\"line\":2,\"column\":13}}"
+         \"note\":\"the low 2 is above the high 1\",\"line\":2,\"column\":13}],\"more\":0}"
     );
     assert_eq!(
         told(b""),
-        "{\"file\":\"x\",\"form\":\"words\",\"outcome\":\"refused\",\"refusal\":{\"number\":60,\"place\":0,\
-         \"message\":\"the input ends early, goes on, or passes 65,536 bytes\",\"section\":null,\"word\":null,\
-         \"role\":null,\"note\":\"it is empty\",\"line\":null,\"column\":null}}"
+        "{\"format\":1,\"file\":\"x\",\"form\":\"words\",\"outcome\":\"fault\",\
+         \"faults\":[{\"line\":null,\"column\":null,\"message\":\"the file is empty\"}],\"more\":0}"
+    );
+    let words = told(&[0, 0, 0, 0]);
+    assert!(
+        words.contains("\"section\":null,\"word\":null,\"role\":null,\"note\":\"it ends at word 2,"),
+        "{words}"
+    );
+}
+
+#[test]
+fn all_faults_and_refusals_are_there() {
+    let told = |source: &str| {
+        let trouble = load_sheet("x", source.as_bytes()).expect_err("the text has faults");
+        let written = machine::trouble(&trouble).to_string();
+        assert!(is_json(&written), "{written}");
+        written
+    };
+    let written = told("kinds: a\nshape A = b[0;1]@A\nshape B = c[0;1]@A\n");
+    assert_eq!(written.matches("\"message\":\"no kind is named").count(), 2);
+    let written = told("kinds: a\nshape A = a[2;1]@A\nshape B = a[3;1]@A\n");
+    assert_eq!(written.matches("\"number\":10,").count(), 2);
+    let many: String = (0..33).map(|number| format!("book x S{number}\n")).collect();
+    let written = told(&format!("kinds: a\nshape A = nothing\ncard x\n{many}"));
+    assert_eq!(written.matches("\"message\":").count(), 20);
+    assert!(written.ends_with("],\"more\":13}"), "{written}");
+}
+
+/// A new folder with the text of a sheet, and a grid of it; removed with what is in it.
+struct Folder(PathBuf);
+
+impl Folder {
+    fn new(name: &str, source: &str, grid: &[u8]) -> Folder {
+        let path = env::temp_dir().join(format!("prep-tools-json-{}-{name}", process::id()));
+        fs::create_dir_all(&path).expect("the folder can be made");
+        fs::write(path.join("x.txt"), source).expect("the file can be written");
+        fs::write(path.join("grid"), grid).expect("the file can be written");
+        Folder(path)
+    }
+
+    /// What a command with `--json` writes, which has to be JSON on one line, and its exit code.
+    fn run(&self, words: &[&str]) -> (String, Option<i32>) {
+        let output = Command::new(env!("CARGO_BIN_EXE_prep-tools"))
+            .args(words)
+            .arg("--json")
+            .current_dir(&self.0)
+            .output()
+            .expect("the program starts");
+        let written = String::from_utf8_lossy(&output.stdout).into_owned();
+        assert_eq!(output.stderr, b"", "{words:?}");
+        let line = written.strip_suffix('\n').expect("a line");
+        assert!(is_json(line), "{written}");
+        assert!(line.starts_with("{\"format\":1,\"file\":\"x.txt\",\"form\":\"text\",\"outcome\":"));
+        (written, output.status.code())
+    }
+}
+
+impl Drop for Folder {
+    fn drop(&mut self) {
+        let _ = fs::remove_dir_all(&self.0);
+    }
+}
+
+#[test]
+fn judge_has_json() {
+    for (grid, outcome, code, fields) in [
+        (
+            &[1, 0, 0, 1][..],
+            "accepted",
+            0,
+            "\"desk\":0,\"desk_name\":\"radio\",\"booked\":1,\"pairs\":2,\"smallest\":2,\"largest\":2}",
+        ),
+        (
+            &[1, 0, 0, 0],
+            "not_accepted",
+            1,
+            "\"card\":0,\"card_name\":\"quiz\",\"shape\":0,\"shape_name\":\"Item\",\"line\":5,\"column\":6,\
+             \"reason\":\"The quiz isn't Item under the grid: its guest ann isn't Guest\",\"lacks\":[],\
+             \"missing\":[{\"card\":1,\"card_name\":\"ann\",\"shape\":1,\"shape_name\":\"Guest\"}],\"never\":null}}",
+        ),
+        (&[0, 0, 0, 1], "not_accepted", 1, "\"refusal\":{\"number\":63,\"place\":2,"),
+        (&[0, 0, 0, 7], "not_accepted", 1, "\"refusal\":{\"number\":61,\"place\":3,"),
+        (&[0, 0, 0], "not_accepted", 1, "\"refusal\":{\"number\":40,\"place\":0,"),
+    ] {
+        let (written, ended) = Folder::new("judge", SHEET, grid).run(&["judge", "x.txt", "grid"]);
+        assert!(written.contains(&format!("\"outcome\":\"{outcome}\"")), "{written}");
+        assert!(written.contains(fields), "{written}");
+        assert_eq!(ended, Some(code));
+    }
+    let (written, ended) = Folder::new("judge", "kinds: a\n=", &[]).run(&["judge", "x.txt", "grid"]);
+    assert!(
+        written.contains("\"outcome\":\"fault\"") && ended == Some(2),
+        "{written}"
+    );
+}
+
+#[test]
+fn explain_has_json() {
+    let folder = Folder::new("explain", SHEET, &[]);
+    for (words, code, fields) in [
+        (&["x.txt"][..], 0, "\"outcome\":\"met\",\"desks\":["),
+        (
+            &["10", "5", "x.txt"],
+            1,
+            "\"outcome\":\"not_so\",\"number\":10,\"place\":[5],\"refusal\":null,\"told\":[\"x.txt: this isn't",
+        ),
+        (
+            &["61", "3", "x.txt"],
+            0,
+            "\"outcome\":\"explained\",\"number\":61,\"place\":[3],\"refusal\":{\"number\":61,\"place\":3,",
+        ),
+        (
+            &["50", "0", "1", "x.txt"],
+            1,
+            "\"outcome\":\"not_so\",\"number\":50,\"place\":[0,1],",
+        ),
+        (
+            &["62", "0", "0", "x.txt"],
+            0,
+            "\"outcome\":\"explained\",\"number\":62,\"place\":[0,0],",
+        ),
+    ] {
+        let (written, ended) = folder.run(&[&["explain"], words].concat());
+        assert!(written.contains(fields), "{written}");
+        assert_eq!(ended, Some(code));
+    }
+    let refused = Folder::new("explain-refused", &SHEET.replace("[1;2]", "[2;1]"), &[]);
+    let (written, ended) = refused.run(&["explain", "x.txt"]);
+    assert!(
+        written.contains("\"outcome\":\"refused\"") && ended == Some(1),
+        "{written}"
+    );
+    let (written, ended) = refused.run(&["explain", "10", "5", "x.txt"]);
+    assert!(
+        written.contains("\"outcome\":\"explained\"") && ended == Some(0),
+        "{written}"
+    );
+}
+
+#[test]
+fn tidy_has_json() {
+    let folder = Folder::new("tidy", &(SHEET.to_string() + "book quiz Item\n"), &[]);
+    let (written, ended) = folder.run(&["tidy", "x.txt", "out"]);
+    assert!(
+        written.ends_with("\"outcome\":\"tidied\",\"bookings\":2,\"dropped\":1}\n"),
+        "{written}"
+    );
+    let page = include_str!("../../docs/JSON.md");
+    assert!(page.contains(&format!("\n    {written}")), "{written}");
+    assert_eq!(ended, Some(0));
+    assert_eq!(
+        fs::read_to_string(folder.0.join("out")).expect("it is written"),
+        SHEET
+    );
+    fs::write(folder.0.join("x.txt"), "kinds: a\n=\n&").expect("the file can be written");
+    let (written, ended) = folder.run(&["tidy", "x.txt", "out"]);
+    assert!(
+        written.contains("\"outcome\":\"fault\"") && ended == Some(2),
+        "{written}"
     );
 }

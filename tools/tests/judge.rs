@@ -413,35 +413,34 @@ const OUTCOMES: [(&[u8], i32, &str); 6] = [
     (
         &[0, 0, 0, 0, 1],
         1,
-        "grid: refused 40 0: the grid isn't cards times shapes bytes, or the buffer isn't three words a booking and \
-         one more\n  \
+        "grid: refused 40 0: the grid has not cards x shapes bytes\n  \
          it has 5 bytes; 3 cards times 2 shapes are 6\n",
     ),
     (
         &[0, 2, 0, 0, 0, 255],
         1,
         "sheet.txt:4:6: refused 61 1: a byte of the grid is over 1\n  \
-         byte 1 is 2; 0 or 1 there says whether \"The first card\" is a Second\n",
+         byte 1 is 2; 0 or 1 there says whether \"The first card\" is Second\n",
     ),
     (
         &[0, 1, 0, 1, 0, 1],
         1,
-        "sheet.txt:4:6: The first card can't be a Second: no a wanted, 1 there; no b wanted, 1 there\n  \
-         refused 62 0 1: a pair of the grid isn't met under it\n",
+        "sheet.txt:4:6: The first card can't be Second: no a wanted, 1 there; no b wanted, 1 there\n  \
+         refused 62 0 1: a pair of the grid is not met under it\n",
     ),
     (
         &[0, 0, 1, 0, 0, 1],
         1,
-        "sheet.txt:5:6: one isn't a First under the grid: its a \"The first card\" isn't a Second\n  \
-         refused 62 1 0: a pair of the grid isn't met under it\n  \
-         no sound typing has this pair: its a \"The first card\" can't be a Second: \
+        "sheet.txt:5:6: one isn't First under the grid: its a \"The first card\" isn't Second\n  \
+         refused 62 1 0: a pair of the grid is not met under it\n  \
+         no sound typing has this pair: its a \"The first card\" can't be Second: \
          no a wanted, 1 there; no b wanted, 1 there\n",
     ),
     (
         &[0, 0, 0, 0, 0, 0],
         1,
-        "sheet.txt:10:6: refused 63 2: a booking isn't held by the grid\n  \
-         two is booked by radio as a Second and isn't one in the grid\n  \
+        "sheet.txt:10:6: refused 63 2: a booked pair is not in the grid\n  \
+         two is booked by radio as Second, which it isn't in the grid\n  \
          word 2 of the bookings is 2: the card of the booking two Second\n",
     ),
 ];
@@ -464,17 +463,17 @@ fn the_command_tells_words_without_lines_and_columns() {
         (
             [0, 0, 0, 0, 3, 0],
             "sheet.bin: refused 61 4: a byte of the grid is over 1\n  \
-             byte 4 is 3; 0 or 1 there says whether card2 is a Shape0\n",
+             byte 4 is 3; 0 or 1 there says whether card2 is Shape0\n",
         ),
         (
             [1, 0, 0, 0, 0, 0],
-            "sheet.bin: card0 isn't a Shape0 under the grid: its kind0 card2 isn't a Shape1; its kind1 card1 \
-             isn't a Shape0\n",
+            "sheet.bin: card0 isn't Shape0 under the grid: its kind0 card2 isn't Shape1; its kind1 card1 \
+             isn't Shape0\n",
         ),
         (
             [0, 0, 0, 0, 0, 0],
-            "sheet.bin: refused 63 2: a booking isn't held by the grid\n  \
-             card2 is booked by radio as a Shape1 and isn't one in the grid\n  \
+            "sheet.bin: refused 63 2: a booked pair is not in the grid\n  \
+             card2 is booked by radio as Shape1, which it isn't in the grid\n  \
              word 2 of the bookings is 2: the card of booking 0, counted from 0\n",
         ),
     ] {
@@ -492,9 +491,9 @@ fn the_command_counts_bookings_and_far_cards() {
     let folder = Folder::new("many", &text);
     let lone_hub = [vec![1, 0], vec![0; 12]].concat();
     let (said, _, code) = folder.judge("sheet.txt", &lone_hub);
-    let told = "sheet.txt:4:6: h isn't a Hub under the grid: its a p isn't a Leaf; its a q isn't a Leaf; \
-                its a r isn't a Leaf; its a s isn't a Leaf; so with 2 more of its links\n  \
-                refused 62 0 0: a pair of the grid isn't met under it\n";
+    let told = "sheet.txt:4:6: h isn't Hub under the grid: its a p isn't Leaf; its a q isn't Leaf; \
+                its a r isn't Leaf; its a s isn't Leaf; so with 2 more of its links\n  \
+                refused 62 0 0: a pair of the grid is not met under it\n";
     assert_eq!((said.as_str(), code), (told, Some(1)));
     let (said, _, code) = folder.judge("sheet.txt", &[0; 14]);
     assert!(said.starts_with("sheet.txt: the grid is accepted: a sound typing; nothing is booked by radio\n"));
@@ -523,21 +522,21 @@ fn the_command_tells_which_card_points_at_another() {
     for (grid, told) in [
         (
             [0, 0, 0, 0, 0, 1],
-            "sheet.txt:6:6: ann isn't a Guest under the grid: \"The quiz\", which points at it by guest, isn't an \
-             Item; night, which points at it by guest, isn't an Item\n  refused 62 2 1: ",
+            "sheet.txt:6:6: ann isn't Guest under the grid: \"The quiz\", which points at it by guest, isn't \
+             Item; night, which points at it by guest, isn't Item\n  refused 62 2 1: ",
         ),
         (
             [1, 0, 1, 0, 0, 0],
-            "sheet.txt:4:6: The quiz isn't an Item under the grid: its guest ann isn't a Guest\n  refused 62 0 0: ",
+            "sheet.txt:4:6: The quiz isn't Item under the grid: its guest ann isn't Guest\n  refused 62 0 0: ",
         ),
         (
             [1, 1, 1, 0, 0, 1],
-            "sheet.txt:4:6: The quiz can't be a Guest: at least 2 arriving guest links wanted, 0 there; \
+            "sheet.txt:4:6: The quiz can't be Guest: at least 2 arriving guest links wanted, 0 there; \
              no guest wanted, 1 there\n  refused 62 0 1: ",
         ),
         (
             [0, 0, 0, 0, 0, 0],
-            "sheet.txt:9:6: refused 63 2: a booking isn't held by the grid\n",
+            "sheet.txt:9:6: refused 63 2: a booked pair is not in the grid\n",
         ),
         (
             [1, 0, 1, 0, 0, 1],
@@ -550,8 +549,8 @@ fn the_command_tells_which_card_points_at_another() {
     let (said, _, _) = folder.run(&["explain", "62", "2", "1", "sheet.txt"]);
     assert!(
         said.contains(
-            "  \"The quiz\", which points at it by guest, must be an Item; night, which points at it by guest, \
-             must be an Item; `judge FILE GRID` tells"
+            "  \"The quiz\", which points at it by guest, must be Item; night, which points at it by guest, \
+             must be Item; `judge FILE GRID` tells"
         ),
         "{said}"
     );
@@ -569,26 +568,34 @@ fn the_command_judges_for_a_desk() {
         (
             "1",
             1,
-            "sheet.txt:11:8: refused 63 5: a booking isn't held by the grid\n  \
-             The first card is booked by television as a First and isn't one in the grid\n  \
+            "sheet.txt:11:8: refused 63 5: a booked pair is not in the grid\n  \
+             The first card is booked by television as First, which it isn't in the grid\n  \
              word 5 of the bookings is 0: the card of the booking 1 zero First\n",
-        ),
-        (
-            "2",
-            1,
-            "sheet.txt: refused 66 0: a desk is neither radio, 0, nor television, 1\n  \
-             the desk that is asked for is 2\n",
         ),
     ] {
         fs::write(folder.folder.join("grid"), [0, 0, 0, 0, 0, 1]).expect("the file can be written");
         let (said, _, ended) = folder.run(&["judge", "sheet.txt", "grid", desk]);
         assert!(said.starts_with(told) && ended == Some(code), "{said}");
     }
-    let (_, told, code) = folder.run(&["judge", "sheet.txt", "grid", "radio"]);
-    assert!(
-        told.contains("DESK isn't a number that fits: radio") && code == Some(2),
-        "{told}"
-    );
+    for (name, number) in [("radio", "0"), ("television", "1")] {
+        let judged = |desk: &str| folder.run(&["judge", "sheet.txt", "grid", desk]);
+        assert_eq!(judged(name), judged(number));
+    }
+}
+
+#[test]
+fn a_desk_that_there_is_not_is_a_wrong_call() {
+    let folder = Folder::new("third-desk", TEXT);
+    fs::write(folder.folder.join("grid"), [0, 0, 0, 0, 0, 1]).expect("the file can be written");
+    for desk in ["2", "65536", "-1", "tv"] {
+        let (said, told, code) = folder.run(&["judge", "sheet.txt", "grid", desk]);
+        let start =
+            format!("prep-tools: judge: DESK is 0 or radio, 1 or television, not {desk}\n  prep-tools judge");
+        assert!(
+            said.is_empty() && told.starts_with(&start) && code == Some(2),
+            "{told}"
+        );
+    }
 }
 
 #[test]
@@ -618,30 +625,48 @@ fn a_refusal_of_a_grid_is_explained_without_it() {
     assert_eq!(
         explained(&["61", "5"]),
         "sheet.txt:6:6: refused 61 5: a byte of the grid is over 1\n  \
-         0 or 1 there says whether two is a Second\n"
+         0 or 1 there says whether two is Second\n"
     );
     assert_eq!(
         explained(&["63", "2"]),
-        "sheet.txt:10:6: refused 63 2: a booking isn't held by the grid\n  \
+        "sheet.txt:10:6: refused 63 2: a booked pair is not in the grid\n  \
+         two is booked by radio as Second, which it isn't in the grid\n  \
          word 2 of the bookings is 2: the card of the booking two Second\n"
-    );
-    assert_eq!(
-        explained(&["62", "2", "1"]),
-        "sheet.txt:6:6: two needs no other card and can be a Second under every grid, so 62 isn't about it\n"
     );
     let pair = explained(&["62", "1", "0"]);
     assert!(
-        pair.starts_with("sheet.txt:5:6: one isn't a First under the grid that was judged\n"),
+        pair.starts_with("sheet.txt:5:6: one isn't First under the grid that was judged\n"),
         "{pair}"
     );
-    assert!(pair.contains("  its a \"The first card\" must be a Second; `judge FILE GRID` tells"));
-    assert!(explained(&["62", "2", "0"])
-        .starts_with("sheet.txt:6:6: two can't be a First: 1 a wanted, 0 there\n"));
-    for words in [
-        &["explain", "61", "6", "sheet.txt"][..],
-        &["explain", "62", "3", "0", "sheet.txt"],
+    assert!(pair.contains("  its a \"The first card\" must be Second; `judge FILE GRID` tells"));
+    assert!(
+        explained(&["62", "2", "0"]).starts_with("sheet.txt:6:6: two can't be First: 1 a wanted, 0 there\n")
+    );
+}
+
+#[test]
+fn a_refusal_that_no_grid_has_is_told_so() {
+    let folder = Folder::new("explain-not", TEXT);
+    for (words, told) in [
+        (
+            &["61", "6"][..],
+            "61 6: template, script and bookings are well-formed",
+        ),
+        (
+            &["63", "3"],
+            "63 3: template, script and bookings are well-formed",
+        ),
+        (
+            &["62", "3", "0"],
+            "62 3 0: there is no such card or no such shape",
+        ),
+        (
+            &["62", "2", "1"],
+            "62 2 1: two needs no other card and can be Second under every grid",
+        ),
     ] {
-        let (_, told, code) = folder.run(words);
-        assert_eq!(code, Some(2), "{told}");
+        let (said, _, code) = folder.run(&[&["explain"], words, &["sheet.txt"]].concat());
+        assert_eq!(said, format!("sheet.txt: this isn't refused with {told}\n"));
+        assert_eq!(code, Some(1));
     }
 }

@@ -1,7 +1,5 @@
-//! The cases for *Judge a grid*: the stream's format, the mix of the random ones, what the fixed ones have, and those
-//! that are stored.
+//! The cases for *Judge a grid*: the mix of the random ones, and what the fixed ones have.
 
-use prep_tools::cases;
 use prep_tools::desk::Desk;
 use prep_tools::generate::judging::{self, JudgeCase};
 use prep_tools::labels::{Label, Way};
@@ -13,101 +11,10 @@ use prep_tools::typing::judge::{answer, judge};
 use prep_tools::typing::met::chosen_for;
 use prep_tools::typing::{bookings, closure, links, Pair, Setting, Smallest};
 use std::collections::BTreeMap;
-use std::env;
-use std::fs;
-use std::path::Path;
-use std::process;
-
-/// The stored cases.
-const STORED: &str = concat!(env!("CARGO_MANIFEST_DIR"), "/../crates/judge_cases");
-
-/// The files of a stream.
-fn written(name: &str, seed: u64, count: usize) -> (Vec<u8>, String) {
-    let path = |end: &str| env::temp_dir().join(format!("prep-tools-{}-{name}-{end}", process::id()));
-    let (inputs, answers) = (path("in"), path("out"));
-    cases::judged(&inputs, &answers, seed, count).expect("the files can be written");
-    let read = (fs::read(&inputs), fs::read_to_string(&answers));
-    for path in [inputs, answers] {
-        fs::remove_file(path).expect("the file can be removed");
-    }
-    (
-        read.0.expect("the cases can be read"),
-        read.1.expect("the answers can be read"),
-    )
-}
-
-/// Takes a section of a stream: a length in two bytes, low byte first, and so many entries of this size.
-fn section<'a>(stream: &mut &'a [u8], size: usize) -> &'a [u8] {
-    let length = usize::from(stream[0]) + 256 * usize::from(stream[1]);
-    let (section, rest) = stream[2..].split_at(length * size);
-    *stream = rest;
-    section
-}
-
-/// The files, the desk and the grid of a case.
-type Read = (Files, u16, Vec<u8>);
-
-/// The cases of a stream. The desk is a section of one word.
-fn read(mut stream: &[u8]) -> Vec<Read> {
-    let mut cases = Vec::new();
-    while !stream.is_empty() {
-        let mut words = || -> Vec<u16> {
-            let bytes = section(&mut stream, 2).chunks(2);
-            bytes
-                .map(|two| u16::from(two[0]) + 256 * u16::from(two[1]))
-                .collect()
-        };
-        let files = Files {
-            template: words(),
-            script: words(),
-            bookings: words(),
-        };
-        let desk = words();
-        assert_eq!(desk.len(), 1);
-        cases.push((files, desk[0], section(&mut stream, 1).to_vec()));
-    }
-    cases
-}
 
 /// What the quick method says about a case.
 fn quick(files: &Files, desk: u16, grid: &[u8]) -> String {
     answer(judge(&files.template, &files.script, &files.bookings, desk, grid))
-}
-
-#[test]
-fn a_stream_has_the_cases_that_are_not_long() {
-    let count = judging::fixed().len() + 150;
-    let (stream, lines) = written("stream", 5, count);
-    let cases: Vec<JudgeCase> = judging::cases(5, count).collect();
-    assert_eq!(cases.len(), count);
-    let fits = |(number, case): &(usize, JudgeCase)| {
-        *number < count - 150 || case.bytes().is_ok_and(|bytes| bytes.len() <= 3000)
-    };
-    let stored: Vec<JudgeCase> = cases
-        .into_iter()
-        .enumerate()
-        .filter(fits)
-        .map(|(_, case)| case)
-        .collect();
-    assert!(stored.len() < count && stored.len() > count - 60);
-    let read = read(&stream);
-    assert_eq!((read.len(), lines.lines().count()), (stored.len(), stored.len()));
-    assert!(lines.ends_with('\n'));
-    for ((case, (files, desk, grid)), line) in stored.iter().zip(&read).zip(lines.lines()) {
-        assert_eq!((files, *desk), (&case.files, case.desk), "{}", case.name);
-        assert_eq!(grid, &case.grid, "{}", case.name);
-        assert_eq!(line, case.answer());
-    }
-}
-
-#[test]
-fn a_case_that_is_too_long_is_an_error() {
-    let long = |words: usize, bytes: usize| {
-        JudgeCase::new("long", &[1, 1, 1, 0], &vec![0; words], &[0], &vec![0; bytes]).bytes()
-    };
-    assert!(long(32_767, 65_535).is_ok());
-    assert_eq!(long(32_768, 0), Err("the case long is too long".to_string()));
-    assert!(long(0, 65_536).is_err());
 }
 
 /// How often each answer is given, by its number; accepted is 0.
@@ -362,19 +269,4 @@ fn only_cases_about_repeats_or_faults_have_repeats() {
             );
         }
     }
-}
-
-#[test]
-fn the_stored_cases_are_those_of_the_command() {
-    let stored = |name: &str| fs::read(Path::new(STORED).join(name)).expect("the cases are stored");
-    let (inputs, answers) = (stored("stdin"), stored("stdout"));
-    let answers = String::from_utf8(answers).expect("the answers are a text");
-    let cases = read(&inputs);
-    assert_eq!(cases.len(), answers.lines().count());
-    for ((files, desk, grid), line) in cases.iter().zip(answers.lines()) {
-        assert_eq!(quick(files, *desk, grid), line, "{files:?}");
-    }
-    // tools/README.md names this seed and count.
-    let (again, lines) = written("stored", 7, 1340);
-    assert!(again == inputs && lines == answers, "the stored cases are older");
 }

@@ -1,6 +1,6 @@
 //! The page of the formats: every example on it is right, and a page that is wrong is noticed.
 
-use prep_tools::page::examples::{self, Operation};
+use prep_tools::page::examples::{self, Example, Operation};
 use prep_tools::page::{self, answers, Outcome};
 use prep_tools::samples;
 use std::collections::BTreeSet;
@@ -258,6 +258,46 @@ fn a_page_that_tidies_a_list_wrongly_is_noticed() {
     }
 }
 
+/// A sheet on which the largest typing is `0 0 0 0 0 1`, and a list that is not met, with two sizes of grids.
+#[test]
+fn a_page_that_says_wrongly_what_50_leaves_is_noticed() {
+    let head = "| template | script | bookings | desk | smallest | largest | answer |\n|---|---|---|---|---|---|---|\n";
+    let largest = "largest 4 5 2 / card 0: / card 1: / card 2: 1";
+    for (sizes, answer, wrong) in [
+        ("6 | 6", format!("{largest} / smallest no 0 1"), 0),
+        ("6 | 6", "smallest no 0 1".to_string(), 1),
+        ("6 | 6", format!("{largest} / smallest no 0 0"), 1),
+        ("5 | 6", "refused 40 0".to_string(), 0),
+        ("6 | 5", "refused 40 0".to_string(), 0),
+    ] {
+        let sheet = "`2 2 10 17 2 256 1 1 1 257 0 0 1 1 0` | `3 3 0 0 2 0 1 1 1 0 0` | `1 0 0 0`";
+        let page = format!("{head}| {sheet} | 0 | {sizes} | `{answer}` |\n");
+        let mut told = Vec::new();
+        let printer = format!("{PROGRAM} print -");
+        let outcome = page::check("page", &page, Some(&printer), &mut told).expect("the page can be read");
+        let shown = usize::from(sizes == "6 | 6");
+        assert_eq!((outcome.shown, outcome.differ), (shown, wrong), "{answer}");
+    }
+    let examples = examples::read(&the_page()).expect("the page can be read");
+    let both = examples
+        .iter()
+        .filter(|one| one.question.operation == Operation::Both);
+    let refused = both.filter(|one| one.answer.contains("smallest no "));
+    assert!(refused.count() > 0, "the page doesn't show what 50 leaves");
+}
+
+#[test]
+fn the_page_has_a_file_as_bytes() {
+    let stored = concat!(env!("CARGO_MANIFEST_DIR"), "/../crates/sheet_printer/");
+    let stored = |name: &str| fs::read(format!("{stored}{name}")).expect("the file is there");
+    let examples = examples::read(&the_page()).expect("the page can be read");
+    let printed = String::from_utf8_lossy(&stored("stdout"))
+        .trim_end()
+        .replace('\n', " / ");
+    let is_stored = |one: &Example| one.question.input == stored("stdin") && one.answer == printed;
+    assert!(examples.iter().any(is_stored));
+}
+
 #[test]
 fn the_command_tells_the_line_that_is_wrong() {
     let path = env::temp_dir().join(format!("prep-tools-page-{}.md", process::id()));
@@ -307,6 +347,14 @@ fn a_page_that_cannot_be_read_is_an_error_with_its_line() {
         (
             "\n```sheet\ntemplate 1\n```\n",
             "page:2: the sheet has no line `prints`",
+        ),
+        (
+            "\n```hex\n00 0x\nprints\n```\n",
+            "page:2: \"0x\" isn't a byte in hex",
+        ),
+        (
+            "\n```hex\n00 +1\nprints\n```\n",
+            "page:2: \"+1\" isn't a byte in hex",
         ),
     ] {
         assert_eq!(checked(page).0, Err(error.to_string()));

@@ -1,8 +1,8 @@
 //! The program: its commands, run as a user runs them.
 
+use prep_tools::cases;
 use prep_tools::fit::lines::answer;
-use prep_tools::generate::special::document;
-use prep_tools::samples::questions;
+use prep_tools::generate::special::{chain, document};
 use prep_tools::sheet;
 use std::env;
 use std::fs;
@@ -52,53 +52,34 @@ fn samples_prints_the_table() {
 }
 
 #[test]
-fn fit_samples_prints_a_line_each() {
-    let fixed = questions::fixed().len();
-    let count = fixed + 50;
-    let printed = text(&run(&["fit-samples", "4", &count.to_string()]));
-    assert_eq!(printed.lines().count(), count);
-    assert_eq!(printed, questions::text(4, count));
-    for (number, line) in printed.lines().enumerate() {
-        let fields: Vec<&str> = line.split(" | ").collect();
-        let is_answer = ["yes", "no"].contains(&fields[3]);
-        let is_refused = number < fixed && fields[3].starts_with("refused 4");
-        assert!(
-            fields.len() == 4 && fields[0].starts_with("T ") && (is_answer || is_refused),
-            "{line}"
-        );
+fn fit_answers_lines() {
+    for (asked, owed) in [
+        ("T 2 1 4 256 0 2 3 | 0 | 2 0 0 0", "yes"),
+        ("T 2 1 4 256 0 2 3 | 0 | 4 0 0 0", "no"),
+        ("T 2 1 4 256 0 2 3 | 1 | 2 0 0 0", "refused 42 0"),
+    ] {
+        assert_eq!(answer(asked), Ok(format!("{asked} | {owed}")));
     }
 }
 
 #[test]
-fn fit_answers_the_lines_that_fit_samples_prints() {
-    let lines = questions::text(5, questions::fixed().len() + 100);
-    for line in lines.lines() {
-        let (asked, _) = line.rsplit_once(" | ").expect("a line has an answer");
-        assert_eq!(answer(asked), Ok(line.to_string()));
-    }
-}
-
-#[test]
-fn cases_writes_inputs_that_print_prints() {
+fn cases_writes_what_is_asked_and_what_is_owed() {
     let folder = folder("cases");
-    assert!(run(&["cases", &folder.to_string_lossy(), "9", "25"])
-        .status
-        .success());
-    let mut count = 0;
-    for entry in fs::read_dir(&folder).expect("the folder can be read") {
-        let path = entry.expect("an entry can be read").path();
-        if path.extension().is_none() {
-            let expected = fs::read_to_string(path.with_extension("out")).expect("each input has its text");
-            assert_eq!(
-                text(&run(&["print", &path.to_string_lossy()])),
-                expected,
-                "{}",
-                path.display()
-            );
-            count += 1;
-        }
-    }
-    assert_eq!(count, 25);
+    let path = |name: &str| folder.join(name).to_string_lossy().into_owned();
+    let (questions, answers) = (path("in"), path("out"));
+    assert!(run(&["cases", &questions, &answers, "9", "25"]).status.success());
+    let owed: String = cases::generated(9, 25)
+        .into_iter()
+        .map(|(_, answer)| answer)
+        .collect();
+    assert_eq!(
+        fs::read_to_string(&answers).expect("the answers are written"),
+        owed
+    );
+    // The first case is one of Fit counts.
+    let bytes = fs::read(&questions).expect("the questions are written");
+    assert!(bytes.starts_with(&[2, 0]));
+    assert!(error(&["cases", &questions, &answers, "9"]).contains("COUNT is missing"));
     fs::remove_dir_all(folder).expect("the folder can be removed");
 }
 
@@ -162,6 +143,22 @@ fn longest_writes_sheets_that_strike_one_pair_a_round() {
 }
 
 #[test]
+fn longest_keeps_its_own_rule() {
+    for (cards, shapes, factor) in [("6", "3", 3), ("6", "4", 2), ("1024", "32", 32)] {
+        for more in [&[][..], &["--back"]] {
+            let words = [&["longest", cards, shapes], more].concat();
+            let told = error(&words);
+            let rule = format!("{cards} and {shapes} have the common factor {factor}");
+            assert!(
+                told.contains(&rule) || more == ["--back"] && shapes == "32",
+                "{told}"
+            );
+        }
+    }
+    assert!(run(&["longest", "7", "1"]).status.success());
+}
+
+#[test]
 fn wrong_words_are_an_error_in_words() {
     for words in [
         &["print"][..],
@@ -175,8 +172,107 @@ fn wrong_words_are_an_error_in_words() {
     }
 }
 
+#[test]
+fn a_short_file_is_told_as_such() {
+    let folder = folder("short");
+    let path = |name: &str| folder.join(name).to_string_lossy().into_owned();
+    let (file, out) = (path("x"), path("out"));
+    for (bytes, told) in [
+        (&b""[..], "the file is empty"),
+        (
+            b"x",
+            "the file has only 1 byte; no sheet is that short, be it text or words",
+        ),
+        (
+            b"ab\n",
+            "the file has only 3 bytes; no sheet is that short, be it text or words",
+        ),
+    ] {
+        fs::write(&file, bytes).expect("the file can be written");
+        for words in [
+            &["check", &file][..],
+            &["text", &file],
+            &["draw", &file, &out],
+            &["tidy", &file, &out],
+            &["judge", &file, &out],
+        ] {
+            assert_eq!(error(words), format!("prep-tools: {file}: {told}\n"), "{words:?}");
+        }
+        // The printer's answer is what it is.
+        assert_eq!(text(&run(&["print", &file])), "refused 60 0\n");
+    }
+    fs::remove_dir_all(folder).expect("the folder can be removed");
+}
+
+#[test]
+fn words_that_cannot_be_cut_are_told_why() {
+    let folder = folder("cut");
+    let file = folder.join("x").to_string_lossy().into_owned();
+    for (bytes, why) in [
+        (&[1][..], "its 1 byte isn't a whole word"),
+        (&[1, 0, 0], "its 3 bytes aren't whole words"),
+        (
+            &[1, 0, 1, 0],
+            "it ends at word 2, where the script's count would be",
+        ),
+        (
+            &[3, 0, 1, 0],
+            "word 0, the template's count, is 3, but only 1 word follows",
+        ),
+        (&[0; 8], "the bookings end before word 3, but 1 word follows"),
+        (&[0; 10], "the bookings end before word 3, but 2 words follow"),
+    ] {
+        fs::write(&file, bytes).expect("the file can be written");
+        let explained = text(&run(&["explain", "60", "0", &file]));
+        assert!(explained.ends_with(&format!("\n  {why}\n")), "{explained}");
+    }
+    fs::remove_dir_all(folder).expect("the folder can be removed");
+}
+
+#[test]
+fn input_writes_an_input_by_its_name() {
+    let written = run(&["input", "chain-1024"]);
+    assert!(written.status.success());
+    assert_eq!(written.stdout, chain(1024, false).bytes());
+    assert!(error(&["input", "limit"]).contains("no input is named limit, perhaps limits"));
+}
+
+#[test]
+fn each_package_says_which_compiler_it_needs() {
+    let version = env!("CARGO_PKG_RUST_VERSION");
+    assert_eq!(version, "1.85");
+    let bench = concat!(env!("CARGO_MANIFEST_DIR"), "/bench/Cargo.toml");
+    let bench = fs::read_to_string(bench).expect("the file is there");
+    assert!(
+        bench.contains(&format!("\nrust-version = \"{version}\"\n")),
+        "{bench}"
+    );
+}
+
+#[test]
+fn the_version_is_the_library_s() {
+    let header = concat!(env!("CARGO_MANIFEST_DIR"), "/../include/prep.h");
+    let header = fs::read_to_string(header).expect("the file is there");
+    let bench = concat!(env!("CARGO_MANIFEST_DIR"), "/bench/Cargo.toml");
+    let bench = fs::read_to_string(bench).expect("the file is there");
+    let part = |name: &str| {
+        let start = format!("#define PREP_VERSION_{name} ");
+        let mut lines = header.lines();
+        lines
+            .find_map(|line| line.strip_prefix(&start))
+            .expect("the header has it")
+    };
+    let version = format!("{}.{}.{}", part("MAJOR"), part("MINOR"), part("PATCH"));
+    assert_eq!(version, env!("CARGO_PKG_VERSION"));
+    assert!(bench.contains(&format!("\nversion = \"{version}\"\n")), "{bench}");
+    let changes = concat!(env!("CARGO_MANIFEST_DIR"), "/../CHANGELOG.md");
+    let changes = fs::read_to_string(changes).expect("the file is there");
+    let newest = changes.lines().find_map(|line| line.strip_prefix("## "));
+    assert_eq!(newest, Some(version.as_str()));
+}
+
 /// Each command with its arguments.
-const COMMANDS: [(&str, &[&str]); 17] = [
+const COMMANDS: [(&str, &[&str]); 18] = [
     ("check", &["FILE"]),
     ("draw", &["FILE", "OUT.svg"]),
     ("explain", &["FILE"]),
@@ -185,14 +281,15 @@ const COMMANDS: [(&str, &[&str]); 17] = [
     ("text", &["FILE"]),
     ("tidy", &["FILE", "OUT"]),
     ("print", &["FILE"]),
+    ("grid", &["FILE", "TYPING", "OUT"]),
+    ("judged", &["FILE", "GRID", "DESK", "OUT"]),
+    ("stored", &["FILE", "OUT"]),
     ("fit", &[]),
     ("samples", &[]),
-    ("fit-samples", &["SEED", "COUNT"]),
-    ("cases", &["DIR", "SEED", "COUNT"]),
-    ("stream", &["IN", "OUT", "SEED", "COUNT"]),
-    ("judge-cases", &["IN", "OUT", "SEED", "COUNT"]),
-    ("tidy-cases", &["IN", "OUT", "SEED", "COUNT"]),
+    ("cases", &["IN", "OUT"]),
+    ("desk-pairs", &["OUT", "SEED", "COUNT"]),
     ("compare", &["PROGRAM", "SEED", "COUNT"]),
+    ("input", &["NAME"]),
     ("longest", &["CARDS", "SHAPES"]),
 ];
 
@@ -297,7 +394,10 @@ fn words_of_a_refused_text_are_not_written() {
     let (file_name, out_name) = (file.to_string_lossy(), out.to_string_lossy());
     for (source, told) in [
         (SHEET.replace("[1;2]", "[2;1]"), ":3:20: refused 10 5: "),
-        (SHEET.replace("[1;2]", "[1;2"), ":3:19: this `[` is never closed"),
+        (
+            SHEET.replace("[1;2]", "[1;2"),
+            ":3:19: this `[` isn't closed before line 4, column 1",
+        ),
     ] {
         fs::write(&file, source).expect("the file can be written");
         for command in ["words", "draw"] {
@@ -309,7 +409,7 @@ fn words_of_a_refused_text_are_not_written() {
         assert!(error(&["text", &file_name]).contains(told));
         let json = run(&["check", "--json", &file_name]);
         assert_eq!((json.status.code(), json.stderr.len()), (Some(2), 0));
-        assert!(text(&json).starts_with("{\"file\":"));
+        assert!(text(&json).starts_with("{\"format\":1,\"file\":"));
         let explained = run(&["explain", &file_name]);
         assert_eq!(explained.status.code(), Some(1));
         assert!(text(&explained).contains(told));
@@ -371,63 +471,20 @@ fn a_sheet_that_is_refused_otherwise_is_not_tidied() {
 }
 
 #[test]
-fn tidy_cases_writes_cases_and_a_line_for_each() {
-    let folder = folder("tidy-cases");
-    let path = |name: &str| folder.join(name).to_string_lossy().into_owned();
-    let (inputs, answers) = (path("in"), path("out"));
-    assert!(run(&["tidy-cases", &inputs, &answers, "3", "20"])
-        .status
-        .success());
-    let lines = fs::read_to_string(&answers).expect("the answers are written");
-    assert_eq!(lines.lines().count(), 20);
-    assert!(
-        lines.starts_with("refused 4 2 : 7 7 7 7 7 7 7 7 7\nrefused 21 0 : 7 7"),
-        "{lines}"
-    );
-    assert!(lines.contains("\nwritten 7 : 2 0 2 1 0 0 0 7 7 7\n"), "{lines}");
-    let bytes = fs::read(&inputs).expect("the cases are written");
-    // The first case: a template of two words, a script of two, an empty list, and a buffer of nine words.
-    assert!(bytes.starts_with(&[2, 0, 1, 0, 1, 0, 2, 0, 1, 4, 0, 0, 0, 0, 9, 0]));
-    fs::remove_dir_all(folder).expect("the folder can be removed");
-}
-
-#[test]
 fn desk_pairs_writes_two_sheets_for_each_pair() {
     let folder = folder("desk-pairs");
     let out = folder.join("out").to_string_lossy().into_owned();
     assert!(run(&["desk-pairs", &out, "3", "4"]).status.success());
     let bytes = fs::read(&out).expect("the sheets are written");
     let (mut sheets, mut rest) = (0, &bytes[..]);
-    while let Some((length, after)) = rest.split_first_chunk::<4>() {
+    // Each sheet is a case: its tag, its length in four bytes, and its bytes.
+    while let Some(([5, 0, length @ ..], after)) = rest.split_first_chunk::<6>() {
         let (input, after) = after.split_at(u32::from_le_bytes(*length) as usize);
         assert!(sheet::print(input).starts_with("largest "));
         (sheets, rest) = (sheets + 1, after);
     }
     assert_eq!((sheets, rest.len()), (8, 0));
     assert!(error(&["desk-pairs", &out, "3"]).contains("COUNT is missing"));
-    fs::remove_dir_all(folder).expect("the folder can be removed");
-}
-
-#[test]
-fn a_refusal_is_explained() {
-    let folder = folder("explain");
-    let file = folder.join("sheet");
-    let name = file.to_string_lossy();
-    fs::write(&file, SHEET).expect("the file can be written");
-    let told = |words: &[&str]| text(&run(words));
-    assert!(told(&["explain", "10", "5", &name]).contains(":3:20: refused 10 5: "));
-    let pair = told(&["explain", "50", "0", "1", &name]);
-    assert!(
-        pair.contains(
-            ":5:6: The quiz can't be a Guest: no guest wanted, 1 there\n  no booking asks for this\n"
-        ),
-        "{pair}"
-    );
-    assert!(told(&["explain", "50", "1", "1", &name]).contains(":6:6: ann can be a Guest\n"));
-    assert!(error(&["explain", "50", "2", "0", &name]).contains("has no such card or no such shape"));
-    assert_eq!(told(&["explain", &name]), "nothing is wrong\n");
-    fs::write(&file, SHEET.replace("[1;2]", "[1;2")).expect("the file can be written");
-    assert!(error(&["explain", "10", "5", &name]).contains(":3:19: this `[` is never closed"));
     fs::remove_dir_all(folder).expect("the folder can be removed");
 }
 

@@ -219,7 +219,7 @@ const SENTENCES: &[(&str, &str, &str)] = &[
 #[test]
 fn sentences_say_what_is_wanted_and_what_is_there() {
     for (part, links, wrong) in SENTENCES {
-        let expected = format!("The \"x\" can't be an Item: {wrong}");
+        let expected = format!("The \"x\" can't be Item: {wrong}");
         assert_eq!(unfit(part, links), expected, "{part} {links}");
     }
 }
@@ -248,11 +248,11 @@ fn cards_that_point_at_others_are_told_as_such() {
     let sheet = run("x.txt", ARRIVING).expect("the text is a sheet");
     let report = sheet.report("x.txt");
     for told in [
-        "x.txt:10:6: Late night can't be an Item: at most 1 film wanted, 2 there\n  \
+        "x.txt:10:6: Late night can't be Item: at most 1 film wanted, 2 there\n  \
          refused 50 5 0 for radio: its bookings ask for night to have shape Item\n  \
          booked by radio: ann Guest <-guest- quiz Item -film-> f1 Film <-film- night Item\n",
         "x.txt:6:6: quiz has no shape\n  \
-         not an Item: \"Late night\" can't be an Item: at most 1 film wanted, 2 there; \
+         not Item: \"Late night\" can't be Item: at most 1 film wanted, 2 there; \
          it leads there by film \"A film\", film from \"Late night\"\n",
     ] {
         assert!(report.contains(told), "{report}");
@@ -276,11 +276,11 @@ fn a_card_asks_for_the_one_that_points_at_it() {
     };
     assert_eq!(
         told(sheet.booked[0].1),
-        "ann can't be a Guest: \"The quiz\", which points at it by guest, can't be an Item: 1 film wanted, 0 there"
+        "ann can't be Guest: \"The quiz\", which points at it by guest, can't be Item: 1 film wanted, 0 there"
     );
     assert_eq!(
         told(sheet.not_met(Desk::Radio).expect("the booking isn't met")),
-        "The quiz can't be an Item: 1 film wanted, 0 there"
+        "The quiz can't be Item: 1 film wanted, 0 there"
     );
 }
 
@@ -290,11 +290,11 @@ fn links_that_are_not_named_are_a_reason_for_closed_shapes_only() {
                   open shape Any = all(a[4;4]@End, ^b[0;0]@End)\ncard x\ncard y\nlink x b y\nbook x Item\n";
     let report = run("x.txt", source).expect("the text is a sheet").report("x.txt");
     for told in [
-        "x.txt:6:6: x can't be an Item: 3 a wanted, 0 there\n",
+        "x.txt:6:6: x can't be Item: 3 a wanted, 0 there\n",
         "x.txt:6:6: x has no shape\n  \
-         not an End: no b wanted, 1 there\n  \
-         not an Item: 3 a wanted, 0 there\n  \
-         not an Any: 4 a wanted, 0 there\n  \
+         not End: no b wanted, 1 there\n  \
+         not Item: 3 a wanted, 0 there\n  \
+         not Any: 4 a wanted, 0 there\n  \
          not Pair: it has links of kinds that aren't wanted there\n",
     ] {
         assert!(report.contains(told), "{report}");
@@ -316,11 +316,53 @@ fn an_open_shape_is_told_by_the_kinds_that_it_names() {
     // The film has no shape either, but it isn't asked for.
     assert_eq!(
         told,
-        "quiz can't be an Item: its guest ann can't be a Guest: no film wanted, 1 there"
+        "quiz can't be Item: its guest ann can't be Guest: no film wanted, 1 there"
     );
     let met = run("x.txt", &source.replace("link ann film f1\n", "")).expect("the text is a sheet");
     assert!(met.is_met());
     assert!(met.bare(2) && !met.bare(0));
+}
+
+/// An hour with a song that is booked, by no desk or by some.
+fn hour(bookings: &str) -> String {
+    let source =
+        "kinds: song\nshape Hour = song[1;]@Music\nshape Music = nothing\nopen shape Any = nothing\n\
+                  card night \"The night\"\ncard waltz\nlink night song waltz\n";
+    let sheet = run("x.txt", &format!("{source}{bookings}")).expect("the text is a sheet");
+    sheet.report("x.txt")
+}
+
+#[test]
+fn typings_are_told_by_names() {
+    assert_eq!(
+        hour("book night Hour\nbook 1 waltz Any\n"),
+        "x.txt: 2 cards, 1 link, 2 bookings; of the cards with links, 0 of 2 have no shape\n\
+         smallest for radio: 2 pairs, each of them met\n  night: Hour\n  waltz: Music\n\
+         smallest for television: 1 pair, which is met\n  waltz: Any\n\
+         largest: 2 rounds, 2 pairs struck\n  night: Hour, Any\n  waltz: Music, Any\n"
+    );
+}
+
+#[test]
+fn a_desk_that_books_nothing_is_told_so() {
+    let report = hour("book 1 waltz Music\n");
+    let told =
+        "\nsmallest for radio: 0 pairs, as it books nothing\nsmallest for television: 1 pair, which is met\n";
+    assert!(report.contains(told), "{report}");
+    let report = hour("");
+    assert_eq!(
+        report.matches(": 0 pairs, as it books nothing\n").count(),
+        2,
+        "{report}"
+    );
+}
+
+#[test]
+fn shapes_have_no_article_that_could_be_wrong() {
+    let report = hour("book waltz Hour\n");
+    assert!(report.contains("x.txt:6:6: waltz can't be Hour: at least 1 song wanted, 0 there\n"));
+    let report = hour("book night Music\n");
+    assert!(report.contains("x.txt:5:6: The night can't be Music: no song wanted, 1 there\n"));
 }
 
 fn draft() -> Sheet {
@@ -337,17 +379,20 @@ fn the_card_to_blame_is_told_first() {
     );
     assert_eq!(
         lines[2],
-        "draft.txt:41:6: Guest to be found can't be a Guest: 1 line wanted, 0 there"
+        "draft.txt:41:6: Guest to be found can't be Guest: 1 line wanted, 0 there"
     );
     assert!(lines[3].starts_with("  refused 50 20 4 for radio: its bookings ask for tbc"));
     assert_eq!(lines[5], "smallest for television: 4 pairs, each of them met");
-    assert_eq!(lines[7], "draft.txt:31:6: Quiz has no shape");
+    assert_eq!(lines[6], "  archive62: Film");
+    let bare = lines
+        .iter()
+        .position(|line| *line == "draft.txt:31:6: Quiz has no shape");
     assert_eq!(
-        lines[8],
-        "  not an Item: its guest \"Guest to be found\" can't be a Guest: 1 line wanted, 0 there"
+        lines[bare.expect("the quiz is told") + 1],
+        "  not Item: its guest \"Guest to be found\" can't be Guest: 1 line wanted, 0 there"
     );
     assert!(report.contains(
-        "  not an Item, Talk: \"Guest to be found\" can't be a Guest: 1 line wanted, 0 there; \
+        "  not Item, Talk: \"Guest to be found\" can't be Guest: 1 line wanted, 0 there; \
          it leads there by next \"Quiz\", guest \"Guest to be found\"\n"
     ));
     assert!(report.contains("by next \"The new harbour\", 7 more links, guest \"Guest to be found\"\n"));
@@ -377,9 +422,9 @@ fn all_that_bookings_ask_for_and_is_not_met_is_told() {
     assert_eq!(Some(told[0].pair), sheet.not_met(Desk::Radio));
     let told: Vec<String> = told.iter().map(|reason| cannot(&sheet.text, reason)).collect();
     let expected = [
-        "Mara Lindholm can't be a Host: 1 line wanted, 0 there",
-        "Guest to be found can't be a Guest: 1 line wanted, 0 there",
-        "Theme tune can't be a Music: 1 source wanted, 0 there",
+        "Mara Lindholm can't be Host: 1 line wanted, 0 there",
+        "Guest to be found can't be Guest: 1 line wanted, 0 there",
+        "Theme tune can't be Music: 1 source wanted, 0 there",
     ];
     assert_eq!(told, expected);
     let report = sheet.report("draft.txt");
@@ -398,6 +443,6 @@ fn words_are_told_without_lines_and_columns() {
     let words = include_bytes!("../../examples/prep/draft.bin");
     let sheet = load_sheet("draft.bin", words).expect("the draft is a sheet");
     let report = sheet.report("draft.bin");
-    assert!(report.contains("\ndraft.bin: card20 can't be a Shape4: 1 kind6 wanted, 0 there\n"));
+    assert!(report.contains("\ndraft.bin: card20 can't be Shape4: 1 kind6 wanted, 0 there\n"));
     assert!(!report.contains("draft.bin:4"));
 }

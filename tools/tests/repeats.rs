@@ -11,7 +11,7 @@ use std::collections::BTreeMap;
 
 /// Whether some booking of a list that has its right size is there twice, by looking at all that come before it.
 fn has_repeat(words: &[u16]) -> bool {
-    let (list, _) = words[1..].as_chunks::<3>();
+    let list: Vec<[u16; 3]> = bookings::cut(words);
     (0..list.len()).any(|later| list[..later].contains(&list[later]))
 }
 
@@ -81,7 +81,7 @@ fn said(files: &Files) -> &'static str {
         Err(refusal) => panic!("{refusal}"),
     };
     let is_whole = bookings::read_with_repeats(&setting, &files.bookings).is_ok();
-    let (list, _) = files.bookings[1..].as_chunks::<3>();
+    let list: Vec<[u16; 3]> = bookings::cut(&files.bookings);
     let later = (place - 2) / 3;
     match list[..later].iter().position(|pair| *pair == list[later]) {
         None => panic!("{:?} isn't a repeat at {place}", files.bookings),
@@ -196,7 +196,7 @@ fn generated_lists_are_of_either_desk_and_of_both() {
     for number in 0..800 {
         let scale = if number % 8 == 0 { FULL } else { SMALL };
         let files = generate::any(&mut random, scale);
-        let (list, _) = files.bookings[1..].as_chunks::<3>();
+        let list: Vec<[u16; 3]> = bookings::cut(&files.bookings);
         let by = |desk: u16| list.iter().any(|[whose, ..]| *whose == desk);
         let shared = |[desk, card, shape]: &[u16; 3]| list.contains(&[1 - desk, *card, *shape]);
         let sort = match (by(0), by(1)) {

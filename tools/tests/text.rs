@@ -8,11 +8,11 @@ use prep_tools::random::Random;
 use prep_tools::refusal::Refusal;
 use prep_tools::sheet::{self, Files};
 use prep_tools::text::check;
-use prep_tools::text::compile::compile;
 use prep_tools::text::form::{form, Form};
-use prep_tools::text::load::{load_sheet, tell_refusal};
-use prep_tools::text::parse::{parse, MOST_HEIGHT};
-use prep_tools::text::{quotations, roles, write};
+use prep_tools::text::load::{compiled, load_sheet};
+use prep_tools::text::parse::MOST_HEIGHT;
+use prep_tools::text::refusals::refusals;
+use prep_tools::text::{explain, quotations, roles, write, Spot};
 use prep_tools::typing::Smallest;
 
 /// The sheet worked through in docs/FORMAT.md; its links stand in another order than in the script.
@@ -32,8 +32,8 @@ book two Second
 ";
 
 fn bytes(source: &str) -> Vec<u8> {
-    let text = parse(source).expect("the text is read");
-    compile(&text).expect("the names are known").files().bytes()
+    let (_, compiled) = compiled(source.as_bytes()).expect("the text has no faults");
+    compiled.files().bytes()
 }
 
 /// The message for a text with a fault.
@@ -79,7 +79,7 @@ fn a_booking_may_have_a_desk() {
     assert_eq!(
         fault(&with("book 2 two Second")),
         "x.txt:12:6: refused 66 1: a desk is neither radio, 0, nor television, 1\n  \
-         `book` takes 0 or no number for the radio, and 1 for the television\n  \
+         `book` takes 0, radio or no word for the radio, and 1 or television for the other desk\n  \
          word 1 of the bookings is 2: the desk of the booking 2 two Second"
     );
     assert_eq!(
@@ -93,6 +93,37 @@ fn a_booking_may_have_a_desk() {
     assert_eq!(
         fault(&with("book 1 two")),
         "x.txt:12:11: the name of a shape is wanted here, not the end of the line"
+    );
+}
+
+#[test]
+fn a_desk_may_be_called_by_its_name() {
+    let with = |book: &str| DOCUMENT.replace("book two Second", book);
+    for (named, numbered) in [
+        ("book radio two Second", "book 0 two Second"),
+        ("book television two Second", "book 1 two Second"),
+        (
+            "book television two Second\nbook radio two Second",
+            "book 1 two Second\nbook two Second",
+        ),
+    ] {
+        assert_eq!(bytes(&with(named)), bytes(&with(numbered)), "{named}");
+    }
+    // Two words are a card and a shape, whatever the card is called.
+    let radio = with("book two Second").replace("two", "radio");
+    assert_eq!(bytes(&radio), bytes(DOCUMENT));
+    let both = radio.replace("book radio", "book radio radio");
+    assert_eq!(bytes(&both), bytes(DOCUMENT));
+    let twice = fault(&with("book radio two Second\nbook two Second"));
+    assert!(twice.starts_with("x.txt:13:6: refused 65 5"), "{twice}");
+    assert!(
+        twice.contains("it is booked at line 12, column 12 already"),
+        "{twice}"
+    );
+    let other = fault(&with("book tv two Second"));
+    assert_eq!(
+        other,
+        "x.txt:12:6: before a card and a shape stands a desk, 0, radio, 1 or television, not `tv`"
     );
 }
 
@@ -181,19 +212,20 @@ fn the_word_18_is_told_with_its_role() {
     };
     assert_eq!(
         told(&[1, 1, 3, 1, 18, 0]),
-        "x: refused 64 4: the code of an open shape isn't the first word of a shape\n  \
+        "x: refused 64 4: the code of an open shape is not the first word of a shape\n  \
          word 4 of the template is 18: the code that makes a shape open, where a part's code is wanted in shape 0, \
          at depth 2"
     );
     assert!(told(&[1, 1, 3, 18, 18, 0]).ends_with("wanted in shape 0, at depth 1"));
     assert!(told(&[1, 1, 1, 18])
         .ends_with("the template has no word 4: the code of a part in shape 0, at depth 1"));
-    // A program may refuse the word of a text; it comes from the word `open`.
-    let told = tell_refusal("x.txt", OPEN_SHEET.as_bytes(), Refusal::at(5, 3)).to_string();
-    assert_eq!(
-        told,
-        "x.txt:2:1: refused 5 3: unknown code\n  word 3 of the template is 18: the code that makes shape First open"
-    );
+    // A program without open shapes may refuse the word of a text; it comes from the word `open`.
+    let (_, compiled) = compiled(OPEN_SHEET.as_bytes()).expect("the text has no faults");
+    let told = explain::tell(&compiled, Refusal::at(5, 3));
+    assert_eq!(told.spot, Some(Spot { line: 2, column: 1 }));
+    assert!(told
+        .to_string()
+        .ends_with("is 18: the code that makes shape First open"));
 }
 
 #[test]
@@ -240,7 +272,10 @@ fn words_come_back_from_their_text() {
                 arriving += usize::from(text.contains('^'));
                 open += usize::from(text.contains("\nopen shape "));
             }
-            Err(message) => assert!(message.starts_with("input: refused "), "{message}"),
+            Err(message) => {
+                let is_told = ["input: refused ", "input: the file "].map(|start| message.starts_with(start));
+                assert!(is_told.contains(&true), "{message}");
+            }
         }
     }
     let told =
@@ -340,6 +375,10 @@ const FAULTS: &[(&str, &str)] = &[
         "x.txt:2:16: `[` is wanted here, not `nothing`",
     ),
     ("kinds: a a", "x.txt:1:10: the kind `a` is named twice"),
+    (
+        "title \"One\"\nkinds: a\ntitle \"Two\"\nshape A = nothing",
+        "x.txt:3:1: a sheet has one title, and this is the second",
+    ),
     ("kinds: all", "x.txt:1:8: a kind can't be named `all`"),
     ("card \"x", "x.txt:1:6: the quotation isn't closed"),
     ("card x & y", "x.txt:1:8: the sign '&' has no meaning"),
@@ -393,6 +432,171 @@ fn faults_are_told_at_line_and_column() {
         let message = fault(source);
         assert!(message.starts_with(start), "{message}");
     }
+}
+
+/// A text with faults of all sorts, and each of them.
+const MANY_FAULTS: (&str, &[&str]) = (
+    "\
+title \"One
+kinds: guest film guest
+shape Item = all(gest[0;1]@Guest, film[0;1]@Flim)
+shape Guest = guest[0;1@Item)
+shape Film = all(guest[0;1]@Item
+card quiz & night
+card ann \"Ann\" again
+crad bob
+link quiz guest ann bob nobody nemo
+link nemo film ann quiz
+book bob Guest
+book ann Gest
+book 2 ann Guest Guest
+book ann
+title \"Two\"
+title \"Three\"
+",
+    &[
+        "1:7: the quotation isn't closed on its line",
+        "2:19: the kind `guest` is named twice",
+        "3:18: no kind is named `gest`, perhaps `guest`",
+        "3:45: no shape is named `Flim`",
+        "4:20: this `[` isn't closed before the `)` at line 4, column 29",
+        "5:17: this `(` isn't closed before line 6, column 1",
+        "6:11: the sign '&' has no meaning here",
+        "7:16: the end of the line is wanted here, not `again`",
+        "8:1: a line starts with title, kinds, shape, open shape, card, link or book, not with `crad`",
+        "9:25: no card is named `nobody`",
+        "9:32: no card is named `nemo`",
+        "10:6: no card is named `nemo`",
+        "12:10: no shape is named `Gest`",
+        "13:18: the end of the line is wanted here, not `Guest`",
+        "14:9: the name of a shape is wanted here, not the end of the line",
+        "16:1: a sheet has one title, and this is the second",
+    ],
+);
+
+#[test]
+fn all_faults_are_told_in_the_texts_order() {
+    let (source, faults) = MANY_FAULTS;
+    let message = fault(source);
+    let lines: Vec<&str> = message.lines().collect();
+    for (line, fault) in lines.iter().zip(faults) {
+        assert!(line.starts_with(&format!("x.txt:{fault}")), "{line}\n{fault}");
+    }
+    assert_eq!(lines.len(), faults.len(), "{message}");
+}
+
+#[test]
+fn of_many_faults_the_first_twenty_are_told() {
+    for (count, more) in [
+        (20, ""),
+        (21, "x.txt: and 1 more fault"),
+        (500, "x.txt: and 480 more faults"),
+    ] {
+        let bookings: String = (0..count).map(|number| format!("book x S{number}\n")).collect();
+        let message = fault(&format!("kinds: a\nshape A = nothing\ncard x\n{bookings}"));
+        let lines: Vec<&str> = message.lines().collect();
+        assert_eq!(lines[19], "x.txt:23:8: no shape is named `S19`");
+        assert_eq!(lines[20..].join("\n"), more);
+    }
+    // However many there are, they take no time.
+    let signs = format!("kinds: a\ncard x {}\n", "& ( ] \" ".repeat(100_000));
+    assert!(fault(&signs).starts_with("x.txt:2:8: the sign '&' has no meaning here\n"));
+    let brackets = "shape A = ((a\n".repeat(20_000);
+    assert!(fault(&brackets).ends_with("x.txt: and 19980 more faults"));
+    let names: String = (0..20_000).map(|number| format!("book c{number} A\n")).collect();
+    let cards: String = (0..20_000).map(|number| format!("card d{number}\n")).collect();
+    let unknown = fault(&format!("kinds: a\nshape A = nothing\n{cards}{names}"));
+    assert!(unknown.ends_with("x.txt: and 19980 more faults"), "{unknown}");
+}
+
+/// A text that is refused for many reasons, and each of them.
+const MANY_REFUSALS: (&str, &[&str]) = (
+    "\
+kinds: a b
+shape A = all(a[2;1]@A, b[0;8193]@A, a[0;1]@A)
+open shape B = choice(^a[9999;]@A)
+shape C = nothing*************
+card x
+card y
+link x a y x y
+link y b x
+link x a y
+book x A
+book 2 x A
+book 1 x A
+book x A
+book television x A
+",
+    &[
+        "2:17: refused 10 7",
+        "2:27: refused 10 11",
+        "2:38: refused 8 13",
+        "3:16: refused 11 20",
+        "3:26: refused 10 23",
+        "4:18: refused 6 38",
+        "7:14: refused 25 8",
+        "9:10: refused 25 11",
+        "11:6: refused 66 4",
+        "13:6: refused 65 11",
+        "14:17: refused 65 14",
+    ],
+);
+
+#[test]
+fn all_refusals_of_a_text_are_told() {
+    let (source, refusals) = MANY_REFUSALS;
+    let message = fault(source);
+    let lines: Vec<&str> = message.lines().filter(|line| !line.starts_with("  ")).collect();
+    for (line, refusal) in lines.iter().zip(refusals) {
+        assert!(
+            line.starts_with(&format!("x.txt:{refusal}: ")),
+            "{line}\n{refusal}"
+        );
+    }
+    assert_eq!(lines.len(), refusals.len(), "{message}");
+    // With a fault there are no words that could be refused.
+    let with_fault = fault(&source.replace("card y", "card y z"));
+    assert_eq!(
+        with_fault,
+        "x.txt:6:8: the end of the line is wanted here, not `z`"
+    );
+}
+
+#[test]
+fn the_first_refusal_is_the_one_that_the_readers_answer() {
+    let mut random = Random::new(71);
+    let pieces = ["[0;1]", "[2;1]", "[0;8193]", "[8193;]", "[1;]"];
+    let mut refused = 0;
+    for _ in 0..400 {
+        let mut source = "kinds: a b\ncard x\ncard y\n".to_string();
+        for shape in 0..random.between(1, 3) {
+            let mut link = || {
+                let (sign, kind) = (random.pick(&["", "^"]), random.pick(&["a", "b"]));
+                format!("{sign}{kind}{}@S0", random.pick(&pieces))
+            };
+            let (one, two) = (link(), link());
+            let part = match random.below(5) {
+                0 => one,
+                1 => format!("all({one})"),
+                2 => format!("choice({one}, {two})"),
+                3 => format!("all({one}, ({two})?)+"),
+                _ => format!("({one}){}", "*".repeat(random.between(9, 14))),
+            };
+            source += &format!("shape S{shape} = {part}\n");
+        }
+        for _ in 0..random.below(4) {
+            source += random.pick(&["link x a y\n", "link x b y\n", "link y a x\n"]);
+        }
+        for _ in 0..random.below(4) {
+            source += random.pick(&["book x S0\n", "book 1 x S0\n", "book 2 x S0\n", "book y S0\n"]);
+        }
+        let (_, compiled) = compiled(source.as_bytes()).expect("the text has no faults");
+        let first = sheet::typings(&compiled.files().bytes()).err();
+        let all = refusals(&compiled);
+        assert_eq!(all.first().copied(), first, "{source}");
+        refused += usize::from(all.len() > 1);
+    }
+    assert!(refused > 100, "{refused}");
 }
 
 #[test]
@@ -472,6 +676,25 @@ const HINTS: &[(&str, &str)] = &[
     ),
 ];
 
+#[test]
+fn signs_of_a_part_are_told_by_their_names() {
+    for (sign, name) in [('*', "star"), ('+', "plus"), ('?', "optional")] {
+        let message = fault(&format!(
+            "kinds: a\nshape A = nothing{}",
+            sign.to_string().repeat(13)
+        ));
+        let end = format!(
+            "\n  word 15 of the template is {}: {name}, in shape A",
+            code(sign)
+        );
+        assert!(message.ends_with(&end), "{message}");
+    }
+}
+
+fn code(sign: char) -> usize {
+    "*+?".find(sign).map_or(0, |place| place + 1)
+}
+
 /// What the second line of the message for a refused text says.
 fn hints(source: &str, told: &str) {
     let message = fault(source);
@@ -513,7 +736,7 @@ fn fifty_is_told_with_its_reason_and_its_booking() {
     assert!(matches!(sheet.typings.smallest[0].0, Smallest::NotMet(..)));
     let report = sheet.report("x.txt");
     let told =
-        "x.txt:6:6: zero can't be a Second: no a wanted, 1 there; no b wanted, 1 there\n  refused 50 0 1 for radio: ";
+        "x.txt:6:6: zero can't be Second: no a wanted, 1 there; no b wanted, 1 there\n  refused 50 0 1 for radio: ";
     assert!(report.contains(told), "{report}");
     assert!(
         report.contains("\n  booked by radio: zero First -b-> one First -a-> zero Second\n"),
@@ -641,7 +864,7 @@ fn a_text_that_is_not_utf_8_is_told_where() {
     let latin = told(b"kinds: a\nshape A = nothing\ncard x \"caf\xe9\"\n");
     assert_eq!(latin, "x:3:12: this isn't UTF-8; save the text as UTF-8");
     assert!(told(b"\xff\xfek\0i\0n\0").contains("a text in UTF-16"));
-    assert!(told(b"").contains("it is empty"));
+    assert_eq!(told(b""), "x: the file is empty");
 }
 
 #[test]
@@ -655,7 +878,10 @@ fn words_that_are_too_many_are_told_as_the_printer_tells_them() {
     }
     let message = fault(&source);
     assert!(message.starts_with("x.txt: refused 60 0"), "{message}");
-    assert!(message.ends_with("its words take 66020 bytes"), "{message}");
+    assert!(
+        message.contains("\n  its words take 66020 bytes\nx.txt:8395:12: refused 22 1: "),
+        "{message}"
+    );
 }
 
 #[test]

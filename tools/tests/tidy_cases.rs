@@ -1,96 +1,14 @@
-//! The cases for *Tidy bookings*: the stream's format, the mix of the random ones, what the fixed ones have, and those
-//! that are stored.
+//! The cases for *Tidy bookings*: the mix of the random ones, and what the fixed ones have.
 
-use prep_tools::cases;
 use prep_tools::generate::tidying::{self, samples, TidyCase};
 use prep_tools::page::examples::{self, Operation};
 use prep_tools::sheet::Files;
 use prep_tools::typing::{bookings, Pair};
 use prep_tools::typing::{closure, Setting, Smallest};
 use std::collections::{BTreeMap, BTreeSet};
-use std::env;
 use std::fs;
-use std::path::Path;
-use std::process;
 
 const PAGE: &str = concat!(env!("CARGO_MANIFEST_DIR"), "/../docs/FORMAT.md");
-/// The stored cases.
-const STORED: &str = concat!(env!("CARGO_MANIFEST_DIR"), "/../crates/tidy_cases");
-
-/// The files of a stream.
-fn written(name: &str, seed: u64, count: usize) -> (Vec<u8>, String) {
-    let path = |end: &str| env::temp_dir().join(format!("prep-tools-{}-{name}-{end}", process::id()));
-    let (inputs, answers) = (path("in"), path("out"));
-    cases::tidied(&inputs, &answers, seed, count).expect("the files can be written");
-    let read = (fs::read(&inputs), fs::read_to_string(&answers));
-    for path in [inputs, answers] {
-        fs::remove_file(path).expect("the file can be removed");
-    }
-    (
-        read.0.expect("the cases can be read"),
-        read.1.expect("the answers can be read"),
-    )
-}
-
-/// Takes a word of a stream, low byte first.
-fn word(stream: &mut &[u8]) -> u16 {
-    let (two, rest) = stream.split_at(2);
-    *stream = rest;
-    u16::from(two[0]) + 256 * u16::from(two[1])
-}
-
-/// The cases of a stream: the files, and how many words the buffer has.
-fn read(mut stream: &[u8]) -> Vec<(Files, usize)> {
-    let mut cases = Vec::new();
-    while !stream.is_empty() {
-        let mut words = || -> Vec<u16> {
-            let count = word(&mut stream);
-            (0..count).map(|_| word(&mut stream)).collect()
-        };
-        let files = Files {
-            template: words(),
-            script: words(),
-            bookings: words(),
-        };
-        cases.push((files, usize::from(word(&mut stream))));
-    }
-    cases
-}
-
-#[test]
-fn a_stream_has_the_cases_that_are_not_long() {
-    let fixed = tidying::fixed().len();
-    let (stream, lines) = written("tidied", 5, fixed + 150);
-    let fits = |(number, case): &(usize, TidyCase)| {
-        *number < fixed || case.bytes().is_ok_and(|bytes| bytes.len() <= 3000)
-    };
-    let cases = tidying::cases(5, fixed + 150).enumerate().filter(fits);
-    let stored: Vec<TidyCase> = cases.map(|(_, case)| case).collect();
-    assert!(stored.len() < fixed + 150 && stored.len() > fixed + 90);
-    let read = read(&stream);
-    assert_eq!((read.len(), lines.lines().count()), (stored.len(), stored.len()));
-    assert!(lines.ends_with('\n'));
-    for ((case, (files, words)), line) in stored.iter().zip(&read).zip(lines.lines()) {
-        assert_eq!((files, *words), (&case.files, case.words), "{}", case.name);
-        assert_eq!(line, case.answer());
-    }
-}
-
-#[test]
-fn a_case_that_is_too_long_is_an_error() {
-    let long = |length: usize, words: usize| {
-        let files = Files {
-            template: vec![1, 1, 1, 0],
-            script: vec![0; length],
-            bookings: vec![0],
-        };
-        let name = "long".to_string();
-        TidyCase { name, files, words }.bytes()
-    };
-    assert!(long(32_767, 32_767).is_ok());
-    assert_eq!(long(32_768, 0), Err("the case long is too long".to_string()));
-    assert!(long(0, 32_768).is_err());
-}
 
 #[test]
 fn the_examples_of_the_page_are_the_samples() {
@@ -313,16 +231,4 @@ fn of_several_faults_the_first_is_told() {
             assert_eq!(told(&format!("order+{first}+{second}")), answer, "{second}");
         }
     }
-}
-
-#[test]
-fn the_stored_cases_are_those_of_the_command() {
-    let stored = |name: &str| fs::read(Path::new(STORED).join(name)).expect("the cases are stored");
-    let (inputs, answers) = (stored("stdin"), stored("stdout"));
-    // tools/README.md names this seed and count.
-    let (again, lines) = written("stored-tidied", 7, 660);
-    assert!(
-        again == inputs && lines.as_bytes() == answers,
-        "the stored cases are older"
-    );
 }

@@ -6,10 +6,11 @@ use prep_tools::generate::tidying;
 use prep_tools::refusal::Refusal;
 use prep_tools::sheet::Files;
 use prep_tools::text::check;
-use prep_tools::text::load::{load_input, load_sheet, tell_refusal};
-use prep_tools::text::machine;
+use prep_tools::text::load::{load_input, load_sheet};
 use prep_tools::text::tidy::tidy;
 use prep_tools::text::write;
+use prep_tools::text::{machine, printed};
+use prep_tools::typing::bookings;
 use prep_tools::typing::tidying::tidy as operation;
 
 /// The worked sheet, with bookings that stand twice, in between other lines.
@@ -54,7 +55,10 @@ fn the_line_of_the_second_booking_is_told_with_that_of_the_first() {
         message,
         "x.txt:10:8: refused 65 8: a desk books a pair a second time\n  \
          it is booked at line 5, column 6 already\n  \
-         word 8 of the bookings is 2: the card of the booking two Second"
+         word 8 of the bookings is 2: the card of the booking two Second\n\
+         x.txt:13:6: refused 65 11: a desk books a pair a second time\n  \
+         it is booked at line 9, column 6 already\n  \
+         word 11 of the bookings is 0: the card of the booking zero First"
     );
     let once = TEXT.replace("  book\ttwo Second", "");
     let message = check::run("x.txt", &once).expect_err("another pair is booked twice");
@@ -83,44 +87,75 @@ fn words_tell_the_first_booking_by_its_number() {
 }
 
 #[test]
-fn json_has_the_refusal_with_its_line() {
+fn json_has_the_refusals_with_their_lines() {
     let told = |bytes: &[u8]| {
         let trouble = load_sheet("x", bytes).expect_err("a pair is booked twice");
         machine::trouble(&trouble).to_string()
     };
-    assert_eq!(
-        told(TEXT.as_bytes()),
-        "{\"file\":\"x\",\"form\":\"text\",\"outcome\":\"refused\",\"refusal\":{\"number\":65,\"place\":8,\
+    let written = told(TEXT.as_bytes());
+    assert!(written.starts_with(
+        "{\"format\":1,\"file\":\"x\",\"form\":\"text\",\"outcome\":\"refused\",\
+         \"refusals\":[{\"number\":65,\"place\":8,\
          \"message\":\"a desk books a pair a second time\",\"section\":\"bookings\",\"word\":2,\
          \"role\":\"the card of the booking two Second\",\
-         \"note\":\"it is booked at line 5, column 6 already\",\"line\":10,\"column\":8}}"
-    );
+         \"note\":\"it is booked at line 5, column 6 already\",\"line\":10,\"column\":8},\
+         {\"number\":65,\"place\":11,"
+    ));
+    assert!(written.ends_with(
+        "\"note\":\"it is booked at line 9, column 6 already\",\"line\":13,\"column\":6}],\"more\":0}"
+    ));
     assert_eq!(
         told(&document(&[2, 0, 2, 1, 0, 2, 1]).bytes()),
-        "{\"file\":\"x\",\"form\":\"words\",\"outcome\":\"refused\",\"refusal\":{\"number\":65,\"place\":5,\
+        "{\"format\":1,\"file\":\"x\",\"form\":\"words\",\"outcome\":\"refused\",\
+         \"refusals\":[{\"number\":65,\"place\":5,\
          \"message\":\"a desk books a pair a second time\",\"section\":\"bookings\",\"word\":2,\
          \"role\":\"the card of booking 1, counted from 0\",\
-         \"note\":\"its desk and its pair are those of booking 0\",\"line\":null,\"column\":null}}"
+         \"note\":\"its desk and its pair are those of booking 0\",\"line\":null,\"column\":null}],\"more\":0}"
     );
 }
 
 #[test]
-fn a_printed_65_is_explained_at_any_place() {
-    let tell = |bytes: &[u8], place: usize| tell_refusal("x", bytes, Refusal::at(65, place)).to_string();
+fn a_printed_65_is_explained_where_a_pair_is_booked_again() {
+    let said = |bytes: &[u8], place: usize| {
+        let said = printed::refusal("x", bytes, Refusal::at(65, place)).expect("the file has words");
+        (said.is_so, said.words)
+    };
     let (text, words) = (TEXT.as_bytes(), document(&[3, 0, 2, 1, 0, 0, 0, 0, 2, 1]).bytes());
-    assert!(tell(text, 8)
-        .starts_with("x:10:8: refused 65 8: a desk books a pair a second time\n  it is booked at"));
-    // These are no repeats, whatever a program printed.
-    for place in [0, 1, 2, 3, 4, 5, 6, 7, 9, 20, 100, usize::MAX] {
-        for bytes in [text, &words] {
-            let told = tell(bytes, place);
-            assert!(told.contains(&format!("refused 65 {place}: ")), "{told}");
-            assert!(
-                !told.contains("it is booked at") && !told.contains("its desk"),
-                "{told}"
-            );
+    for (bytes, start, first) in [(text, "x:10:8: ", "it is booked at"), (&words, "x: ", "its desk")] {
+        let (is_so, told) = said(bytes, 8);
+        assert!(
+            is_so && told.starts_with(&format!("{start}refused 65 8: ")),
+            "{told}"
+        );
+        assert!(told.contains(&format!("\n  {first}")), "{told}");
+        // These are no repeats, whatever a program printed.
+        for place in [0, 1, 2, 3, 4, 5, 6, 7, 9, 20, 100, usize::MAX] {
+            let (is_so, told) = said(bytes, place);
+            let otherwise = format!("x: this isn't refused with 65 {place}, but so:\n{start}refused 65 8: ");
+            assert!(!is_so && told.starts_with(&otherwise), "{told}");
         }
     }
+}
+
+#[test]
+fn what_tidying_refuses_is_explained() {
+    let said = |bytes: &[u8], number: u16, place: usize| {
+        let said = printed::refusal("x", bytes, Refusal::at(number, place)).expect("the file has words");
+        (said.is_so, said.words)
+    };
+    // A stored list: the printer refuses it as a whole, and tidying its third booking.
+    let stored = document(&[3, 2, 1, 0, 0, 9, 1]).bytes();
+    let (is_so, told) = said(&stored, 30, 0);
+    assert!(is_so && told.contains("`tidy` puts the desks in"), "{told}");
+    let (is_so, told) = said(&stored, 32, 5);
+    assert!(
+        is_so && told.ends_with("is 9: the card of booking 2, counted from 0\n"),
+        "{told}"
+    );
+    assert!(!said(&stored, 32, 8).0);
+    // A list with desks can't be tidied.
+    let (is_so, told) = said(&document(&[1, 0, 2, 1]).bytes(), 30, 0);
+    assert!(is_so && told.contains("the desks are there already"), "{told}");
 }
 
 #[test]
@@ -163,7 +198,10 @@ fn each_desk_may_book_a_pair_once() {
         message,
         "x.txt:17:8: refused 65 17: a desk books a pair a second time\n  \
          it is booked at line 15, column 8 already\n  \
-         word 17 of the bookings is 2: the card of the booking 1 two Second"
+         word 17 of the bookings is 2: the card of the booking 1 two Second\n\
+         x.txt:18:8: refused 65 20: a desk books a pair a second time\n  \
+         it is booked at line 13, column 6 already\n  \
+         word 20 of the bookings is 2: the card of the booking 0 two First"
     );
     let tidied = tidy("x.txt", again.as_bytes()).expect("the text is tidied");
     assert_eq!(String::from_utf8_lossy(&tidied.bytes), format!("{both}# again\n"));
@@ -240,7 +278,7 @@ fn a_text_and_its_words_are_tidied_alike() {
         let (Ok(text), Ok(tidied)) = (write::text(&bare.bytes()), tidy("x", &case.files.bytes())) else {
             continue;
         };
-        let (list, _) = case.files.bookings[1..].as_chunks::<2>();
+        let list: Vec<[u16; 2]> = bookings::cut(&case.files.bookings);
         let lines = list
             .iter()
             .map(|[card, shape]| format!("book card{card} Shape{shape}\n"));

@@ -254,7 +254,7 @@ fn any_stored_sheet(random: &mut Random, number: usize) -> Files {
 /// A sheet with some of its bookings again and again, in any order.
 fn repeated(random: &mut Random, mut files: Files) -> Files {
     let stored = without_desks(&files.bookings);
-    let (all, _) = stored[1..].as_chunks::<2>();
+    let all: Vec<[u16; 2]> = bookings::cut(&stored);
     let some = &all[..all.len().min(random.between(1, 9))];
     let count = 1024.min(some.len() * random.between(2, 200));
     let mut list: Vec<[u16; 2]> = some.iter().copied().cycle().take(count).collect();

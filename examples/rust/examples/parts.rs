@@ -1,6 +1,8 @@
 //! Prints the sheet that FORMAT.md works through, built from parts and links, as `sheet` does from words.
 
-use prep::{Booking, Desk, Part, Refusal, Script, ScriptBuilder, Template, TemplateBuilder, Typing};
+use prep::{
+    Booking, Card, Desk, Kind, Part, Refusal, Script, ScriptBuilder, Shape, Template, TemplateBuilder, Typing,
+};
 
 /// What an application keeps.
 struct Sheet {
@@ -19,16 +21,18 @@ fn template() -> Result<Template, Refusal> {
 
 /// Three cards; the order in which links are added does not matter.
 fn script(template: &Template) -> Result<Script, Refusal> {
-    let mut builder = ScriptBuilder::with_cards(3);
-    builder.link(1, 0, 0);
-    builder.link(0, 1, 1);
-    builder.link(0, 0, 2);
+    let (a, b) = (Kind(0), Kind(1));
+    let mut builder = ScriptBuilder::new();
+    let (first, second, third) = (builder.card(), builder.card(), builder.card());
+    builder.link(second, a, first);
+    builder.link(first, b, second);
+    builder.link(first, a, third);
     builder.read(template)
 }
 
 /// A line for each card: its shapes, ascending.
 fn print_cards(typing: &Typing) {
-    for card in 0..typing.cards() {
+    for card in (0..typing.cards()).map(Card) {
         let shapes: String = typing.shapes_of(card).map(|shape| format!(" {shape}")).collect();
         println!("card {card}:{shapes}");
     }
@@ -57,7 +61,7 @@ fn print_smallest(sheet: &Sheet, desk: Desk) {
 
 fn main() -> Result<(), Refusal> {
     let script = script(&template()?)?;
-    print(&Sheet { script: script.clone(), bookings: vec![(Desk::Radio, 2, 1)] });
-    print(&Sheet { script, bookings: vec![(Desk::Radio, 0, 0)] });
+    print(&Sheet { script: script.clone(), bookings: vec![(Desk::Radio, Card(2), Shape(1))] });
+    print(&Sheet { script, bookings: vec![(Desk::Radio, Card(0), Shape(0))] });
     Ok(())
 }

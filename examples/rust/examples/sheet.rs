@@ -1,11 +1,11 @@
 //! Prints the sheet that FORMAT.md works through, from its words, for bookings of the radio desk that are met and for
 //! some that are not. The television desk books nothing.
 
-use prep::{Booking, Desk, Largest, Refusal, Script, Smallest, Template, Typing};
+use prep::{Booking, Card, Desk, Largest, Refusal, Script, Shape, Smallest, Template, Typing};
 
 /// A line for each card: its shapes, ascending.
 fn print_cards(typing: &Typing) {
-    for card in 0..typing.cards() {
+    for card in (0..typing.cards()).map(Card) {
         print!("card {card}:");
         for shape in typing.shapes_of(card) {
             print!(" {shape}");
@@ -46,6 +46,6 @@ fn print_sheet(script: &Script, bookings: &[Booking]) -> Result<(), Refusal> {
 fn main() -> Result<(), Refusal> {
     let template = Template::read(vec![2, 2, 10, 17, 2, 256, 1, 1, 1, 257, 0, 0, 1, 1, 0])?;
     let script = Script::read(&template, vec![3, 3, 0, 0, 2, 0, 1, 1, 1, 0, 0])?;
-    print_sheet(&script, &[(Desk::Radio, 2, 1)])?;
-    print_sheet(&script, &[(Desk::Radio, 0, 0)])
+    print_sheet(&script, &[(Desk::Radio, Card(2), Shape(1))])?;
+    print_sheet(&script, &[(Desk::Radio, Card(0), Shape(0))])
 }

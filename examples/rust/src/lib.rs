@@ -2,12 +2,12 @@
 //! library.
 //!
 //! ```
-//! use prep::{Desk, Part, Script, ScriptBuilder, TemplateBuilder};
+//! use prep::{Card, Desk, Part, Script, ScriptBuilder, TemplateBuilder};
 //!
 //! // What an application keeps: a script owns what it was read from.
 //! struct Rundown {
 //!     script: Script,
-//!     host: u16,
+//!     host: Card,
 //! }
 //!
 //! let mut template = TemplateBuilder::new();
@@ -43,6 +43,7 @@
 #![warn(missing_docs)]
 
 mod booking;
+mod numbers;
 mod part;
 pub mod raw;
 mod refusal;
@@ -53,6 +54,7 @@ mod tests;
 mod typing;
 
 pub use booking::{Booking, Desk};
+pub use numbers::{Card, Kind, Shape};
 pub use part::{Bounds, Part};
 pub use refusal::{refusals, File, Place, Refusal};
 pub use script::{Link, Script, ScriptBuilder};

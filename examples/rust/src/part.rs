@@ -1,5 +1,6 @@
 //! The parts of a shape, and their words.
 
+use crate::{Kind, Shape};
 use std::ops::{RangeFrom, RangeInclusive};
 
 /// How many links a link part asks for.
@@ -59,9 +60,9 @@ pub enum Part {
     /// Each of the parts.
     All(Vec<Part>),
     /// Links of a kind that start at the card, to cards of a shape.
-    Link(u16, u16, Bounds),
+    Link(Kind, Shape, Bounds),
     /// Links of a kind that arrive at the card, from cards of a shape.
-    Incoming(u16, u16, Bounds),
+    Incoming(Kind, Shape, Bounds),
 }
 
 impl Part {
@@ -91,12 +92,12 @@ impl Part {
     }
 
     /// Links of a kind to cards of a shape: `2` is exactly two, `0..=3` none to three, `1..` one or more.
-    pub fn link(kind: u16, shape: u16, bounds: impl Into<Bounds>) -> Part {
+    pub fn link(kind: Kind, shape: Shape, bounds: impl Into<Bounds>) -> Part {
         Part::Link(kind, shape, bounds.into())
     }
 
     /// Links of a kind that arrive from cards of a shape. Those of a kind that a shape does not name so are ignored.
-    pub fn incoming(kind: u16, shape: u16, bounds: impl Into<Bounds>) -> Part {
+    pub fn incoming(kind: Kind, shape: Shape, bounds: impl Into<Bounds>) -> Part {
         Part::Incoming(kind, shape, bounds.into())
     }
 
@@ -117,17 +118,17 @@ impl Part {
 }
 
 /// The code of a link of a kind: the way's first code is that of kind 0.
-fn code(first: u16, kind: u16) -> u16 {
-    if kind < MOST_KINDS {
-        first + kind
+fn code(first: u16, kind: Kind) -> u16 {
+    if kind.0 < MOST_KINDS {
+        first + kind.0
     } else {
         u16::MAX
     }
 }
 
 /// A link's code, shape, low and high.
-fn link(code: u16, shape: u16, bounds: Bounds, words: &mut Vec<u16>) {
-    words.extend([code, shape, bounds.low, bounds.high]);
+fn link(code: u16, shape: Shape, bounds: Bounds, words: &mut Vec<u16>) {
+    words.extend([code, shape.0, bounds.low, bounds.high]);
 }
 
 /// A code and the one part after it.

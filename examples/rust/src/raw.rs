@@ -5,7 +5,8 @@
 //! `&mut` slice overlaps no other, and the library asks nothing more of its callers, whatever the words are. Texts
 //! are the library's own, end with a zero byte and stay as long as the program runs.
 
-use std::ffi::{c_char, CStr};
+use std::ffi::CStr;
+use std::os::raw::c_char;
 
 /// A template's counts, or a refusal.
 #[repr(C)]
@@ -89,14 +90,29 @@ pub struct JudgeAnswer {
     pub place: usize,
 }
 
-/// How many words a tidied booking list has, or a refusal.
+/// How many elements were written, from the start of an array, or a refusal.
 #[repr(C)]
 #[derive(Clone, Copy, Debug, PartialEq, Eq)]
 #[allow(missing_docs)]
-pub struct TidyAnswer {
+pub struct WrittenAnswer {
     pub number: u16,
     pub place: usize,
-    pub words: usize,
+    pub written: usize,
+}
+
+/// The functions that refuse, for those that tell a refusal in words.
+#[repr(u32)]
+#[derive(Clone, Copy, Debug, PartialEq, Eq, Hash)]
+#[allow(missing_docs)]
+pub enum Call {
+    ReadTemplate = 1,
+    FitCounts = 2,
+    ReadScript = 3,
+    Largest = 4,
+    Smallest = 5,
+    BothTypings = 6,
+    Judge = 7,
+    TidyBookings = 8,
 }
 
 extern "C" {
@@ -175,10 +191,12 @@ extern "C" {
         stored_length: usize,
         tidied_words: *mut u16,
         tidied_length: usize,
-    ) -> TidyAnswer;
+    ) -> WrittenAnswer;
     fn prep_version() -> u32;
     fn prep_reason(refusal_number: u16) -> *const c_char;
     fn prep_file_of(refusal_number: u16) -> u32;
+    fn prep_call_reason(refused_call: u32, refusal_number: u16, refusal_place: usize) -> *const c_char;
+    fn prep_call_file(refused_call: u32, refusal_number: u16, refusal_place: usize) -> u32;
 }
 
 /// Read a template.
@@ -301,7 +319,7 @@ pub fn judge(template: &[u16], script: &[u16], bookings: &[u16], desk: u16, grid
 
 /// Tidy bookings: how many words are written to `tidied`, which has one word and three for each stored pair; the rest
 /// stays as it was.
-pub fn tidy_bookings(template: &[u16], script: &[u16], stored: &[u16], tidied: &mut [u16]) -> TidyAnswer {
+pub fn tidy_bookings(template: &[u16], script: &[u16], stored: &[u16], tidied: &mut [u16]) -> WrittenAnswer {
     // SAFETY: see the module.
     unsafe {
         prep_tidy_bookings(
@@ -323,15 +341,28 @@ pub fn version() -> u32 {
     unsafe { prep_version() }
 }
 
-/// What a refusal's number means.
+/// What a refusal's number means, whichever call it is of.
 pub fn reason(number: u16) -> &'static str {
     // SAFETY: see the module.
     let words = unsafe { CStr::from_ptr(prep_reason(number)) };
     words.to_str().unwrap_or("refused")
 }
 
-/// Where a refusal's place is counted, as `enum prep_file` numbers it.
+/// Where a refusal's place is counted, if a word or a byte is at fault, as `enum prep_file` numbers it.
 pub fn file_of(number: u16) -> u32 {
     // SAFETY: it takes a plain number.
     unsafe { prep_file_of(number) }
+}
+
+/// What a refusal means that a call answered with this place.
+pub fn call_reason(call: Call, number: u16, place: usize) -> &'static str {
+    // SAFETY: see the module.
+    let words = unsafe { CStr::from_ptr(prep_call_reason(call as u32, number, place)) };
+    words.to_str().unwrap_or("refused")
+}
+
+/// Where the place of a refusal is counted that a call answered with it, as `enum prep_file` numbers it.
+pub fn call_file(call: Call, number: u16, place: usize) -> u32 {
+    // SAFETY: it takes plain numbers.
+    unsafe { prep_call_file(call as u32, number, place) }
 }

@@ -1,5 +1,7 @@
-//! What the library turns down, in words. Constants and words come from include/prep_refusals.def.
+//! What the library turns down, in the library's words. The constants come from prep_refusals.def.
 
+use crate::raw::{self, Call};
+use crate::{Card, Shape};
 use std::fmt;
 
 include!(concat!(env!("OUT_DIR"), "/refusals.rs"));
@@ -19,8 +21,24 @@ pub enum File {
     Counts,
     /// In a grid.
     Grid,
-    /// In the sheet printer's input.
+    /// In the input of a program.
     Input,
+    /// In the words of a list that is tidied.
+    Tidied,
+}
+
+impl File {
+    /// All, in the order of `enum prep_file`.
+    const ALL: [File; 8] = [
+        File::Nothing,
+        File::Template,
+        File::Script,
+        File::Bookings,
+        File::Counts,
+        File::Grid,
+        File::Input,
+        File::Tidied,
+    ];
 }
 
 /// Where a refusal's fault is.
@@ -31,9 +49,9 @@ pub enum Place {
     /// The card and the shape that are not met.
     Pair {
         /// The card.
-        card: u16,
+        card: Card,
         /// The shape.
-        shape: u16,
+        shape: Shape,
     },
 }
 
@@ -46,29 +64,39 @@ pub struct Refusal {
     pub place: Place,
 }
 
+/// The call for whose refusals words are asked. What means one thing in one call and another in another is only ever
+/// this call's here: the others are lent grids and words of the right length, and a `Desk` is one of two.
+const CALL: Call = Call::Judge;
+
 impl Refusal {
     /// What is wrong, without the place.
     pub fn reason(&self) -> &'static str {
-        self.row().map_or("refused, by a number that this version has no words for", |row| row.2)
+        raw::call_reason(CALL, self.number, self.word())
     }
 
     /// Where the place is counted.
     pub fn file(&self) -> File {
-        self.row().map_or(File::Nothing, |row| row.1)
+        let file = raw::call_file(CALL, self.number, self.word());
+        File::ALL.get(file as usize).copied().unwrap_or(File::Nothing)
     }
 
-    fn row(&self) -> Option<&'static (u16, File, &'static str)> {
-        TABLE.iter().find(|row| row.0 == self.number)
+    /// The place as the library tells it: 0 beside a card and a shape.
+    fn word(&self) -> usize {
+        match self.place {
+            Place::Word(place) => place,
+            Place::Pair { .. } => 0,
+        }
     }
 }
 
 impl fmt::Display for Refusal {
     fn fmt(&self, f: &mut fmt::Formatter<'_>) -> fmt::Result {
-        write!(f, "{} (refusal {}, ", self.reason(), self.number)?;
-        match self.place {
-            Place::Word(place) if self.file() == File::Grid => write!(f, "byte {place})"),
-            Place::Word(place) => write!(f, "word {place})"),
-            Place::Pair { card, shape } => write!(f, "card {card}, shape {shape})"),
+        write!(f, "{} (refusal {}", self.reason(), self.number)?;
+        match (self.place, self.file()) {
+            (Place::Pair { card, shape }, _) => write!(f, ", card {card}, shape {shape})"),
+            (Place::Word(_), File::Nothing) => write!(f, ")"),
+            (Place::Word(place), File::Grid) => write!(f, ", byte {place})"),
+            (Place::Word(place), _) => write!(f, ", word {place})"),
         }
     }
 }
@@ -87,7 +115,7 @@ pub(crate) fn refused(number: u16, place: usize) -> Result<(), Refusal> {
 pub(crate) fn refused_pair(number: u16, place: usize, card: u16, shape: u16) -> Result<(), Refusal> {
     match number {
         refusals::NOT_MET | refusals::GRID_NOT_MET => {
-            Err(Refusal { number, place: Place::Pair { card, shape } })
+            Err(Refusal { number, place: Place::Pair { card: Card(card), shape: Shape(shape) } })
         }
         _ => refused(number, place),
     }

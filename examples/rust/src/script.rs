@@ -3,18 +3,18 @@
 use crate::booking::{booking_words, bookings_of, stored_words};
 use crate::part::word;
 use crate::refusal::{refusals, refused, refused_pair};
-use crate::{raw, Booking, Both, Desk, Largest, Refusal, Smallest, Template, Typing};
+use crate::{raw, Booking, Both, Card, Desk, Kind, Largest, Refusal, Shape, Smallest, Template, Typing};
 use std::collections::BTreeSet;
 
 /// A link of a script. Links are ordered as in a file: by from, then kind, then to.
 #[derive(Clone, Copy, Debug, PartialEq, Eq, PartialOrd, Ord, Hash)]
 pub struct Link {
     /// The card where the link starts.
-    pub from: u16,
+    pub from: Card,
     /// The link's kind.
-    pub kind: u16,
+    pub kind: Kind,
     /// The card where the link ends.
-    pub to: u16,
+    pub to: Card,
 }
 
 /// A script that was read with its template: cards, and links between them. It owns both.
@@ -31,7 +31,7 @@ impl Script {
     pub fn read(template: &Template, words: Vec<u16>) -> Result<Script, Refusal> {
         let answer = raw::read_script(template.words(), &words);
         refused(answer.number, answer.place)?;
-        let link = |w: &[u16]| Link { from: w[0], kind: w[1], to: w[2] };
+        let link = |w: &[u16]| Link { from: Card(w[0]), kind: Kind(w[1]), to: Card(w[2]) };
         let links = words[2..].chunks_exact(3).map(link).collect();
         Ok(Script { template: template.clone(), words, cards: answer.cards, links })
     }
@@ -58,7 +58,7 @@ impl Script {
 
     /// The links that start at a card, ascending, not those that arrive there; none if there is no such card. They are
     /// found in the links that were read, so that no file is read again; `raw::links_of_card` answers the same.
-    pub fn links_of(&self, card: u16) -> &[Link] {
+    pub fn links_of(&self, card: Card) -> &[Link] {
         let start = self.links.partition_point(|link| link.from < card);
         let end = self.links.partition_point(|link| link.from <= card);
         &self.links[start..end]
@@ -112,14 +112,14 @@ impl Script {
         self.judge(bookings, desk, typing.grid())
     }
 
-    /// The first booking of each pair, in the list's order, as the radio's. This is for lists that were stored with a
-    /// version before 5: pairs of card and shape, which may stand there several times. Refusals: 31 to 33.
-    pub fn tidy(&self, stored: &[(u16, u16)]) -> Result<Vec<Booking>, Refusal> {
+    /// The first booking of each pair, in the list's order, as the radio's. This is for lists that were stored without
+    /// desks: pairs of card and shape, which may stand there several times. Refusals: 31 to 33.
+    pub fn tidy(&self, stored: &[(Card, Shape)]) -> Result<Vec<Booking>, Refusal> {
         let mut tidied = vec![0; 1 + 3 * stored.len()];
         let answer =
             raw::tidy_bookings(self.template.words(), &self.words, &stored_words(stored), &mut tidied);
         refused(answer.number, answer.place)?;
-        Ok(bookings_of(&tidied[..answer.words]))
+        Ok(bookings_of(&tidied[..answer.written]))
     }
 
     /// A grid of the script's size.
@@ -151,20 +151,20 @@ impl ScriptBuilder {
     }
 
     /// Adds a card and returns its number.
-    pub fn card(&mut self) -> u16 {
+    pub fn card(&mut self) -> Card {
         self.cards += 1;
-        word(self.cards - 1)
+        Card(word(self.cards - 1))
     }
 
     /// Adds a link. A script is a set of links: one that is added twice is there once.
-    pub fn link(&mut self, from: u16, kind: u16, to: u16) {
+    pub fn link(&mut self, from: Card, kind: Kind, to: Card) {
         self.links.insert(Link { from, kind, to });
     }
 
     /// The script's words, links ascending.
     pub fn words(&self) -> Vec<u16> {
         let mut words = vec![word(self.cards), word(self.links.len())];
-        words.extend(self.links.iter().flat_map(|link| [link.from, link.kind, link.to]));
+        words.extend(self.links.iter().flat_map(|link| [link.from.0, link.kind.0, link.to.0]));
         words
     }
 

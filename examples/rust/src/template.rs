@@ -2,7 +2,7 @@
 
 use crate::part::word;
 use crate::refusal::refused;
-use crate::{raw, Part, Refusal};
+use crate::{raw, Kind, Part, Refusal, Shape};
 use std::sync::Arc;
 
 /// A template that was read: shapes, and the links that a card of each must have. A clone shares the words.
@@ -39,8 +39,8 @@ impl Template {
     /// Whether counts of links fit a shape: for each kind those that start at a card, then for each kind those that
     /// arrive there. A kind that the shape does not name has to count 0 as outgoing if the shape is closed, and is
     /// ignored otherwise. Refusals: 42, 41 if there are not two counts for each kind, 43.
-    pub fn fits(&self, shape: u16, counts: &[u16]) -> Result<bool, Refusal> {
-        let answer = raw::fit_counts(&self.words, shape, counts);
+    pub fn fits(&self, shape: Shape, counts: &[u16]) -> Result<bool, Refusal> {
+        let answer = raw::fit_counts(&self.words, shape.0, counts);
         refused(answer.number, answer.place)?;
         Ok(answer.fits == 1)
     }
@@ -64,15 +64,15 @@ impl TemplateBuilder {
     }
 
     /// Adds a kind and returns its number.
-    pub fn kind(&mut self) -> u16 {
+    pub fn kind(&mut self) -> Kind {
         self.kinds += 1;
-        word(self.kinds - 1)
+        Kind(word(self.kinds - 1))
     }
 
     /// Adds a shape and returns its number. No link starts at its cards until it is defined.
-    pub fn shape(&mut self) -> u16 {
+    pub fn shape(&mut self) -> Shape {
         self.shapes.push((Part::Nothing, false));
-        word(self.shapes.len() - 1)
+        Shape(word(self.shapes.len() - 1))
     }
 
     /// Says what a closed shape is: only links that the part names start at its cards.
@@ -80,8 +80,8 @@ impl TemplateBuilder {
     /// # Panics
     ///
     /// If `shape` gave no such number.
-    pub fn define(&mut self, shape: u16, part: Part) {
-        self.shapes[usize::from(shape)] = (part, false);
+    pub fn define(&mut self, shape: Shape, part: Part) {
+        self.shapes[usize::from(shape.0)] = (part, false);
     }
 
     /// Says what an open shape is: links that start at its cards and that the part does not name are ignored.
@@ -89,8 +89,8 @@ impl TemplateBuilder {
     /// # Panics
     ///
     /// If `shape` gave no such number.
-    pub fn define_open(&mut self, shape: u16, part: Part) {
-        self.shapes[usize::from(shape)] = (part, true);
+    pub fn define_open(&mut self, shape: Shape, part: Part) {
+        self.shapes[usize::from(shape.0)] = (part, true);
     }
 
     /// The template's words.

@@ -1,6 +1,7 @@
 //! The worked sheet and small inputs through the wrapper.
 
 use super::*;
+use raw::Call;
 use Desk::{Radio, Television};
 
 fn template() -> Template {
@@ -21,6 +22,26 @@ fn tolerant() -> Template {
 
 fn word(number: u16, place: usize) -> Refusal {
     Refusal { number, place: Place::Word(place) }
+}
+
+/// A refusal with a card and a shape.
+fn unmet(number: u16, card: u16, shape: u16) -> Refusal {
+    Refusal { number, place: Place::Pair { card: Card(card), shape: Shape(shape) } }
+}
+
+fn booking(desk: Desk, card: u16, shape: u16) -> Booking {
+    (desk, Card(card), Shape(shape))
+}
+
+fn link(from: u16, kind: u16, to: u16) -> Link {
+    Link { from: Card(from), kind: Kind(kind), to: Card(to) }
+}
+
+/// A script built from links in any order.
+fn linked(cards: u16, links: impl IntoIterator<Item = (u16, u16, u16)>) -> ScriptBuilder {
+    let mut builder = ScriptBuilder::with_cards(cards);
+    links.into_iter().for_each(|(from, kind, to)| builder.link(Card(from), Kind(kind), Card(to)));
+    builder
 }
 
 #[test]
@@ -65,61 +86,60 @@ fn the_code_of_an_open_shape_is_read_as_its_first_word() {
 #[test]
 fn counts_fit_or_not() {
     let template = template();
-    assert_eq!(template.fits(0, &[1, 1, 0, 0]), Ok(true));
-    assert_eq!(template.fits(0, &[2, 1, 0, 0]), Ok(false));
-    assert_eq!(template.fits(1, &[0, 0, 0, 0]), Ok(true));
-    assert_eq!(template.fits(1, &[0, 0, 8192, 8192]), Ok(true));
-    assert_eq!(template.fits(2, &[0, 0, 0, 0]), Err(word(42, 0)));
+    assert_eq!(template.fits(Shape(0), &[1, 1, 0, 0]), Ok(true));
+    assert_eq!(template.fits(Shape(0), &[2, 1, 0, 0]), Ok(false));
+    assert_eq!(template.fits(Shape(1), &[0, 0, 0, 0]), Ok(true));
+    assert_eq!(template.fits(Shape(1), &[0, 0, 8192, 8192]), Ok(true));
+    assert_eq!(template.fits(Shape(2), &[0, 0, 0, 0]), Err(word(42, 0)));
     for length in [0, 1, 2, 3, 5] {
-        assert_eq!(template.fits(0, &vec![8193; length]), Err(word(41, 0)));
+        assert_eq!(template.fits(Shape(0), &vec![8193; length]), Err(word(41, 0)));
     }
-    assert_eq!(template.fits(0, &[0, 8193, 0, 8193]), Err(word(43, 1)));
-    assert_eq!(template.fits(0, &[0, 0, 8193, 0]), Err(word(43, 2)));
+    assert_eq!(template.fits(Shape(0), &[0, 8193, 0, 8193]), Err(word(43, 1)));
+    assert_eq!(template.fits(Shape(0), &[0, 0, 8193, 0]), Err(word(43, 2)));
 }
 
 #[test]
 fn what_arrives_counts_if_it_is_named() {
     let template = guests();
-    assert_eq!(template.fits(1, &[0, 1]), Ok(true));
-    assert_eq!(template.fits(1, &[0, 0]), Ok(false));
-    assert_eq!(template.fits(1, &[1, 1]), Ok(false));
-    assert_eq!(template.fits(0, &[1, 7]), Ok(true));
-    assert_eq!(template.fits(0, &[1]), Err(word(41, 0)));
-    assert_eq!(template.fits(0, &[1, 8193]), Err(word(43, 1)));
+    assert_eq!(template.fits(Shape(1), &[0, 1]), Ok(true));
+    assert_eq!(template.fits(Shape(1), &[0, 0]), Ok(false));
+    assert_eq!(template.fits(Shape(1), &[1, 1]), Ok(false));
+    assert_eq!(template.fits(Shape(0), &[1, 7]), Ok(true));
+    assert_eq!(template.fits(Shape(0), &[1]), Err(word(41, 0)));
+    assert_eq!(template.fits(Shape(0), &[1, 8193]), Err(word(43, 1)));
 }
 
 #[test]
 fn a_booking_reaches_against_a_link() {
     let script = Script::read(&guests(), vec![2, 1, 0, 0, 1]).unwrap();
-    let booked = [(Television, 1, 1)];
+    let booked = [booking(Television, 1, 1)];
     let both = script.both(&booked, Television).unwrap();
     assert_eq!((both.largest.rounds, both.largest.struck, both.largest.bare), (2, 2, 0));
     let smallest = both.smallest.unwrap();
     assert_eq!((smallest.pairs, smallest.typing.grid()), (2, &[1, 0, 0, 1][..]));
     assert_eq!(smallest.typing, both.largest.typing);
     assert_eq!(script.judge_typing(&booked, Television, &smallest.typing), Ok(()));
-    let unmet = |number, card| Refusal { number, place: Place::Pair { card, shape: 1 } };
-    assert_eq!(script.judge(&booked, Television, &[0, 0, 0, 1]), Err(unmet(62, 1)));
+    assert_eq!(script.judge(&booked, Television, &[0, 0, 0, 1]), Err(unmet(62, 1, 1)));
     // Nobody points at card 2.
     let script = Script::read(&guests(), vec![3, 1, 0, 0, 1]).unwrap();
-    assert_eq!(script.smallest(&[(Radio, 2, 1)], Radio), Err(unmet(50, 2)));
+    assert_eq!(script.smallest(&[booking(Radio, 2, 1)], Radio), Err(unmet(50, 2, 1)));
 }
 
 #[test]
 fn an_open_shape_ignores_what_it_does_not_name() {
     let template = tolerant();
-    assert_eq!(template.fits(0, &[1, 7, 0, 0]), Ok(true));
-    assert_eq!(template.fits(0, &[2, 7, 0, 0]), Ok(false));
-    assert_eq!(template.fits(1, &[0, 7, 0, 0]), Ok(false));
-    assert_eq!(template.fits(0, &[1, 8193, 0, 0]), Err(word(43, 1)));
+    assert_eq!(template.fits(Shape(0), &[1, 7, 0, 0]), Ok(true));
+    assert_eq!(template.fits(Shape(0), &[2, 7, 0, 0]), Ok(false));
+    assert_eq!(template.fits(Shape(1), &[0, 7, 0, 0]), Ok(false));
+    assert_eq!(template.fits(Shape(0), &[1, 8193, 0, 0]), Err(word(43, 1)));
     let script = Script::read(&template, vec![3, 2, 0, 0, 1, 0, 1, 2]).unwrap();
-    let both = script.both(&[(Radio, 0, 0)], Radio).unwrap();
+    let both = script.both(&[booking(Radio, 0, 0)], Radio).unwrap();
     assert_eq!((both.largest.rounds, both.largest.struck, both.largest.bare), (2, 3, 0));
     let smallest = both.smallest.unwrap();
     assert_eq!((smallest.pairs, smallest.typing.grid()), (2, &[1, 0, 0, 1, 0, 0][..]));
     // The ignored link is a link of card 0, and its target need not have a shape.
-    assert_eq!(script.links_of(0).len(), 2);
-    assert_eq!(script.judge_typing(&[(Radio, 0, 0)], Radio, &smallest.typing), Ok(()));
+    assert_eq!(script.links_of(Card(0)).len(), 2);
+    assert_eq!(script.judge_typing(&[booking(Radio, 0, 0)], Radio, &smallest.typing), Ok(()));
 }
 
 #[test]
@@ -127,9 +147,9 @@ fn a_script_has_its_links() {
     let template = template();
     let script = Script::read(&template, SCRIPT.to_vec()).unwrap();
     assert_eq!((script.cards(), script.links().len()), (3, 3));
-    assert_eq!(script.links_of(0), [Link { from: 0, kind: 0, to: 2 }, Link { from: 0, kind: 1, to: 1 }]);
-    assert_eq!(script.links_of(2), []);
-    assert_eq!(script.links_of(9), []);
+    assert_eq!(script.links_of(Card(0)), [link(0, 0, 2), link(0, 1, 1)]);
+    assert_eq!(script.links_of(Card(2)), []);
+    assert_eq!(script.links_of(Card(9)), []);
     assert_eq!(script.template(), &template);
     assert_eq!(script.words(), SCRIPT);
 }
@@ -152,10 +172,10 @@ fn both_typings_of_the_sheet() {
     let largest = script.largest();
     assert_eq!((largest.rounds, largest.struck, largest.bare), (4, 5, 2));
     assert_eq!(largest.typing.grid(), [0, 0, 0, 0, 0, 1]);
-    let booked = [(Radio, 2, 1)];
+    let booked = [booking(Radio, 2, 1)];
     let smallest = script.smallest(&booked, Radio).unwrap();
     assert_eq!(smallest.pairs, 1);
-    assert_eq!(smallest.typing.shapes_of(2).collect::<Vec<_>>(), [1]);
+    assert_eq!(smallest.typing.shapes_of(Card(2)).collect::<Vec<_>>(), [Shape(1)]);
     let both = script.both(&booked, Radio).unwrap();
     assert_eq!(both, Both { largest, smallest: Ok(smallest) });
 }
@@ -164,8 +184,8 @@ fn both_typings_of_the_sheet() {
 fn bookings_that_are_not_met() {
     let template = template();
     let script = Script::read(&template, SCRIPT.to_vec()).unwrap();
-    let refused = Refusal { number: 50, place: Place::Pair { card: 0, shape: 1 } };
-    let booked = [(Radio, 0, 0)];
+    let refused = unmet(50, 0, 1);
+    let booked = [booking(Radio, 0, 0)];
     assert_eq!(script.smallest(&booked, Radio), Err(refused));
     let both = script.both(&booked, Radio).unwrap();
     assert_eq!(both.smallest, Err(refused));
@@ -178,11 +198,14 @@ fn bookings_that_are_refused() {
     let template = template();
     let script = Script::read(&template, SCRIPT.to_vec()).unwrap();
     for desk in Desk::BOTH {
-        assert_eq!(script.smallest(&[(Radio, 3, 1)], desk), Err(word(32, 2)));
-        assert_eq!(script.smallest(&[(Television, 0, 0), (Radio, 0, 2)], desk), Err(word(33, 6)));
-        assert_eq!(script.smallest(&vec![(Radio, 0, 0); 1025], desk), Err(word(31, 0)));
-        assert_eq!(script.smallest(&vec![(Radio, 0, 0); 70_000], desk), Err(word(31, 0)));
-        assert_eq!(script.both(&[(Television, 3, 0)], desk), Err(word(32, 2)));
+        assert_eq!(script.smallest(&[booking(Radio, 3, 1)], desk), Err(word(32, 2)));
+        assert_eq!(
+            script.smallest(&[booking(Television, 0, 0), booking(Radio, 0, 2)], desk),
+            Err(word(33, 6))
+        );
+        assert_eq!(script.smallest(&vec![booking(Radio, 0, 0); 1025], desk), Err(word(31, 0)));
+        assert_eq!(script.smallest(&vec![booking(Radio, 0, 0); 70_000], desk), Err(word(31, 0)));
+        assert_eq!(script.both(&[booking(Television, 3, 0)], desk), Err(word(32, 2)));
     }
 }
 
@@ -238,28 +261,28 @@ fn a_pair_is_booked_once_by_a_desk() {
             assert_eq!(script.judge(bookings, desk, &[]), Err(refusal));
         }
     };
-    let booked = (Radio, 2, 1);
+    let booked = booking(Radio, 2, 1);
     refused(&[booked, booked], word(refusals::BOOKINGS_TWICE, 5));
-    refused(&[booked, (Radio, 0, 0), booked], word(65, 8));
-    refused(&[booked, (Television, 2, 1), booked], word(65, 8));
-    refused(&[booked, booked, (Radio, 9, 9)], word(65, 5));
-    refused(&[booked, (Radio, 2, 2)], word(33, 6));
+    refused(&[booked, booking(Radio, 0, 0), booked], word(65, 8));
+    refused(&[booked, booking(Television, 2, 1), booked], word(65, 8));
+    refused(&[booked, booked, booking(Radio, 9, 9)], word(65, 5));
+    refused(&[booked, booking(Radio, 2, 2)], word(33, 6));
     // One card with two shapes is no repeat.
-    let unmet = Refusal { number: 50, place: Place::Pair { card: 0, shape: 1 } };
-    assert_eq!(script.smallest(&[(Radio, 0, 0), (Radio, 0, 1)], Radio), Err(unmet));
+    let unmet = unmet(50, 0, 1);
+    assert_eq!(script.smallest(&[booking(Radio, 0, 0), booking(Radio, 0, 1)], Radio), Err(unmet));
 }
 
 #[test]
 fn what_one_desk_books_changes_nothing_for_the_other() {
     let script = Script::read(&template(), SCRIPT.to_vec()).unwrap();
-    let unmet = Refusal { number: 50, place: Place::Pair { card: 0, shape: 1 } };
+    let unmet = unmet(50, 0, 1);
     let pairs = |bookings: &[Booking], desk| script.smallest(bookings, desk).map(|found| found.pairs);
     for (one, other) in [(Radio, Television), (Television, Radio)] {
-        assert_eq!(pairs(&[(one, 2, 1)], one), Ok(1));
-        assert_eq!(pairs(&[(one, 2, 1)], other), Ok(0));
-        assert_eq!(pairs(&[(one, 2, 1), (other, 2, 1)], one), Ok(1));
-        assert_eq!(pairs(&[(one, 0, 0), (other, 0, 0)], one), Err(unmet));
-        let bookings = [(other, 0, 0), (one, 2, 1)];
+        assert_eq!(pairs(&[booking(one, 2, 1)], one), Ok(1));
+        assert_eq!(pairs(&[booking(one, 2, 1)], other), Ok(0));
+        assert_eq!(pairs(&[booking(one, 2, 1), booking(other, 2, 1)], one), Ok(1));
+        assert_eq!(pairs(&[booking(one, 0, 0), booking(other, 0, 0)], one), Err(unmet));
+        let bookings = [booking(other, 0, 0), booking(one, 2, 1)];
         assert_eq!((pairs(&bookings, one), pairs(&bookings, other)), (Ok(1), Err(unmet)));
         for desk in Desk::BOTH {
             let both = script.both(&bookings, desk).unwrap();
@@ -274,12 +297,16 @@ fn what_one_desk_books_changes_nothing_for_the_other() {
 #[test]
 fn bookings_are_tidied() {
     let script = Script::read(&template(), SCRIPT.to_vec()).unwrap();
-    let tidy = |stored: &[(u16, u16)]| script.tidy(stored);
+    let tidy = |stored: &[(u16, u16)]| {
+        let stored: Vec<(Card, Shape)> =
+            stored.iter().map(|&(card, shape)| (Card(card), Shape(shape))).collect();
+        script.tidy(&stored)
+    };
     assert_eq!(tidy(&[]), Ok(vec![]));
-    assert_eq!(tidy(&[(2, 1), (0, 0), (2, 1)]), Ok(vec![(Radio, 2, 1), (Radio, 0, 0)]));
-    let several = vec![(Radio, 0, 0), (Radio, 0, 1), (Radio, 1, 0)];
+    assert_eq!(tidy(&[(2, 1), (0, 0), (2, 1)]), Ok(vec![booking(Radio, 2, 1), booking(Radio, 0, 0)]));
+    let several = vec![booking(Radio, 0, 0), booking(Radio, 0, 1), booking(Radio, 1, 0)];
     assert_eq!(tidy(&[(0, 0), (0, 1), (0, 0), (0, 1), (1, 0)]), Ok(several));
-    assert_eq!(tidy(&[(2, 1); 1024]), Ok(vec![(Radio, 2, 1)]));
+    assert_eq!(tidy(&[(2, 1); 1024]), Ok(vec![booking(Radio, 2, 1)]));
     let tidied = tidy(&[(2, 1), (2, 1)]).unwrap();
     assert_eq!(script.smallest(&tidied, Radio).unwrap().pairs, 1);
     assert_eq!(script.smallest(&tidied, Television).unwrap().pairs, 0);
@@ -291,7 +318,7 @@ fn bookings_are_tidied() {
 
 #[test]
 fn words_are_tidied_into_three_for_each_pair() {
-    let told = |number, place, words| raw::TidyAnswer { number, place, words };
+    let told = |number, place, written| raw::WrittenAnswer { number, place, written };
     let tidy = |template: &[u16], script: &[u16], stored: &[u16], length| {
         let mut tidied = vec![7; length];
         let answer = raw::tidy_bookings(template, script, stored, &mut tidied);
@@ -315,8 +342,8 @@ fn words_are_tidied_into_three_for_each_pair() {
 #[test]
 fn a_grid_is_accepted() {
     let script = Script::read(&template(), SCRIPT.to_vec()).unwrap();
-    assert_eq!(script.judge(&[(Radio, 2, 1)], Radio, &[0, 0, 0, 0, 0, 1]), Ok(()));
-    assert_eq!(script.judge(&[(Radio, 2, 1)], Television, &[0; 6]), Ok(()));
+    assert_eq!(script.judge(&[booking(Radio, 2, 1)], Radio, &[0, 0, 0, 0, 0, 1]), Ok(()));
+    assert_eq!(script.judge(&[booking(Radio, 2, 1)], Television, &[0; 6]), Ok(()));
     assert_eq!(Script::read(&template(), vec![0, 0]).unwrap().judge(&[], Radio, &[]), Ok(()));
 }
 
@@ -324,10 +351,10 @@ fn a_grid_is_accepted() {
 fn a_grid_is_refused_at_its_first_fault() {
     let script = Script::read(&template(), SCRIPT.to_vec()).unwrap();
     let judge = |pairs: &[(u16, u16)], grid: &[u8]| {
-        let bookings: Vec<Booking> = pairs.iter().map(|&(card, shape)| (Radio, card, shape)).collect();
+        let bookings: Vec<Booking> = pairs.iter().map(|&(card, shape)| booking(Radio, card, shape)).collect();
         script.judge(&bookings, Radio, grid)
     };
-    let pair = Refusal { number: refusals::GRID_NOT_MET, place: Place::Pair { card: 1, shape: 0 } };
+    let pair = unmet(refusals::GRID_NOT_MET, 1, 0);
     assert_eq!(judge(&[(0, 0); 1025], &[2]), Err(word(31, 0)));
     assert_eq!(judge(&[(3, 1)], &[2]), Err(word(32, 2)));
     assert_eq!(judge(&[(2, 2)], &[2]), Err(word(33, 3)));
@@ -355,10 +382,8 @@ fn our_own_typings_are_accepted() {
     let mut builder = TemplateBuilder::new();
     let (next, item) = (builder.kind(), builder.shape());
     builder.define(item, Part::link(next, item, 0..=1));
-    let mut links = ScriptBuilder::with_cards(3);
-    links.link(0, next, 1);
-    let script = links.read(&builder.read().unwrap()).unwrap();
-    let booked = [(Radio, 0, item)];
+    let script = linked(3, [(0, next.0, 1)]).read(&builder.read().unwrap()).unwrap();
+    let booked = [(Radio, Card(0), item)];
     let both = script.both(&booked, Radio).unwrap();
     let smallest = script.smallest(&booked, Radio).unwrap().typing;
     let largest = script.largest().typing;
@@ -367,7 +392,7 @@ fn our_own_typings_are_accepted() {
         assert_eq!(script.judge_typing(&booked, Radio, &typing), Ok(()));
     }
     // Between the two, but card 0 leads to a card without the shape.
-    let unmet = Refusal { number: 62, place: Place::Pair { card: 0, shape: 0 } };
+    let unmet = unmet(62, 0, 0);
     assert_eq!(script.judge(&[], Radio, &[1, 0, 0]), Err(unmet));
 }
 
@@ -376,8 +401,9 @@ fn a_typing_has_no_other_cards_or_shapes() {
     let template = template();
     let script = Script::read(&template, SCRIPT.to_vec()).unwrap();
     let typing = script.largest().typing;
-    assert!(typing.has(2, 1));
-    assert!(!typing.has(3, 0) && !typing.has(2, 2) && !typing.has(1, 3));
+    let has = |card, shape| typing.has(Card(card), Shape(shape));
+    assert!(has(2, 1));
+    assert!(!has(3, 0) && !has(2, 2) && !has(1, 3));
     assert_eq!(typing.cards(), 3);
 }
 
@@ -392,25 +418,49 @@ fn a_refusal_says_what_and_where() {
     let message = "a desk books a pair a second time (refusal 65, word 5)";
     assert_eq!(word(refusals::BOOKINGS_TWICE, 5).to_string(), message);
     assert_eq!(word(refusals::BOOKINGS_TWICE, 5).file(), File::Bookings);
-    let message = "a desk is neither 0 nor 1 (refusal 66, word 1)";
+    let message = "a desk is neither radio, 0, nor television, 1 (refusal 66, word 1)";
     assert_eq!(word(refusals::BOOKINGS_DESK, 1).to_string(), message);
     assert_eq!(word(refusals::BOOKINGS_DESK, 1).file(), File::Bookings);
     let message = "a byte of the grid is over 1 (refusal 61, byte 5)";
     assert_eq!(word(refusals::GRID_BYTE, 5).to_string(), message);
     let message = "a booked pair is not in the grid (refusal 63, word 3)";
     assert_eq!(word(refusals::GRID_NOT_HELD, 3).to_string(), message);
-    let pair = Refusal { number: refusals::GRID_NOT_MET, place: Place::Pair { card: 1, shape: 0 } };
-    assert_eq!(pair.to_string(), "a pair of the grid is not met (refusal 62, card 1, shape 0)");
+    let pair = unmet(refusals::GRID_NOT_MET, 1, 0);
+    assert_eq!(pair.to_string(), "a pair of the grid is not met under it (refusal 62, card 1, shape 0)");
     assert_eq!((pair.file(), word(refusals::GRID_NOT_HELD, 3).file()), (File::Nothing, File::Bookings));
 }
 
 #[test]
-fn words_and_files_are_the_library_s() {
+fn words_are_those_of_the_call_that_refused() {
+    // 40 is of one grid, of one of two, or of a list; a desk is a booking's or the call's own.
+    assert_eq!(
+        word(refusals::GRID_SIZE, 0).to_string(),
+        "the grid has not cards x shapes bytes (refusal 40, byte 0)"
+    );
+    let both = raw::call_reason(Call::BothTypings, refusals::GRID_SIZE, 0);
+    assert_eq!(both, "the smallest or the largest grid has not cards x shapes bytes");
+    let tidied = raw::call_reason(Call::TidyBookings, refusals::GRID_SIZE, 0);
+    assert_eq!(tidied, "the array for the tidied list has not 1 + 3 x bookings words");
+    assert_eq!(raw::call_file(Call::TidyBookings, refusals::GRID_SIZE, 0), File::Tidied as u32);
+    for call in [Call::Smallest, Call::BothTypings, Call::Judge] {
+        let own = raw::call_reason(call, refusals::BOOKINGS_DESK, 0);
+        assert_eq!(own, "the desk asked for is neither radio, 0, nor television, 1");
+        assert_eq!(raw::call_file(call, refusals::BOOKINGS_DESK, 0), File::Nothing as u32);
+        assert_eq!(raw::call_reason(call, refusals::BOOKINGS_DESK, 1), raw::reason(refusals::BOOKINGS_DESK));
+        assert_eq!(raw::call_file(call, refusals::BOOKINGS_DESK, 1), File::Bookings as u32);
+    }
+    let message = "counts are asked for a shape that there is not (refusal 42)";
+    assert_eq!(template().fits(Shape(2), &[]).unwrap_err().to_string(), message);
+}
+
+#[test]
+fn every_refusal_has_the_library_s_words_and_file() {
     for number in 1..=u16::MAX {
-        let refusal = word(number, 0);
+        let refusal = word(number, 1);
         assert_eq!(refusal.reason(), raw::reason(number));
         assert_eq!(refusal.file() as u32, raw::file_of(number));
     }
+    assert_eq!(File::Tidied as u32, 7);
 }
 
 #[test]
@@ -471,7 +521,7 @@ fn what_no_word_holds_is_refused() {
     let mut builder = TemplateBuilder::new();
     assert_eq!(builder.read(), Err(word(refusals::TEMPLATE_KIND_COUNT, 0)));
     let (kind, shape) = (builder.kind(), builder.shape());
-    for kind in [64, 128, u16::MAX] {
+    for kind in [64, 128, u16::MAX].map(Kind) {
         builder.define(shape, Part::link(kind, shape, 1));
         assert_eq!(builder.read(), Err(word(refusals::TEMPLATE_CODE, 3)));
         builder.define(shape, Part::incoming(kind, shape, 1));
@@ -479,8 +529,7 @@ fn what_no_word_holds_is_refused() {
     }
     builder.define(shape, Part::all(vec![Part::link(kind, shape, 1); 70_000]));
     assert_eq!(builder.read(), Err(word(refusals::TEMPLATE_SIZE, 0)));
-    let mut script = ScriptBuilder::with_cards(1);
-    script.link(0, 0, 1);
+    let mut script = linked(1, [(0, 0, 1)]);
     assert_eq!(script.read(&template()), Err(word(refusals::SCRIPT_NO_CARD, 4)));
     (0..70_000).for_each(|_| _ = script.card());
     assert_eq!(script.read(&template()), Err(word(refusals::SCRIPT_CARD_COUNT, 0)));
@@ -488,27 +537,21 @@ fn what_no_word_holds_is_refused() {
 
 #[test]
 fn a_script_is_built_from_links_in_any_order() {
-    let mut builder = ScriptBuilder::new();
-    let (first, second, third) = (builder.card(), builder.card(), builder.card());
-    for (from, kind, to) in [(second, 0, first), (first, 1, second), (first, 0, third), (first, 1, second)] {
-        builder.link(from, kind, to);
-    }
+    let builder = linked(3, [(1, 0, 0), (0, 1, 1), (0, 0, 2), (0, 1, 1)]);
     assert_eq!(builder.words(), SCRIPT);
     assert_eq!(builder.read(&template()).unwrap().words(), SCRIPT);
 }
 
 #[test]
 fn the_links_of_each_card_are_the_library_s() {
-    let mut builder = ScriptBuilder::with_cards(60);
-    for i in 0..400_u16 {
-        builder.link(i * 7 % 53, i % 2, i * 11 % 60);
-    }
+    let builder = linked(60, (0..400).map(|i| (i * 7 % 53, i % 2, i * 11 % 60)));
     let script = builder.read(&template()).unwrap();
-    for card in 0..61 {
+    for card in (0..61).map(Card) {
         let mut words = vec![0; script.words().len()];
-        let count = raw::links_of_card(template().words(), script.words(), card, &mut words);
-        let ours: Vec<u16> = script.links_of(card).iter().flat_map(|l| [l.from, l.kind, l.to]).collect();
+        let count = raw::links_of_card(template().words(), script.words(), card.0, &mut words);
+        let ours: Vec<u16> =
+            script.links_of(card).iter().flat_map(|l| [l.from.0, l.kind.0, l.to.0]).collect();
         assert_eq!(ours, words[..count]);
     }
-    assert_eq!((0..60).map(|card| script.links_of(card).len()).sum::<usize>(), script.links().len());
+    assert_eq!((0..60).map(|card| script.links_of(Card(card)).len()).sum::<usize>(), script.links().len());
 }

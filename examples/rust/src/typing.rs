@@ -1,6 +1,6 @@
 //! The two typings of a script.
 
-use crate::Refusal;
+use crate::{Card, Refusal, Shape};
 
 /// Which shapes each card has.
 #[derive(Clone, Debug, PartialEq, Eq)]
@@ -17,14 +17,14 @@ impl Typing {
     }
 
     /// Whether a card has a shape; not if there is no such card or shape.
-    pub fn has(&self, card: u16, shape: u16) -> bool {
-        let place = usize::from(card) * usize::from(self.shapes) + usize::from(shape);
-        card < self.cards && shape < self.shapes && self.grid[place] == 1
+    pub fn has(&self, card: Card, shape: Shape) -> bool {
+        let place = usize::from(card.0) * usize::from(self.shapes) + usize::from(shape.0);
+        card.0 < self.cards && shape.0 < self.shapes && self.grid[place] == 1
     }
 
     /// The shapes of a card, ascending.
-    pub fn shapes_of(&self, card: u16) -> impl Iterator<Item = u16> + '_ {
-        (0..self.shapes).filter(move |&shape| self.has(card, shape))
+    pub fn shapes_of(&self, card: Card) -> impl Iterator<Item = Shape> + '_ {
+        (0..self.shapes).map(Shape).filter(move |&shape| self.has(card, shape))
     }
 
     /// How many cards there are.

@@ -1,7 +1,7 @@
 //! The library's tidying of booking lists against its reading of the sheet, which is part of it.
 
 use crate::runs;
-use prep::raw::{self, TidyAnswer};
+use prep::raw::{self, WrittenAnswer};
 use prep_tools::sheet::Files;
 
 /// What the words of the buffer are before the first call.
@@ -51,10 +51,10 @@ fn is_tidied(listed: &Listed, buffer: &mut [u16]) -> bool {
     let files = &listed.files;
     let answer = raw::tidy_bookings(&files.template, &files.script, &files.bookings, buffer);
     let (written, rest) = buffer.split_at(listed.tidied.len());
-    let owed = TidyAnswer {
+    let owed = WrittenAnswer {
         number: 0,
         place: 0,
-        words: written.len(),
+        written: written.len(),
     };
     answer == owed && written == listed.tidied && rest.iter().all(|&word| word == UNTOUCHED)
 }

@@ -1,5 +1,5 @@
-//! The legend below a picture: the kinds, signs and shapes that are on the page, in as few rows as the page's width
-//! allows. Shapes that take too many rows stand on pages of their own.
+//! The legend below a picture: the kinds, signs and shapes that are on the page, and the shapes that these name, in as
+//! few rows as the page's width allows. Shapes that take too many rows stand on pages of their own.
 
 use super::cards::INK;
 use super::contents::Content;
@@ -51,16 +51,14 @@ pub struct Legend {
 impl Legend {
     /// The legend of a page. The links in `blamed` are those from a desk's booking to its unmet pair.
     pub fn new(sheet: &Sheet, plan: &Plan, contents: &[Content], blamed: &[Arrow]) -> Legend {
-        let kinds: BTreeSet<usize> = plan.graph.arrows.iter().map(|arrow| arrow.kind).collect();
         let chips = contents.iter().flat_map(|content| &content.chips);
-        let shapes: BTreeSet<usize> = chips.flat_map(|chip| chip.shapes.clone()).collect();
-        let shapes: Vec<usize> = shapes.into_iter().collect();
+        let shapes = with_named(sheet, chips.flat_map(|chip| chip.shapes.clone()).collect());
         let name = |kind: usize| {
             let name = cut_off(&sheet.text.kinds[kind].text, WIDEST_KIND, KIND_FACE);
             (kind, name)
         };
         let mut legend = Legend {
-            kinds: kinds.into_iter().map(name).collect(),
+            kinds: kinds_of(plan, contents).into_iter().map(name).collect(),
             signs: signs(contents, plan.arrows().any(|arrow| blamed.contains(&arrow))),
             shapes: shape_lines(sheet, &shapes, SHAPE_SIGNS),
             rows: 0,
@@ -126,6 +124,29 @@ impl Legend {
             right = x - GAP;
         }
     }
+}
+
+/// The kinds of a page's arrows, and of the links that stand in lines beside them. Where all links do, each line says
+/// its kind.
+fn kinds_of(plan: &Plan, contents: &[Content]) -> BTreeSet<usize> {
+    let arrows = plan.graph.arrows.iter().map(|arrow| arrow.kind);
+    let mut kinds: BTreeSet<usize> = arrows.collect();
+    if !kinds.is_empty() {
+        let lines = contents.iter().flat_map(|content| &content.lines);
+        kinds.extend(lines.filter_map(|line| line.kind));
+    }
+    kinds
+}
+
+/// Some shapes, and those that they name for the cards at the far ends of links, and so on.
+fn with_named(sheet: &Sheet, mut shapes: BTreeSet<usize>) -> Vec<usize> {
+    let named = sheet.setting.template.named();
+    let mut waiting: Vec<usize> = shapes.iter().copied().collect();
+    while let Some(shape) = waiting.pop() {
+        let far = named[shape].values().iter().flatten().map(|far| far.index());
+        waiting.extend(far.filter(|far| shapes.insert(*far)));
+    }
+    shapes.into_iter().collect()
 }
 
 /// An arrow of a kind, and its name.

@@ -1,6 +1,7 @@
 //! Links that aren't drawn as arrows stand as lines below their cards: those to other pages, and those of a page
 //! that has too many. A card also says from which pages links lead to it.
 
+use super::answers::Answers;
 use super::graph::{Arrow, Graph};
 use super::measure::LIST;
 use super::page::counted;
@@ -24,6 +25,8 @@ pub const INDENT: f64 = 2.0;
 pub struct Whole<'a> {
     /// The sheet.
     pub sheet: &'a Sheet,
+    /// What it comes to.
+    pub answers: &'a Answers,
     /// All its cards and links.
     pub graph: Graph,
     /// The page of each card, from 1; none if it isn't drawn.

@@ -258,20 +258,26 @@ fn shape(sheet: &Sheet, pair: Pair) -> Option<Shown> {
     })
 }
 
-/// One chip for many that only say that the largest typing has all shapes.
+/// One chip for many that only say that a typing has all shapes: some desk's smallest, or else the largest.
 fn together(shown: Vec<Shown>, count: usize) -> Vec<Shown> {
     let has = |one: &&Shown| matches!(one.mark, Mark::Smallest | Mark::Largest);
     if count < MANY_SHAPES || shown.iter().filter(has).count() < count {
         return shown;
     }
-    let plain = |one: &Shown| one.mark == Mark::Largest && one.booked == [false; 2];
-    let mut kept: Vec<Shown> = shown.into_iter().filter(|one| !plain(one)).collect();
-    kept.push(Shown {
-        mark: Mark::Largest,
-        desks: [false; 2],
-        booked: [false; 2],
+    let all_are = |so: fn(&Shown) -> Desks| [0, 1].map(|desk| shown.iter().all(|one| so(one)[desk]));
+    let desks = all_are(|one| one.desks);
+    let all = Shown {
+        mark: match desks {
+            [false, false] => Mark::Largest,
+            _ => Mark::Smallest,
+        },
+        desks,
+        booked: all_are(|one| one.booked),
         shapes: (0..count).collect(),
         text: format!("all {count} shapes"),
-    });
+    };
+    let says_more = |one: &Shown| (one.mark, one.desks, one.booked) != (all.mark, all.desks, all.booked);
+    let mut kept: Vec<Shown> = shown.into_iter().filter(says_more).collect();
+    kept.push(all);
     kept
 }

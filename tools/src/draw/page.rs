@@ -1,5 +1,6 @@
 //! The page: title, picture, legend and notes, on A3 landscape.
 
+use super::answers::Answers;
 use super::cards::{FAULT, INK, PALE, PAPER};
 use super::graph::Arrow;
 use super::layout::Layout;
@@ -7,9 +8,7 @@ use super::legend::Legend;
 use super::picture::picture;
 use super::svg::{escape, short, Anchor, Svg, Words};
 use super::wrap::{wrap, Face};
-use crate::desk::Desk;
 use crate::text::check::Sheet;
-use crate::typing::Smallest;
 
 /// The width of the page.
 pub const WIDTH: f64 = 420.0;
@@ -36,8 +35,6 @@ const TITLE: [Face; 2] = [
         bold: true,
     },
 ];
-/// The letters of the answers below it.
-const ANSWERS: f64 = 3.6;
 
 /// A page that is drawn.
 #[derive(Clone, Debug)]
@@ -55,6 +52,8 @@ pub struct Page {
 pub struct Around<'a> {
     /// The sheet.
     pub sheet: &'a Sheet,
+    /// What it comes to.
+    pub answers: &'a Answers,
     /// The page's number, from 1, and the count of pages.
     pub number: (usize, usize),
     /// What is left out, in words.
@@ -156,75 +155,9 @@ pub fn heading(svg: &mut Svg, around: &Around) -> f64 {
         svg.text((MARGIN, y), face.height, Anchor::Start, &style, line);
         y += face.height * 1.25;
     }
-    let below = answers(svg, around.sheet, y + 9.1 - face.height * 1.25);
+    let below = around.answers.draw(svg, y + 9.1 - face.height * 1.25);
     rule(svg, below + 4.4);
     below + 4.4
-}
-
-/// The answers, on several lines if they are long. Tells where the last line is.
-fn answers(svg: &mut Svg, sheet: &Sheet, y: f64) -> f64 {
-    let face = |bold: bool| Face {
-        height: ANSWERS,
-        bold,
-    };
-    let (left, right) = (largest(sheet), Desk::BOTH.map(|desk| smallest(sheet, desk)));
-    svg.text(
-        (MARGIN, y),
-        ANSWERS,
-        Anchor::Start,
-        &format!("fill=\"{INK}\""),
-        &left,
-    );
-    let style = |colour: &str| format!("font-weight=\"bold\" fill=\"{colour}\"");
-    let room = WIDTH - 2.0 * MARGIN;
-    let widths = right.each_ref().map(|(text, _)| face(true).width(text) + 6.0);
-    if face(false).width(&left) + widths.iter().sum::<f64>() <= room {
-        let ends = [WIDTH - MARGIN - widths[1], WIDTH - MARGIN];
-        for ((text, colour), end) in right.iter().zip(ends) {
-            svg.text((end, y), ANSWERS, Anchor::End, &style(colour), text);
-        }
-        return y;
-    }
-    let mut last = y;
-    for (text, colour) in &right {
-        for line in wrap(text, room, face(true), 3) {
-            last += 5.2;
-            svg.text((MARGIN, last), ANSWERS, Anchor::Start, &style(colour), &line);
-        }
-    }
-    last
-}
-
-/// The largest typing in words.
-fn largest(sheet: &Sheet) -> String {
-    let largest = sheet.typings.largest.0;
-    format!(
-        "{}, {}.  Largest: {}, {} struck, {} with links and no shape.",
-        counted(sheet.text.cards.len(), "card"),
-        counted(sheet.text.links.len(), "link"),
-        counted(largest.rounds, "round"),
-        counted(largest.struck, "pair"),
-        counted(largest.bare, "card")
-    )
-}
-
-/// A desk's smallest typing in words, or why there is none; and the colour of that.
-fn smallest(sheet: &Sheet, desk: Desk) -> (String, &'static str) {
-    let name = match desk {
-        Desk::Radio => "Radio",
-        Desk::Television => "Television",
-    };
-    match sheet.typings.smallest[desk.index()].0 {
-        Smallest::Pairs(pairs) => (format!("{name}'s smallest: {}.", counted(pairs, "pair")), INK),
-        Smallest::NotMet(card, shape) => {
-            let (card, shape) = (
-                sheet.text.card_title(card.index()),
-                sheet.text.shape_name(shape.index()),
-            );
-            let told = format!("{name}: “{card}” can't be {shape} (50).");
-            (told, FAULT)
-        }
-    }
 }
 
 /// A number with the word for what it counts.

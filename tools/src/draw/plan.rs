@@ -106,10 +106,8 @@ impl Plan {
     fn scale(&self, whole: &Whole, width: f64) -> f64 {
         let (contents, _) = contents(whole, self, width);
         let legend = Legend::new(whole.sheet, self, &contents, &[]);
-        let room = (
-            ROOM.0,
-            ROOM.1 - LINE * legend.rows.saturating_sub(USUAL_ROWS) as f64,
-        );
+        let more_rows = LINE * legend.rows.saturating_sub(USUAL_ROWS) as f64;
+        let room = (ROOM.0, ROOM.1 - more_rows - whole.answers.below());
         let layout = layout(whole.sheet, self, &contents, width, room.0 / room.1);
         (room.0 / layout.width).min(room.1 / layout.height)
     }

@@ -35,11 +35,6 @@ use crate::sheet::{self, Files};
 use crate::typing::judge::{self, judge_by_choices};
 use crate::typing::{self, bookings, Pair, Setting};
 
-/// The most words of a file of a case.
-pub const MOST_FILE_WORDS: usize = 32_767;
-/// The most bytes of a grid of a case.
-pub const MOST_GRID_BYTES: usize = 65_535;
-
 /// One sheet with a desk and a grid, and a name that says how they were made.
 #[derive(Clone, PartialEq, Eq, Debug)]
 pub struct JudgeCase {
@@ -89,20 +84,6 @@ impl JudgeCase {
         judge::answer(judge_by_choices(
             template, script, bookings, self.desk, &self.grid,
         ))
-    }
-
-    /// The three files, the desk, which is one word, and the grid, each after its length in two bytes, low byte first:
-    /// a count of words, and of bytes for the grid.
-    pub fn bytes(&self) -> Result<Vec<u8>, String> {
-        if self.files.longest() > MOST_FILE_WORDS || self.grid.len() > MOST_GRID_BYTES {
-            return Err(format!("the case {} is too long", self.name));
-        }
-        let mut bytes = self.files.bytes();
-        for word in [1, self.desk, self.grid.len() as u16] {
-            bytes.extend(word.to_le_bytes());
-        }
-        bytes.extend(&self.grid);
-        Ok(bytes)
     }
 }
 

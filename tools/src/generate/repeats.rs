@@ -3,7 +3,7 @@
 pub mod fixed;
 
 use crate::random::Random;
-use crate::typing::bookings::MOST_BOOKINGS;
+use crate::typing::bookings::{self, MOST_BOOKINGS};
 
 /// The words of a booking, which may be wrong: a desk, a card and a shape.
 type Booking = [u16; 3];
@@ -37,11 +37,12 @@ pub fn put(random: &mut Random, words: &mut Vec<u16>, cards: u16, shapes: u16) {
 
 /// The bookings of a list, at least one and not so many that none can be put in.
 fn listed(words: &[u16]) -> Vec<Booking> {
-    let (listed, _) = words.get(1..).unwrap_or_default().as_chunks::<3>();
-    match listed {
-        [] => vec![[0, 0, 0]],
-        _ => listed[..listed.len().min(usize::from(MOST_BOOKINGS) - 2)].to_vec(),
+    let mut listed = bookings::cut(words);
+    listed.truncate(usize::from(MOST_BOOKINGS) - 2);
+    if listed.is_empty() {
+        listed.push([0, 0, 0]);
     }
+    listed
 }
 
 /// The words of a list.

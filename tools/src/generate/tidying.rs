@@ -10,7 +10,6 @@ pub mod lists;
 pub mod orders;
 pub mod samples;
 
-use super::judging::MOST_FILE_WORDS;
 use super::stored::without_desks;
 use super::{desks, edges, repeats, Case};
 use crate::random::Random;
@@ -53,16 +52,6 @@ impl TidyCase {
         } = &self.files;
         let words = tidy(template, script, bookings, &mut buffer);
         answer(words, &buffer)
-    }
-
-    /// The three files, each after its count of words in two bytes, low byte first, and how many words the buffer has.
-    pub fn bytes(&self) -> Result<Vec<u8>, String> {
-        if self.files.longest().max(self.words) > MOST_FILE_WORDS {
-            return Err(format!("the case {} is too long", self.name));
-        }
-        let mut bytes = self.files.bytes();
-        bytes.extend((self.words as u16).to_le_bytes());
-        Ok(bytes)
     }
 }
 

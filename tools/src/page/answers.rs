@@ -12,7 +12,8 @@ use crate::sheet::{self, Files};
 use crate::template;
 use crate::typing::judge::{self, judge_by_choices};
 use crate::typing::{
-    self, asked, bookings, largest_by_rounds, met, smallest, tidying, Pair, Setting, Smallest,
+    self, asked, bookings, both_by_rounds, largest_by_rounds, met, smallest, tidying, Largest, Pair, Setting,
+    Smallest,
 };
 
 /// What a lent grid is filled with first.
@@ -27,6 +28,7 @@ pub fn answer(question: &Question) -> Result<String, String> {
         Operation::Links => Ok(links(question)),
         Operation::Largest => largest(question),
         Operation::Smallest => smallest_typing(question),
+        Operation::Both => both_typings(question),
         Operation::Sheet => Ok(lines(&sheet::print(&files(question).bytes()))),
         Operation::Input => Ok(lines(&sheet::print(&question.input))),
         Operation::Round => round(question),
@@ -35,6 +37,8 @@ pub fn answer(question: &Question) -> Result<String, String> {
         Operation::Sound | Operation::Holds | Operation::Between => about_typing(question),
         Operation::Judge => Ok(judged(question)),
         Operation::Tidy => Ok(tidied(question)),
+        Operation::Has => has_shape(question),
+        Operation::Booked => booked_is_met(question),
     }
 }
 
@@ -96,15 +100,18 @@ fn links(question: &Question) -> String {
 fn largest(question: &Question) -> Result<String, String> {
     let mut grid = vec![FILLED; question.bytes];
     match largest_by_rounds(&question.template, &question.script, &mut grid) {
-        Ok(answer) => {
-            let head = format!("largest {} {} {}\n", answer.rounds, answer.struck, answer.bare);
-            Ok(lines(&(head + &cards(question, &grid)?)))
-        }
+        Ok(answer) => largest_shown(question, answer, &grid),
         Err(refusal) => Ok(untouched(&grid, FILLED, refusal)),
     }
 }
 
-/// The smallest typing; a refusal has to leave the grid as it was, and 50 has to leave it all 0.
+/// The answer for the largest typing, with its cards.
+fn largest_shown(question: &Question, answer: Largest, grid: &[u8]) -> Result<String, String> {
+    let head = format!("largest {} {} {}\n", answer.rounds, answer.struck, answer.bare);
+    Ok(lines(&(head + &cards(question, grid)?)))
+}
+
+/// The smallest typing; a refusal has to leave the grid as it was.
 fn smallest_typing(question: &Question) -> Result<String, String> {
     let mut grid = vec![FILLED; question.bytes];
     match smallest(
@@ -114,16 +121,45 @@ fn smallest_typing(question: &Question) -> Result<String, String> {
         question.desk,
         &mut grid,
     ) {
-        Ok(Smallest::Pairs(pairs)) => {
-            let head = format!("smallest {pairs}\n");
-            Ok(lines(&(head + &cards(question, &grid)?)))
-        }
-        Ok(Smallest::NotMet(card, shape)) if grid.iter().all(|byte| *byte == 0) => {
-            Ok(format!("smallest no {} {}", card.0, shape.0))
-        }
-        Ok(Smallest::NotMet(..)) => Ok("50, but the grid isn't all 0".to_string()),
+        Ok(answer) => smallest_shown(question, answer, &grid),
         Err(refusal) => Ok(untouched(&grid, FILLED, refusal)),
     }
+}
+
+/// The answer for the smallest typing, with its cards; 50 has to leave the grid all 0.
+fn smallest_shown(question: &Question, answer: Smallest, grid: &[u8]) -> Result<String, String> {
+    Ok(match answer {
+        Smallest::Pairs(pairs) => {
+            let head = format!("smallest {pairs}\n");
+            lines(&(head + &cards(question, grid)?))
+        }
+        Smallest::NotMet(card, shape) if grid.iter().all(|byte| *byte == 0) => {
+            format!("smallest no {} {}", card.0, shape.0)
+        }
+        Smallest::NotMet(..) => "50, but the grid isn't all 0".to_string(),
+    })
+}
+
+/// Both typings, the largest first. It is there with 50 too.
+fn both_typings(question: &Question) -> Result<String, String> {
+    let Question {
+        template,
+        script,
+        bookings,
+        desk,
+        ..
+    } = question;
+    let both = match both_by_rounds(template, script, bookings, *desk) {
+        Ok(both) => both,
+        Err(refusal) => return Ok(refused(refusal)),
+    };
+    let (largest, smallest) = (both.largest, both.smallest);
+    if [question.largest, question.smallest] != [largest.1.len(), smallest.1.len()] {
+        return Ok(refused(Refusal::at(40, 0)));
+    }
+    let largest = largest_shown(question, largest.0, &largest.1)?;
+    let smallest = smallest_shown(question, smallest.0, &smallest.1)?;
+    Ok(format!("{largest} / {smallest}"))
 }
 
 /// The tidied list; a refusal has to leave the buffer as it was.
@@ -207,6 +243,25 @@ fn pair_is_met(question: &Question) -> Result<String, String> {
     }
     let is_met = met::met_by_choices(&setting, grid, (Card(question.card), Shape(question.shape)));
     Ok(if is_met { "met" } else { "not met" }.to_string())
+}
+
+/// Whether a card has a shape in the largest typing.
+fn has_shape(question: &Question) -> Result<String, String> {
+    let setting = setting(question)?;
+    let (_, grid) = typing::rounds::largest(&setting);
+    let place = setting.place((Card(question.card), Shape(question.shape)));
+    Ok(yes(grid[place] == 1))
+}
+
+/// Whether what a desk books is met.
+fn booked_is_met(question: &Question) -> Result<String, String> {
+    let setting = setting(question)?;
+    let (answer, _) = typing::closure::smallest(&setting, &booked(question, &setting)?);
+    Ok(yes(matches!(answer, Smallest::Pairs(_))))
+}
+
+fn yes(is_so: bool) -> String {
+    if is_so { "yes" } else { "no" }.to_string()
 }
 
 /// What is said about a grid, each pair by trying every choice.

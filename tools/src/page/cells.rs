@@ -42,6 +42,13 @@ pub fn bytes(names: &Names, cell: &str) -> Result<Vec<u8>, String> {
     Ok(bytes)
 }
 
+/// A byte, as two digits in base sixteen.
+pub fn hex_byte(token: &str) -> Result<u8, String> {
+    let is_hex = token.len() == 2 && token.bytes().all(|sign| sign.is_ascii_hexdigit());
+    let byte = is_hex.then(|| u8::from_str_radix(token, 16).ok()).flatten();
+    byte.ok_or(format!("{token:?} isn't a byte in hex"))
+}
+
 /// The bytes of a grid that is judged, in base ten; `w*n` is n bytes w, `-` or nothing at all is no bytes.
 pub fn judged_grid(cell: &str) -> Result<Vec<u8>, String> {
     let byte = |word: u16| u8::try_from(word).map_err(|_| format!("{word} isn't a byte"));

@@ -1,9 +1,11 @@
-//! The examples of a page. A table with a column `answer` holds one in each row; which operation it asks is told by its
-//! other columns. A block that starts with "```sheet" holds one sheet. A table with the columns `name` and `words`
-//! gives names to words. Every other table and block is only read by people.
+//! The examples of a page. A table with a column `answer` holds one in each row; which operation it asks is told by
+//! its other columns. A block that starts with "```sheet" holds one sheet, one that starts with "```hex" a printer's
+//! input. A block that starts with "```text" holds a text, and tables below it ask about that by names. A table with
+//! the columns `name` and `words` gives names to words. Every other table and block is only read by people.
 
 use super::cells::{self, Names};
 use super::markdown::{self, Item, Row};
+use super::texts::Named;
 
 /// What a row asks.
 #[derive(Clone, Copy, PartialEq, Eq, Debug, Default)]
@@ -20,6 +22,8 @@ pub enum Operation {
     Largest,
     /// *Smallest*, into a grid of some bytes.
     Smallest,
+    /// *Both typings*, into two grids of some bytes.
+    Both,
     /// *The sheet printer* on the three files.
     #[default]
     Sheet,
@@ -41,10 +45,14 @@ pub enum Operation {
     Judge,
     /// *Tidy bookings*, into a buffer of some words.
     Tidy,
+    /// Whether a card has a shape in the largest typing.
+    Has,
+    /// Whether what a desk books is met.
+    Booked,
 }
 
 /// The columns that ask, in the order of this list, and what they ask.
-const ASKED: [(&str, Operation); 21] = [
+const ASKED: [(&str, Operation); 22] = [
     ("template", Operation::Template),
     ("template counts", Operation::Fit),
     ("template shape counts", Operation::Fit),
@@ -53,6 +61,7 @@ const ASKED: [(&str, Operation); 21] = [
     ("template script bytes", Operation::Largest),
     ("template script bookings bytes", Operation::Smallest),
     ("template script bookings desk bytes", Operation::Smallest),
+    ("template script bookings desk smallest largest", Operation::Both),
     ("template script bookings", Operation::Sheet),
     ("input", Operation::Input),
     ("template script round", Operation::Round),
@@ -68,10 +77,18 @@ const ASKED: [(&str, Operation); 21] = [
     ("template script bookings words", Operation::Tidy),
 ];
 
+/// The columns that ask about the text above the table, in the order of the list below.
+const ASKED_BY_NAMES: [(&str, Operation); 4] = [
+    ("", Operation::Template),
+    ("shape links", Operation::Fit),
+    ("shape card", Operation::Has),
+    ("desk", Operation::Booked),
+];
+
 /// The columns that ask, in the order in which `ASKED` names them.
-const COLUMNS: [&str; 16] = [
-    "input", "template", "script", "bookings", "desk", "shape", "counts", "card", "bytes", "round", "typing",
-    "lower", "upper", "closure", "grid", "words",
+const COLUMNS: [&str; 19] = [
+    "input", "template", "script", "bookings", "desk", "shape", "counts", "links", "card", "bytes",
+    "smallest", "largest", "round", "typing", "lower", "upper", "closure", "grid", "words",
 ];
 
 /// The columns that only people read.
@@ -98,6 +115,10 @@ pub struct Question {
     pub card: u16,
     /// The bytes of the grid that is lent.
     pub bytes: usize,
+    /// The bytes of the grids that are lent for both typings: the smallest's.
+    pub smallest: usize,
+    /// And the largest's.
+    pub largest: usize,
     /// How many rounds.
     pub round: usize,
     /// A typing, and the two that it may lie between.
@@ -131,30 +152,110 @@ pub struct Example {
 
 /// The examples of a page. An error starts with a line and a colon.
 pub fn read(page: &str) -> Result<Vec<Example>, String> {
-    let mut names = Names::new();
-    let mut examples = Vec::new();
+    let mut reader = Reader::default();
     for item in markdown::items(page)? {
         match item {
-            Item::Table(columns, rows) if has(&columns, "answer") => {
+            Item::Table(columns, rows) => {
                 for row in rows {
                     let told = |error| format!("{}: {error}", row.line);
-                    examples.push(example(&names, &columns, &row).map_err(told)?);
+                    reader.row(&columns, &row).map_err(told)?;
                 }
             }
-            Item::Table(columns, rows) if has(&columns, "name") && has(&columns, "words") => {
-                for row in rows {
-                    let told = |error| format!("{}: {error}", row.line);
-                    let words = cells::words(&names, cell(&columns, &row, "words")).map_err(told)?;
-                    names.insert(cell(&columns, &row, "name").to_string(), words);
-                }
+            Item::Block(word, line, lines) => {
+                let told = |error| format!("{line}: {error}");
+                reader.block(&word, line, &lines).map_err(told)?;
             }
-            Item::Block(word, line, lines) if word == "sheet" => {
-                examples.push(sheet(&names, line, &lines).map_err(|error| format!("{line}: {error}"))?);
-            }
-            Item::Table(..) | Item::Block(..) => {}
         }
     }
-    Ok(examples)
+    reader.end_text()?;
+    Ok(reader.examples)
+}
+
+/// What was read so far.
+#[derive(Default)]
+struct Reader {
+    names: Names,
+    text: Option<Named>,
+    examples: Vec<Example>,
+}
+
+impl Reader {
+    fn row(&mut self, columns: &[String], row: &Row) -> Result<(), String> {
+        if has(columns, "answer") {
+            let example = self.example(columns, row)?;
+            self.examples.push(example);
+        } else if has(columns, "name") && has(columns, "words") {
+            let words = cells::words(&self.names, cell(columns, row, "words"))?;
+            let name = cell(columns, row, "name").to_string();
+            self.names.insert(name, words);
+        }
+        Ok(())
+    }
+
+    fn block(&mut self, word: &str, line: usize, lines: &[String]) -> Result<(), String> {
+        match word {
+            "sheet" => self.examples.push(sheet(&self.names, line, lines)?),
+            "hex" => self.examples.push(hex(line, lines)?),
+            "text" => {
+                self.end_text()?;
+                self.text = Some(Named::read(line, lines)?);
+            }
+            _ => {}
+        }
+        Ok(())
+    }
+
+    /// A text that nobody asks about would show nothing.
+    fn end_text(&self) -> Result<(), String> {
+        match &self.text {
+            Some(text) if !text.is_asked => Err(format!("{}: nothing is asked about the text", text.line)),
+            _ => Ok(()),
+        }
+    }
+
+    /// The example of a row.
+    fn example(&mut self, columns: &[String], row: &Row) -> Result<Example, String> {
+        let known = |column: &&String| {
+            let column = column.as_str();
+            column == "answer" || COLUMNS.contains(&column) || PROSE.contains(&column)
+        };
+        if let Some(column) = columns.iter().find(|column| !known(column)) {
+            return Err(format!("no example has a column {column:?}"));
+        }
+        let asking = COLUMNS.into_iter().filter(|name| has(columns, name));
+        let cells: Vec<(&str, &str)> = asking.map(|name| (name, cell(columns, row, name))).collect();
+        let some = |name| has(columns, name).then(|| cell(columns, row, name).to_string());
+        Ok(Example {
+            line: row.line,
+            question: self.question(&cells)?,
+            answer: cell(columns, row, "answer").to_string(),
+            number: some("number"),
+            sample: some("sample"),
+        })
+    }
+
+    /// What the cells of the columns that ask, ask.
+    fn question(&mut self, cells: &[(&str, &str)]) -> Result<Question, String> {
+        let asked: Vec<&str> = cells.iter().map(|(name, _)| *name).collect();
+        let asked = asked.join(" ");
+        let of = |list: &[(&str, Operation)]| {
+            let found = list.iter().find(|(columns, _)| *columns == asked);
+            found.map(|(_, operation)| *operation)
+        };
+        if let (Some(operation), Some(text)) = (of(&ASKED_BY_NAMES), &mut self.text) {
+            text.is_asked = true;
+            return text.question(operation, cells);
+        }
+        let operation = of(&ASKED).ok_or(format!("nothing is asked by the columns {asked:?}"))?;
+        let mut question = Question {
+            operation,
+            ..Question::default()
+        };
+        for (name, cell) in cells {
+            question.set(&self.names, name, cell)?;
+        }
+        Ok(question)
+    }
 }
 
 fn has(columns: &[String], name: &str) -> bool {
@@ -165,37 +266,6 @@ fn has(columns: &[String], name: &str) -> bool {
 fn cell<'row>(columns: &[String], row: &'row Row, name: &str) -> &'row str {
     let place = columns.iter().position(|column| column == name);
     place.map_or("", |place| &row.cells[place])
-}
-
-/// The example of a row.
-fn example(names: &Names, columns: &[String], row: &Row) -> Result<Example, String> {
-    let known = |column: &&String| {
-        column.as_str() == "answer" || COLUMNS.contains(&column.as_str()) || PROSE.contains(&column.as_str())
-    };
-    if let Some(column) = columns.iter().find(|column| !known(column)) {
-        return Err(format!("no example has a column {column:?}"));
-    }
-    let asking: Vec<&str> = COLUMNS.into_iter().filter(|name| has(columns, name)).collect();
-    let asked = asking.join(" ");
-    let (_, operation) = ASKED
-        .into_iter()
-        .find(|(columns, _)| *columns == asked)
-        .ok_or(format!("nothing is asked by the columns {asked:?}"))?;
-    let mut question = Question {
-        operation,
-        ..Question::default()
-    };
-    for name in asking {
-        question.set(names, name, cell(columns, row, name))?;
-    }
-    let some = |name| has(columns, name).then(|| cell(columns, row, name).to_string());
-    Ok(Example {
-        line: row.line,
-        question,
-        answer: cell(columns, row, "answer").to_string(),
-        number: some("number"),
-        sample: some("sample"),
-    })
 }
 
 impl Question {
@@ -211,6 +281,8 @@ impl Question {
             "shape" => self.shape = cells::number(cell)?,
             "card" => self.card = cells::number(cell)?,
             "bytes" => self.bytes = cells::number(cell)?,
+            "smallest" => self.smallest = cells::number(cell)?,
+            "largest" => self.largest = cells::number(cell)?,
             "round" => self.round = cells::number(cell)?,
             "typing" => self.typing = cells::grid(cell)?,
             "lower" => self.lower = cells::grid(cell)?,
@@ -226,8 +298,7 @@ impl Question {
 /// The example of a block: lines that start with `template`, `script` and `bookings`, a line `prints`, and then the
 /// lines that the printer writes.
 fn sheet(names: &Names, line: usize, lines: &[String]) -> Result<Example, String> {
-    let prints = lines.iter().position(|text| text == "prints");
-    let (files, printed) = lines.split_at(prints.ok_or("the sheet has no line `prints`")?);
+    let (files, answer) = printed(lines)?;
     let mut question = Question::default();
     for text in files {
         let (name, words) = text.split_once(' ').unwrap_or((text, ""));
@@ -239,8 +310,32 @@ fn sheet(names: &Names, line: usize, lines: &[String]) -> Result<Example, String
     Ok(Example {
         line,
         question,
-        answer: printed[1..].join(" / "),
+        answer,
         number: None,
         sample: None,
     })
+}
+
+/// The example of a block: lines of bytes in hex, a line `prints`, and then the lines that the printer writes.
+fn hex(line: usize, lines: &[String]) -> Result<Example, String> {
+    let (bytes, answer) = printed(lines)?;
+    let input = bytes.iter().flat_map(|text| text.split_whitespace());
+    Ok(Example {
+        line,
+        question: Question {
+            operation: Operation::Input,
+            input: input.map(cells::hex_byte).collect::<Result<_, _>>()?,
+            ..Question::default()
+        },
+        answer,
+        number: None,
+        sample: None,
+    })
+}
+
+/// The lines of a block before its line `prints`, and those behind it as an answer.
+fn printed(lines: &[String]) -> Result<(&[String], String), String> {
+    let prints = lines.iter().position(|text| text == "prints");
+    let (asked, printed) = lines.split_at(prints.ok_or("the sheet has no line `prints`")?);
+    Ok((asked, printed[1..].join(" / ")))
 }

@@ -27,8 +27,8 @@ pub fn input(question: &Question) -> Option<Vec<u8>> {
             bookings: vec![0],
             ..files
         },
-        Operation::Smallest if is_asked_rightly(question) => files,
-        Operation::Sheet => files,
+        Operation::Smallest | Operation::Both if is_asked_rightly(question) => files,
+        Operation::Sheet | Operation::Has | Operation::Booked => files,
         Operation::Input => return Some(question.input.clone()),
         _ => return None,
     };
@@ -57,9 +57,24 @@ pub fn said(question: &Question, text: &str) -> String {
         Operation::Template | Operation::Script => "accepted".to_string(),
         Operation::Fit if of_desk(0) == "smallest no 0 0" => "no".to_string(),
         Operation::Fit if !of_desk(0).starts_with("smallest no") => "yes".to_string(),
+        Operation::Has => has_shape(question, &largest),
+        Operation::Booked if of_desk(question.desk).starts_with("smallest no") => "no".to_string(),
+        Operation::Booked => "yes".to_string(),
         Operation::Largest => largest,
         Operation::Smallest => of_desk(question.desk),
+        Operation::Both => format!("{largest} / {}", of_desk(question.desk)),
         _ => lines(text),
+    }
+}
+
+/// Whether the card of a question has its shape in the lines of the largest typing.
+fn has_shape(question: &Question, largest: &str) -> String {
+    let start = format!("card {}:", question.card);
+    let card = largest.split(" / ").find_map(|line| line.strip_prefix(&start));
+    let shape = question.shape.to_string();
+    match card {
+        Some(shapes) if shapes.split(' ').any(|word| word == shape) => "yes".to_string(),
+        _ => "no".to_string(),
     }
 }
 
@@ -67,15 +82,20 @@ fn is_refused(text: &str) -> bool {
     text.starts_with("refused ")
 }
 
-/// Whether the desk and the size of the lent grid are right, or something is refused before them: a printer asks for
+/// Whether the desk and the sizes of the lent grids are right, or something is refused before them: a printer asks for
 /// both desks and lends its own grids.
 fn is_asked_rightly(question: &Question) -> bool {
     let Ok(setting) = Setting::read(&question.template, &question.script) else {
         return true;
     };
-    let is_booked = question.operation == Operation::Smallest;
+    let is_booked = question.operation != Operation::Largest;
     let bookings_are_refused = is_booked && bookings::read(&setting, &question.bookings).is_err();
-    bookings_are_refused || asked(question.desk).is_ok() && question.bytes == setting.size()
+    let lent = match question.operation {
+        Operation::Both => vec![question.smallest, question.largest],
+        _ => vec![question.bytes],
+    };
+    let is_sized = lent.iter().all(|bytes| *bytes == setting.size());
+    bookings_are_refused || asked(question.desk).is_ok() && is_sized
 }
 
 /// A sheet whose bookings are met exactly if the counts fit; none if something is refused or there are too many.

@@ -1,7 +1,7 @@
-//! Questions for *Fit counts*, answered by enumeration of bags: fixed ones, and small random ones.
+//! Questions for *Fit counts*: fixed ones, and random ones that are small enough for enumeration of bags.
 
-use super::{one_shape, opened, spaced, turned};
-use crate::fit::{self, intervals::fits, lines::written};
+use super::{one_shape, opened, turned};
+use crate::fit::intervals::fits;
 use crate::generate::arriving::GUESTS;
 use crate::generate::parts::{draw, outgoing, small_bounds, Drawn, PartMaker};
 use crate::generate::{openings, runs};
@@ -210,20 +210,9 @@ fn drawn_counts(random: &mut Random, shape: &Definition, kinds: u16) -> Vec<u16>
     counts.values().to_vec()
 }
 
-/// One line per question, answered by enumeration of bags: the fixed ones first, then random ones.
-pub fn text(seed: u64, count: usize) -> String {
+/// So many questions of a seed: the fixed ones first, then random ones.
+pub fn questions(seed: u64, count: usize) -> impl Iterator<Item = Question> {
     let mut random = Random::new(seed);
-    let any = std::iter::repeat_with(|| question(&mut random));
-    let mut text = String::new();
-    for question in fixed().into_iter().chain(any).take(count) {
-        let answer = fit::fit_by_bags(&question.template, question.shape, &question.counts);
-        text += &format!(
-            "T {} | {} | {} | {}\n",
-            spaced(&question.template),
-            question.shape,
-            spaced(&question.counts),
-            written(answer)
-        );
-    }
-    text
+    let any = std::iter::repeat_with(move || question(&mut random));
+    fixed().into_iter().chain(any).take(count)
 }

@@ -13,27 +13,28 @@ pub struct Brackets {
 }
 
 impl Brackets {
-    /// Notes a sign, which may open or close a bracket.
-    pub fn note(&mut self, sign: char, spot: Spot) -> Result<(), Fault> {
+    /// Notes a sign, which may open or close a bracket, and tells what is wrong with that. A sign that closes nothing
+    /// is passed over; one that closes an outer bracket closes those inside it too.
+    pub fn note(&mut self, sign: char, spot: Spot) -> Option<Fault> {
         match sign {
             '(' | '[' => {
-                if self.open.len() == MOST_OPEN {
-                    let message = format!("more than {MOST_OPEN} brackets lie within each other here");
-                    return Err(Fault::at(spot, message));
-                }
                 self.open.push((sign, spot));
+                let message = || format!("more than {MOST_OPEN} brackets lie within each other here");
+                (self.open.len() == MOST_OPEN + 1).then(|| Fault::at(spot, message()))
             }
             ')' | ']' => match self.open.pop() {
-                None => return Err(Fault::at(spot, format!("this `{sign}` closes nothing"))),
+                None => Some(Fault::at(spot, format!("this `{sign}` closes nothing"))),
                 Some((opening, start)) if closing(opening) != sign => {
+                    if self.open.last().is_some_and(|(outer, _)| closing(*outer) == sign) {
+                        self.open.pop();
+                    }
                     let message = format!("this `{opening}` isn't closed before the `{sign}` at {spot}");
-                    return Err(Fault::at(start, message));
+                    Some(Fault::at(start, message))
                 }
-                Some(_) => {}
+                Some(_) => None,
             },
-            _ => {}
+            _ => None,
         }
-        Ok(())
     }
 
     /// Whether none is open.
@@ -41,12 +42,14 @@ impl Brackets {
         self.open.is_empty()
     }
 
-    /// The fault of the innermost bracket that is still open at the end.
-    pub fn end(&self) -> Result<(), Fault> {
-        match self.open.last() {
-            Some((sign, spot)) => Err(Fault::at(*spot, format!("this `{sign}` is never closed"))),
-            None => Ok(()),
-        }
+    /// The fault of the innermost bracket that is still open where another statement starts, or at the text's end.
+    pub fn end(&self, next: Option<Spot>) -> Option<Fault> {
+        let (sign, start) = self.open.last()?;
+        let message = match next {
+            Some(spot) => format!("this `{sign}` isn't closed before {spot}"),
+            None => format!("this `{sign}` is never closed"),
+        };
+        Some(Fault::at(*start, message))
     }
 }
 

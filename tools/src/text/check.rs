@@ -5,6 +5,7 @@ use super::form::Form;
 use super::load::load_text;
 use super::{report, Spot, Text};
 use crate::desk::Desk;
+use crate::numbers::{Card, Shape};
 use crate::typing::bookings::{self, Booking};
 use crate::typing::{Pair, Setting, Smallest, Typings};
 
@@ -36,6 +37,21 @@ impl Sheet {
     /// Whether the pair is in a grid.
     pub fn has(&self, grid: &[u8], pair: Pair) -> bool {
         grid[self.setting.place(pair)] == 1
+    }
+
+    /// The cards that have shapes in a grid, each with these shapes.
+    pub fn cards_with_shapes(&self, grid: &[u8]) -> Vec<(Card, Vec<Shape>)> {
+        let rows = grid.chunks(usize::from(self.typings.shapes));
+        let shapes = |row: &[u8]| {
+            let all = (0..self.typings.shapes).map(Shape).zip(row);
+            all.filter(|(_, byte)| **byte == 1)
+                .map(|(shape, _)| shape)
+                .collect()
+        };
+        let cards = self.setting.cards().zip(rows.map(shapes));
+        cards
+            .filter(|(_, shapes): &(Card, Vec<Shape>)| !shapes.is_empty())
+            .collect()
     }
 
     /// What a desk books.

@@ -1,10 +1,21 @@
-//! A refusal of a text's words: the word at fault, what it is for in the text's names, and its line and column.
+//! Refusals of a text's words: the word at fault, what it is for in the text's names, and its line and column.
 
 use super::compile::{Compiled, Section};
 use super::hints::hint;
+use super::listed::Listed;
+use super::refusals::refusals;
 use super::roles;
 use super::told::{Told, Word};
 use crate::refusal::Refusal;
+
+/// All refusals of a text's words, first the one that the readers answer.
+pub fn tell_all(compiled: &Compiled, first: Refusal) -> Listed<Told> {
+    let mut told = Listed::one(tell(compiled, first));
+    for refusal in refusals(compiled).into_iter().filter(|refusal| *refusal != first) {
+        told.note(|| tell(compiled, refusal));
+    }
+    told
+}
 
 /// The refusal of a text's words, told at its line and column.
 pub fn tell(compiled: &Compiled, refusal: Refusal) -> Told {

@@ -40,7 +40,10 @@ pub fn hint(compiled: &Compiled, refusal: Refusal) -> Option<String> {
         // A text gives whole files, so its words can only be too many.
         60 => format!("its words take {} bytes", compiled.files().bytes().len()),
         65 => booked_before(compiled, place)?,
-        66 => "`book` takes 0 or no number for the radio, and 1 for the television".to_string(),
+        66 if place > 0 => {
+            "`book` takes 0, radio or no word for the radio, and 1 or television for the other desk"
+                .to_string()
+        }
         _ => return None,
     })
 }

@@ -15,6 +15,8 @@ pub enum Json {
     List(Vec<Json>),
     /// An object; its fields are written in this order.
     Fields(Vec<(&'static str, Json)>),
+    /// An object whose fields have names that a sheet gives.
+    Named(Vec<(String, Json)>),
 }
 
 impl Json {
@@ -52,17 +54,21 @@ impl Display for Json {
                 }
                 out.write_char(']')
             }
-            Json::Fields(fields) => {
-                out.write_char('{')?;
-                for (index, (name, value)) in fields.iter().enumerate() {
-                    out.write_str(comma(index))?;
-                    quote(out, name)?;
-                    write!(out, ":{value}")?;
-                }
-                out.write_char('}')
-            }
+            Json::Fields(fields) => object(out, fields.iter().map(|(name, value)| (*name, value))),
+            Json::Named(fields) => object(out, fields.iter().map(|(name, value)| (name.as_str(), value))),
         }
     }
+}
+
+/// An object with these fields.
+fn object<'a>(out: &mut Formatter<'_>, fields: impl Iterator<Item = (&'a str, &'a Json)>) -> fmt::Result {
+    out.write_char('{')?;
+    for (index, (name, value)) in fields.enumerate() {
+        out.write_str(comma(index))?;
+        quote(out, name)?;
+        write!(out, ":{value}")?;
+    }
+    out.write_char('}')
 }
 
 /// What stands before a value of a list.

@@ -1,76 +1,196 @@
-//! What is said about a grid that is judged, in words.
+//! What is said about a grid that is judged.
 
 use super::check::Sheet;
 use super::form::Form;
-use super::reasons::{asked_for, own_misfit, reason};
+use super::misfit::Misfit;
+use super::reasons::{asked_for, own_misfit, reason, Reason};
 use super::report::counted;
 use super::roots::Roots;
-use super::sentences::{a_shape, because, called, far_cards, wrong};
+use super::sentences::{because, called, far_cards, wrong};
 use super::told::Told;
 use super::trouble::place;
 use super::{explain, roles};
 use crate::desk::Desk;
-use crate::numbers::{Card, Shape};
+use crate::numbers::Card;
 use crate::refusal::Refusal;
-use crate::typing::asked;
 use crate::typing::judge::{judged, Judged};
 use crate::typing::met::Need;
 use crate::typing::Pair;
 
-/// What is said about a grid of a sheet and the bookings of the desk with this number, and whether it is accepted.
-pub fn report(sheet: &Sheet, file: &str, desk: u16, (grid_file, grid): (&str, &[u8])) -> (String, bool) {
-    let desk = match asked(desk) {
-        Ok(desk) => desk,
-        Err(refusal) => {
-            let note = format!("the desk that is asked for is {desk}");
-            return (line(file, Told::without_word(refusal, Some(note))), false);
-        }
-    };
+/// What is said about a grid.
+#[derive(Clone, Debug)]
+pub enum Verdict {
+    /// It is accepted.
+    Accepted(Accepted),
+    /// Refusal 62: a pair of it isn't met under it.
+    NotMet(NotMet),
+    /// Another refusal of the grid, as a whole or at a word of the sheet: 40, 61 or 63.
+    Refused(Told),
+}
+
+/// A grid that is accepted: how many pairs it has, and those between which it lies.
+#[derive(Clone, Copy, PartialEq, Eq, Debug)]
+pub struct Accepted {
+    /// The bookings that it holds.
+    pub booked: usize,
+    /// Its own pairs.
+    pub pairs: usize,
+    /// Those of the desk's smallest typing.
+    pub smallest: usize,
+    /// Those of the largest.
+    pub largest: usize,
+}
+
+/// A pair that isn't met under a grid.
+#[derive(Clone, Debug)]
+pub struct NotMet {
+    /// The pair.
+    pub pair: Pair,
+    /// Why its card's own links don't fit; none if they do.
+    pub misfit: Option<Misfit>,
+    /// What it asks for and the grid hasn't, if its links fit.
+    pub missing: Vec<Need>,
+    /// Why no sound typing has it, if that is up to another card.
+    pub never: Option<Reason>,
+}
+
+/// Judges a grid of a sheet for a desk.
+pub fn judge(sheet: &Sheet, desk: Desk, grid: &[u8]) -> Verdict {
     match judged(&sheet.setting, (desk, &sheet.booked), grid) {
-        Ok(Judged::Accepted) => (accepted(sheet, file, desk, grid), true),
-        Ok(Judged::NotMet(card, shape)) => (not_met(sheet, file, grid, (card, shape)), false),
-        Err(refusal) => (refused(sheet, file, grid_file, grid, refusal), false),
+        Ok(Judged::Accepted) => Verdict::Accepted(accepted(sheet, desk, grid)),
+        Ok(Judged::NotMet(card, shape)) => Verdict::NotMet(not_met(sheet, grid, (card, shape))),
+        Err(refusal) => Verdict::Refused(match refusal.number {
+            40 => wrong_size(sheet, grid.len()),
+            61 => byte(sheet, refusal.place, Some(grid[refusal.place])),
+            _ => booking(sheet, refusal),
+        }),
     }
 }
 
-/// What it means that a grid is accepted, and how many pairs it and the two typings have.
-fn accepted(sheet: &Sheet, file: &str, desk: Desk, grid: &[u8]) -> String {
+fn accepted(sheet: &Sheet, desk: Desk, grid: &[u8]) -> Accepted {
+    let pairs = |grid: &[u8]| grid.iter().filter(|byte| **byte == 1).count();
+    Accepted {
+        booked: sheet.booked_by(desk).len(),
+        pairs: pairs(grid),
+        smallest: pairs(&sheet.typings.smallest[desk.index()].1),
+        largest: pairs(&sheet.typings.largest.1),
+    }
+}
+
+fn not_met(sheet: &Sheet, grid: &[u8], pair: Pair) -> NotMet {
+    let asked = asked_for(&sheet.setting, pair).into_iter();
+    NotMet {
+        pair,
+        misfit: own_misfit(&sheet.setting, pair),
+        missing: asked.filter(|need| !sheet.has(grid, need.1)).collect(),
+        never: never(sheet, pair),
+    }
+}
+
+/// Why no sound typing has a pair whose own links fit; none if one has it or if its links don't fit.
+fn never(sheet: &Sheet, pair: Pair) -> Option<Reason> {
+    let reason = reason(sheet, &Roots::new(&sheet.setting), pair)?;
+    (!reason.steps.is_empty()).then_some(reason)
+}
+
+/// Refusal 40: how many bytes there should be.
+fn wrong_size(sheet: &Sheet, bytes: usize) -> Told {
+    let (cards, shapes) = (sheet.text.cards.len(), sheet.text.shapes.len());
+    let note = format!(
+        "it has {}; {} times {} are {}",
+        counted(bytes, "byte"),
+        counted(cards, "card"),
+        counted(shapes, "shape"),
+        sheet.setting.size()
+    );
+    Told::without_word(Refusal::at(40, 0), Some(note))
+}
+
+/// Refusal 61: what the byte at a place stands for, and what it is, if that is known.
+pub fn byte(sheet: &Sheet, place: usize, value: Option<u8>) -> Told {
+    let shapes = sheet.text.shapes.len();
+    let (card, shape) = (Card((place / shapes) as u16), place % shapes);
+    let value = value.map_or(String::new(), |value| format!("byte {place} is {value}; "));
+    let (who, what) = (called(&sheet.text, card), sheet.text.shape_name(shape));
+    let note = format!("{value}0 or 1 there says whether {who} is {what}");
+    Told {
+        spot: sheet.card_spot(card.index()),
+        ..Told::without_word(Refusal::at(61, place), Some(note))
+    }
+}
+
+/// Refusal 63: the booking that isn't held.
+pub fn booking(sheet: &Sheet, refusal: Refusal) -> Told {
+    let (desk, (card, shape)) = sheet.booked[(refusal.place - 2) / 3];
+    let who = sheet.text.card_title(card.index());
+    let what = sheet.text.shape_name(shape.index());
+    let desk = desk.name();
+    let told = match sheet.form {
+        Form::Text => explain::tell(&sheet.compiled, refusal),
+        Form::Words => roles::tell(&sheet.compiled.files(), refusal),
+    };
+    Told {
+        note: Some(format!(
+            "{who} is booked by {desk} as {what}, which it isn't in the grid"
+        )),
+        ..told
+    }
+}
+
+/// What is said in words about a grid that is judged for a desk: the names of the sheet's file and of the grid's.
+pub fn words(sheet: &Sheet, desk: Desk, (file, grid_file): (&str, &str), verdict: &Verdict) -> String {
+    match verdict {
+        Verdict::Accepted(accepted) => accepted_words(file, desk, accepted),
+        Verdict::NotMet(not_met) => not_met_words(sheet, file, not_met),
+        Verdict::Refused(told) => {
+            let file = if told.refusal.number == 40 {
+                grid_file
+            } else {
+                file
+            };
+            format!("{}: {told}\n", place(file, told.spot))
+        }
+    }
+}
+
+/// What it means that a grid is accepted.
+fn accepted_words(file: &str, desk: Desk, accepted: &Accepted) -> String {
     let name = desk.name();
-    let holds = match sheet.booked_by(desk).len() {
+    let holds = match accepted.booked {
         0 => format!("; nothing is booked by {name}"),
         1 => format!(" that holds the one booking of {name}"),
         count => format!(" that holds all {count} bookings of {name}"),
     };
-    let pairs = |grid: &[u8]| grid.iter().filter(|byte| **byte == 1).count();
     format!(
         "{file}: the grid is accepted: a sound typing{holds}\n  \
          it has {}; the smallest typing has {}, the largest {}\n",
-        counted(pairs(grid), "pair"),
-        pairs(&sheet.typings.smallest[desk.index()].1),
-        pairs(&sheet.typings.largest.1)
+        counted(accepted.pairs, "pair"),
+        accepted.smallest,
+        accepted.largest
     )
 }
 
-/// Refusal 62: why a pair of the grid isn't met under it.
-fn not_met(sheet: &Sheet, file: &str, grid: &[u8], pair: Pair) -> String {
-    let (text, (card, shape)) = (&sheet.text, pair);
-    let (who, what) = (text.card_title(card.index()), a_shape(text, shape));
-    let why = match own_misfit(&sheet.setting, pair) {
-        Some(misfit) => format!("{who} can't be {what}: {}", wrong(text, &misfit)),
-        None => {
-            let missing = |need: &Need| !sheet.has(grid, need.1);
-            let missing: Vec<Need> = asked_for(&sheet.setting, pair)
-                .into_iter()
-                .filter(missing)
-                .collect();
-            format!(
-                "{who} isn't {what} under the grid: {}",
-                far_cards(text, &missing, "isn't")
-            )
+fn not_met_words(sheet: &Sheet, file: &str, not_met: &NotMet) -> String {
+    let (card, _) = not_met.pair;
+    let (start, why) = (place(file, sheet.card_spot(card.index())), not_met.why(sheet));
+    let number = number_62(not_met.pair);
+    format!("{start}: {why}\n{number}{}", never_words(sheet, &not_met.never))
+}
+
+impl NotMet {
+    /// Why the pair isn't met, in words.
+    pub fn why(&self, sheet: &Sheet) -> String {
+        let (text, (card, shape)) = (&sheet.text, self.pair);
+        let who = text.card_title(card.index());
+        let what = text.shape_name(shape.index());
+        match &self.misfit {
+            Some(misfit) => format!("{who} can't be {what}: {}", wrong(text, misfit)),
+            None => {
+                let missing = far_cards(text, &self.missing, "isn't");
+                format!("{who} isn't {what} under the grid: {missing}")
+            }
         }
-    };
-    let start = place(file, sheet.card_spot(card.index()));
-    format!("{start}: {why}\n{}{}", number_62(pair), never(sheet, pair))
+    }
 }
 
 fn number_62((card, shape): Pair) -> String {
@@ -78,102 +198,32 @@ fn number_62((card, shape): Pair) -> String {
     format!("  refused 62 {} {}: {meaning}\n", card.0, shape.0)
 }
 
-/// That no sound typing has a pair whose own links fit, and why; nothing if one has it or if its links don't fit.
-fn never(sheet: &Sheet, pair: Pair) -> String {
-    match reason(sheet, &Roots::new(&sheet.setting), pair) {
-        Some(reason) if !reason.steps.is_empty() => {
-            let why = because(&sheet.text, &reason);
-            format!("  no sound typing has this pair: {why}\n")
-        }
-        _ => String::new(),
-    }
+fn never_words(sheet: &Sheet, never: &Option<Reason>) -> String {
+    never.as_ref().map_or(String::new(), |reason| {
+        let why = because(&sheet.text, reason);
+        format!("  no sound typing has this pair: {why}\n")
+    })
 }
 
-/// The other refusals of a grid: 40, 61 and 63.
-fn refused(sheet: &Sheet, file: &str, grid_file: &str, grid: &[u8], refusal: Refusal) -> String {
-    match refusal.number {
-        40 => {
-            let (cards, shapes) = (sheet.text.cards.len(), sheet.text.shapes.len());
-            let note = format!(
-                "it has {}; {} times {} are {}",
-                counted(grid.len(), "byte"),
-                counted(cards, "card"),
-                counted(shapes, "shape"),
-                sheet.setting.size()
-            );
-            line(grid_file, Told::without_word(refusal, Some(note)))
-        }
-        61 => {
-            let value = format!("byte {} is {}; ", refusal.place, grid[refusal.place]);
-            line(file, byte(sheet, refusal, &value))
-        }
-        _ => line(file, booking(sheet, refusal)),
-    }
-}
-
-fn line(file: &str, told: Told) -> String {
-    format!("{}: {told}\n", place(file, told.spot))
-}
-
-/// Refusal 61: what the byte stands for, behind what it is.
-fn byte(sheet: &Sheet, refusal: Refusal, value: &str) -> Told {
-    let shapes = sheet.text.shapes.len();
-    let card = Card((refusal.place / shapes) as u16);
-    let shape = Shape((refusal.place % shapes) as u16);
-    let (who, what) = (called(&sheet.text, card), a_shape(&sheet.text, shape));
-    let note = format!("{value}0 or 1 there says whether {who} is {what}");
-    Told {
-        spot: sheet.card_spot(card.index()),
-        ..Told::without_word(refusal, Some(note))
-    }
-}
-
-/// Refusal 63: the booking that isn't held.
-fn booking(sheet: &Sheet, refusal: Refusal) -> Told {
-    let (desk, (card, shape)) = sheet.booked[(refusal.place - 2) / 3];
-    let (who, what) = (sheet.text.card_title(card.index()), a_shape(&sheet.text, shape));
-    let note = format!(
-        "{who} is booked by {} as {what} and isn't one in the grid",
-        desk.name()
-    );
-    let told = match sheet.form {
-        Form::Text => explain::tell(&sheet.compiled, refusal),
-        Form::Words => roles::tell(&sheet.compiled.files(), refusal),
-    };
-    Told {
-        note: Some(note),
-        ..told
-    }
-}
-
-/// What refusal 61 at a place means for a sheet; none if no grid of the sheet has such a byte.
-pub fn explain_byte(sheet: &Sheet, file: &str, place: usize) -> Option<String> {
-    let told = || line(file, byte(sheet, Refusal::at(61, place), ""));
-    (place < sheet.setting.size()).then(told)
-}
-
-/// What refusal 62 means for a sheet, as far as can be said without the grid.
-pub fn explain_pair(sheet: &Sheet, file: &str, pair: Pair) -> String {
+/// What refusal 62 means for a sheet, as far as can be said without the grid; none if every grid meets the pair.
+pub fn explain_pair(sheet: &Sheet, file: &str, pair: Pair) -> Option<String> {
     let (text, (card, shape)) = (&sheet.text, pair);
-    let (who, what) = (text.card_title(card.index()), a_shape(text, shape));
+    let who = text.card_title(card.index());
+    let what = text.shape_name(shape.index());
     let start = place(file, sheet.card_spot(card.index()));
     let number = number_62(pair);
     if let Some(misfit) = own_misfit(&sheet.setting, pair) {
-        return format!(
-            "{start}: {who} can't be {what}: {}\n{number}",
-            wrong(text, &misfit)
-        );
+        let why = wrong(text, &misfit);
+        return Some(format!("{start}: {who} can't be {what}: {why}\n{number}"));
     }
     let asked = asked_for(&sheet.setting, pair);
     if asked.is_empty() {
-        return format!(
-            "{start}: {who} needs no other card and can be {what} under every grid, so 62 isn't about it\n"
-        );
+        return None;
     }
-    let never = never(sheet, pair);
+    let never = never_words(sheet, &never(sheet, pair));
     let must = far_cards(text, &asked, "must be");
-    format!(
+    Some(format!(
         "{start}: {who} isn't {what} under the grid that was judged\n{number}{never}  {must}; \
          `judge FILE GRID` tells what the grid lacks\n"
-    )
+    ))
 }

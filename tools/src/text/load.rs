@@ -2,7 +2,8 @@
 
 use super::check::Sheet;
 use super::compile::{compile, Compiled};
-use super::form::{form, Form};
+use super::form::{form, Form, TOLD_BY};
+use super::listed::Listed;
 use super::parse::parse;
 use super::told::Told;
 use super::trouble::{Trouble, Why};
@@ -14,64 +15,52 @@ use crate::typing::{self, Setting, Typings};
 
 /// The sheet in the bytes of a file, run; or why there is none.
 pub fn load_sheet(file: &str, bytes: &[u8]) -> Result<Sheet, Trouble> {
-    match form(bytes) {
-        Form::Text => load_text(file, bytes),
-        Form::Words => of_words(bytes).map_err(|told| Trouble {
-            file: file.to_string(),
-            form: Form::Words,
-            why: Why::Refused(Box::new(told)),
-        }),
-    }
+    let form = form(bytes);
+    let sheet = long_enough(bytes).and_then(|()| match form {
+        Form::Text => of_text(bytes),
+        Form::Words => of_words(bytes).map_err(Why::refused),
+    });
+    sheet.map_err(|why| trouble(file, form, why))
 }
 
 /// The same for bytes that are meant as a text, whatever they look like.
 pub fn load_text(file: &str, bytes: &[u8]) -> Result<Sheet, Trouble> {
-    let sheet = compiled(bytes).and_then(|(text, compiled)| of_text(text, compiled));
-    sheet.map_err(|why| Trouble {
-        file: file.to_string(),
-        form: Form::Text,
-        why,
-    })
+    of_text(bytes).map_err(|why| trouble(file, Form::Text, why))
 }
 
 /// The printer's input for the bytes of a file, which may be refused.
 pub fn load_input(file: &str, bytes: &[u8]) -> Result<Vec<u8>, Trouble> {
-    let form = form(bytes);
-    match form {
+    match form(bytes) {
         Form::Words => Ok(bytes.to_vec()),
         Form::Text => match compiled(bytes) {
             Ok((_, compiled)) => Ok(compiled.files().bytes()),
-            Err(why) => Err(Trouble {
-                file: file.to_string(),
-                form,
-                why,
-            }),
+            Err(why) => Err(trouble(file, Form::Text, why)),
         },
     }
 }
 
-/// A refusal that some program printed for the bytes of a file, in words.
-pub fn tell_refusal(file: &str, bytes: &[u8], refusal: Refusal) -> Trouble {
-    let form = form(bytes);
-    let why = match form {
-        Form::Text => match compiled(bytes) {
-            Ok((_, compiled)) => Why::Refused(Box::new(explain::tell(&compiled, refusal))),
-            Err(why) => why,
-        },
-        Form::Words => Why::Refused(Box::new(match sheet::split(bytes) {
-            Ok(files) => roles::tell(&files, refusal),
-            Err(_) => roles::tell_input(bytes),
-        })),
-    };
+/// Why a file isn't a sheet.
+pub fn trouble(file: &str, form: Form, why: Why) -> Trouble {
     let file = file.to_string();
     Trouble { file, form, why }
 }
 
+/// Whether there are as many bytes as it takes to tell text from words. No sheet has fewer.
+pub fn long_enough(bytes: &[u8]) -> Result<(), Why> {
+    match bytes.len() {
+        short if short < TOLD_BY => Err(Why::Short(short)),
+        _ => Ok(()),
+    }
+}
+
 /// A text and its words, which may be refused.
 pub fn compiled(bytes: &[u8]) -> Result<(Text, Compiled), Why> {
-    let text = decode(bytes).and_then(parse).map_err(Why::Fault)?;
-    let compiled = compile(&text).map_err(Why::Fault)?;
-    Ok((text, compiled))
+    let source = decode(bytes).map_err(|fault| Why::Faults(Listed::one(fault)))?;
+    let parsed = parse(source);
+    match compile(&parsed) {
+        Ok(compiled) => Ok((parsed.text, compiled)),
+        Err(faults) => Err(Why::Faults(faults)),
+    }
 }
 
 /// The characters of a text.
@@ -86,8 +75,9 @@ fn decode(bytes: &[u8]) -> Result<&str, Fault> {
 }
 
 /// The sheet of a text.
-fn of_text(text: Text, compiled: Compiled) -> Result<Sheet, Why> {
-    let told = |refusal| Why::Refused(Box::new(explain::tell(&compiled, refusal)));
+fn of_text(bytes: &[u8]) -> Result<Sheet, Why> {
+    let (text, compiled) = compiled(bytes)?;
+    let told = |refusal| Why::Refused(explain::tell_all(&compiled, refusal));
     let files = sheet::split(&compiled.files().bytes()).map_err(told)?;
     let read = Read::of(&files).map_err(told)?;
     Ok(read.sheet(text, compiled, Form::Text))
@@ -98,9 +88,9 @@ fn of_words(bytes: &[u8]) -> Result<Sheet, Told> {
     let files = sheet::split(bytes).map_err(|_| roles::tell_input(bytes))?;
     let read = Read::of(&files).map_err(|refusal| roles::tell(&files, refusal))?;
     let source = write::numbered(&read.setting, &read.booked);
-    let text = parse(&source).expect("what is written out is read again");
-    let compiled = compile(&text).expect("what is written out has all its names");
-    Ok(read.sheet(text, compiled, Form::Words))
+    let parsed = parse(&source);
+    let compiled = compile(&parsed).expect("what is written out is read again");
+    Ok(read.sheet(parsed.text, compiled, Form::Words))
 }
 
 /// Files that were read and run.

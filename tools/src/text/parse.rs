@@ -1,10 +1,14 @@
-//! Reads the lines of a text. Names aren't looked up here; that is for `compile`. How deep parts lie is limited while
-//! they are read, so that no text, however deep, is a danger to those who walk over its parts.
+//! Reads the statements of a text. Names aren't looked up here; that is for `compile`. How deep parts lie is limited
+//! while they are read, so that no text, however deep, is a danger to those who walk over its parts.
+//!
+//! A fault ends its statement, not the text: all others are read too.
 
-use super::tokens::{tokens, Placed, Token};
-use super::{BookLine, Expression, Fault, LinkExpression, Name, ShapeLine, Spot, Text};
+use super::tokens::{statements, Placed, Statement, Token};
+use super::{BookLine, Expression, Fault, Faults, LinkExpression, Name, ShapeLine, Spot, Text};
+use crate::desk::Desk;
 use crate::labels::Way;
 use crate::template::{ALL, CHOICE, NO_LIMIT, OPTIONAL, PLUS, STAR};
+use std::collections::HashSet;
 
 /// The most parts within each other that are read. Words take 12; deeper parts up to here are refused as words.
 pub const MOST_HEIGHT: usize = 64;
@@ -12,18 +16,36 @@ pub const MOST_HEIGHT: usize = 64;
 /// A part, and how many parts lie within each other there.
 type Tall = (Expression, usize);
 
-/// Reads a text, or tells the first fault.
-pub fn parse(source: &str) -> Result<Text, Fault> {
-    let tokens = tokens(source)?;
-    let mut parser = Parser {
-        tokens: &tokens,
-        next: 0,
-    };
-    let mut text = Text::default();
-    while parser.next < tokens.len() {
-        parser.statement(&mut text)?;
+/// A text as far as it could be read.
+#[derive(Clone, Default, Debug)]
+pub struct Parsed {
+    /// What could be read.
+    pub text: Text,
+    /// What is wrong with the rest.
+    pub faults: Faults,
+    /// The words of the statements at fault. These may have introduced names, so such a name isn't unknown.
+    pub doubtful: HashSet<String>,
+}
+
+/// Reads a text.
+pub fn parse(source: &str) -> Parsed {
+    let mut parsed = Parsed::default();
+    for Statement { tokens, is_whole } in statements(source, &mut parsed.faults) {
+        let mut parser = Parser {
+            tokens: &tokens,
+            next: 0,
+        };
+        let read = is_whole.then(|| parser.statement(&mut parsed.text));
+        if let Some(Ok(())) = read {
+            continue;
+        }
+        if let Some(Err(fault)) = read {
+            parsed.faults.note(|| fault);
+        }
+        let words = tokens.into_iter().filter_map(|(token, _)| token.word());
+        parsed.doubtful.extend(words);
     }
-    Ok(text)
+    parsed
 }
 
 struct Parser<'a> {
@@ -109,24 +131,27 @@ impl Parser<'_> {
         Some(text)
     }
 
-    /// One line, or none.
+    /// The whole statement, which may be empty.
     fn statement(&mut self, text: &mut Text) -> Result<(), Fault> {
         if self.peek().0 != Token::End {
             let keyword = self.name("a section")?;
             self.section(&keyword, text)?;
         }
-        if self.peek().0 != Token::End {
-            return Err(self.unexpected("the end of the line"));
+        match self.peek().0 {
+            Token::End => Ok(()),
+            _ => Err(self.unexpected("the end of the line")),
         }
-        self.next += 1;
-        Ok(())
     }
 
     /// What follows the word that a line starts with.
     fn section(&mut self, keyword: &Name, text: &mut Text) -> Result<(), Fault> {
         match keyword.text.as_str() {
             "title" => {
-                text.title = Some(self.quoted().ok_or_else(|| self.unexpected("a quotation"))?);
+                let title = self.quoted().ok_or_else(|| self.unexpected("a quotation"))?;
+                if text.title.replace(title).is_some() {
+                    let message = "a sheet has one title, and this is the second";
+                    return Err(Fault::at(keyword.spot, message));
+                }
             }
             "kinds" => self.kinds(text)?,
             "shape" => self.shape(None, text)?,
@@ -182,20 +207,41 @@ impl Parser<'_> {
         }
     }
 
-    /// A desk, if there is a number, a card and a shape. No name is only digits, so a number can't be a card.
+    /// A desk, if there is one, a card and a shape.
     fn booking(&mut self, text: &mut Text) -> Result<(), Fault> {
-        let desk = match self.peek().clone() {
-            (Token::Number(number), spot) => {
-                self.next += 1;
-                let too_high = |_| Fault::at(spot, format!("no word can say the desk {number}"));
-                Some((u16::try_from(number).map_err(too_high)?, spot))
-            }
-            _ => None,
-        };
+        let desk = self.desk()?;
         let card = self.name("a card")?;
         let shape = self.name("a shape")?;
         text.bookings.push(BookLine { desk, card, shape });
         Ok(())
+    }
+
+    /// The desk of a booking: a number, or the first of three names. No name is only digits, so a number can't be a
+    /// card, and two names are a card and a shape.
+    fn desk(&mut self) -> Result<Option<(u16, Name)>, Fault> {
+        let (token, spot) = self.peek().clone();
+        let (number, text) = match token {
+            Token::Number(number) => {
+                let too_high = |_| Fault::at(spot, format!("no word can say the desk {number}"));
+                (u16::try_from(number).map_err(too_high)?, number.to_string())
+            }
+            Token::Word(word) if self.are_names_ahead(3) => match Desk::called(&word) {
+                Some(desk) => (desk.number(), word),
+                None => {
+                    let message = "before a card and a shape stands a desk, 0, radio, 1 or television, not";
+                    return Err(Fault::at(spot, format!("{message} `{word}`")));
+                }
+            },
+            _ => return Ok(None),
+        };
+        self.next += 1;
+        Ok(Some((number, Name { text, spot })))
+    }
+
+    /// Whether the next so many tokens are all names.
+    fn are_names_ahead(&self, count: usize) -> bool {
+        let ahead = self.tokens[self.next..].iter().take(count);
+        ahead.filter(|(token, _)| matches!(token, Token::Word(_))).count() == count
     }
 
     /// A part: a simple one, then any of `*`, `+` and `?`.
@@ -253,17 +299,10 @@ impl Parser<'_> {
         Ok((Expression::Group(code, parts, spot), higher(height, spot)?))
     }
 
-    /// The `)` of a bracket that opens at this spot. A word on a new line belongs to another statement, so then it is
-    /// the bracket that is at fault.
+    /// The `)` of a bracket that opens at this spot.
     fn close(&mut self, wanted: &str, start: Spot) -> Result<(), Fault> {
         if self.takes(')') {
             return Ok(());
-        }
-        let (token, spot) = self.peek();
-        let before = self.tokens[self.next.saturating_sub(1)].1;
-        if matches!(token, Token::Word(_)) && spot.line > before.line {
-            let message = format!("this `(` isn't closed before {spot}");
-            return Err(Fault::at(start, message));
         }
         let fault = self.unexpected(wanted);
         let message = format!("{}; the bracket at {start} is open", fault.message);

@@ -4,9 +4,10 @@
 use super::check::Sheet;
 use super::reasons::{all_not_met, path, reason, reasons, Reason};
 use super::roots::Roots;
-use super::sentences::{a_shape, because, booked_by, cannot};
+use super::sentences::{because, booked_by, cannot};
 use super::trouble::place;
 use crate::desk::Desk;
+use crate::numbers::{Card, Shape};
 use crate::typing::{Pair, Smallest};
 
 /// The outcome in words.
@@ -16,9 +17,10 @@ pub fn report(sheet: &Sheet, file: &str) -> String {
     for desk in Desk::BOTH {
         report += &smallest(sheet, &roots, file, desk);
     }
-    let (largest, _) = &sheet.typings.largest;
+    let largest = &sheet.typings.largest.0;
     let (rounds, struck) = (counted(largest.rounds, "round"), counted(largest.struck, "pair"));
     report += &format!("largest: {rounds}, {struck} struck\n");
+    report += &typing(sheet, &sheet.typings.largest.1);
     for (card, reasons) in bare(sheet, &roots) {
         report += &no_shape(sheet, file, card, &reasons);
     }
@@ -28,8 +30,19 @@ pub fn report(sheet: &Sheet, file: &str) -> String {
 /// A desk's smallest typing, or what its bookings ask for and can't be met.
 fn smallest(sheet: &Sheet, roots: &Roots, file: &str, desk: Desk) -> String {
     let start = format!("smallest for {}", desk.name());
-    if let Smallest::Pairs(pairs) = sheet.typings.smallest[desk.index()].0 {
-        return format!("{start}: {}, each of them met\n", counted(pairs, "pair"));
+    let (answer, grid) = &sheet.typings.smallest[desk.index()];
+    match answer {
+        Smallest::Pairs(0) => return format!("{start}: 0 pairs, as it books nothing\n"),
+        Smallest::Pairs(pairs) => {
+            let met = if *pairs == 1 {
+                "which is met"
+            } else {
+                "each of them met"
+            };
+            let pairs = counted(*pairs, "pair");
+            return format!("{start}: {pairs}, {met}\n{}", typing(sheet, grid));
+        }
+        Smallest::NotMet(..) => {}
     }
     let mut told = format!("{start}: none, as not all that it books can be met\n");
     for (order, reason) in all_not_met(sheet, roots, desk).iter().enumerate() {
@@ -41,6 +54,19 @@ fn smallest(sheet: &Sheet, roots: &Roots, file: &str, desk: Desk) -> String {
         }
     }
     told
+}
+
+/// A typing by names: a line for each card that has shapes in it.
+fn typing(sheet: &Sheet, grid: &[u8]) -> String {
+    let text = &sheet.text;
+    let line = |(card, shapes): (Card, Vec<Shape>)| {
+        let shapes: Vec<&str> = shapes
+            .iter()
+            .map(|shape| text.shape_name(shape.index()))
+            .collect();
+        format!("  {}: {}\n", text.cards[card.index()].0.text, shapes.join(", "))
+    };
+    sheet.cards_with_shapes(grid).into_iter().map(line).collect()
 }
 
 /// What there is, and how many of the cards that aren't blank have no shape.
@@ -76,7 +102,7 @@ pub fn not_met(sheet: &Sheet, roots: &Roots, file: &str, pair: Pair, desks: &[De
     let start = place(file, sheet.card_spot(card.index()));
     let Some(reason) = reason(sheet, roots, pair) else {
         let who = text.card_title(card.index());
-        return format!("{start}: {who} can be {}\n", a_shape(text, shape));
+        return format!("{start}: {who} can be {}\n", text.shape_name(shape.index()));
     };
     let asked: Vec<String> = desks
         .iter()
@@ -125,7 +151,7 @@ fn no_shape(sheet: &Sheet, file: &str, card: usize, reasons: &[Reason]) -> Strin
         let why = because(text, reason);
         match lines.iter_mut().find(|(_, told)| *told == why) {
             Some((shapes, _)) => *shapes += &format!(", {name}"),
-            None => lines.push((a_shape(text, shape), why)),
+            None => lines.push((name.to_string(), why)),
         }
     }
     if !strangers.is_empty() {

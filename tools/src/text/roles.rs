@@ -96,8 +96,11 @@ fn why_not_cut(input: &[u8]) -> String {
     if input.len() > MOST_BYTES {
         return format!("it has {} bytes", input.len());
     }
-    if !input.len().is_multiple_of(2) {
-        return format!("its {} bytes aren't whole words", input.len());
+    if input.len() % 2 != 0 {
+        return match input.len() {
+            1 => "its 1 byte isn't a whole word".to_string(),
+            bytes => format!("its {bytes} bytes aren't whole words"),
+        };
     }
     let words: Vec<u16> = input
         .chunks_exact(2)
@@ -110,12 +113,21 @@ fn why_not_cut(input: &[u8]) -> String {
         };
         let left = words.len() - place - 1;
         if usize::from(*count) > left {
-            return format!("word {place}, the {name}'s count, is {count}, but only {left} words follow");
+            let follow = follow(left);
+            return format!("word {place}, the {name}'s count, is {count}, but only {follow}");
         }
         place += 1 + usize::from(*count);
     }
-    let left = words.len() - place;
-    format!("the bookings end before word {place}, but {left} words follow")
+    let follow = follow(words.len() - place);
+    format!("the bookings end before word {place}, but {follow}")
+}
+
+/// How many words follow.
+fn follow(words: usize) -> String {
+    match words {
+        1 => "1 word follows".to_string(),
+        _ => format!("{words} words follow"),
+    }
 }
 
 /// What the word at this place of a template is for.

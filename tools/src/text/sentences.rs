@@ -1,4 +1,5 @@
-//! Reasons as sentences, in the names and titles of the text and without the words of the format.
+//! Reasons as sentences, in the names and titles of the text and without the words of the format. Shapes have no
+//! article, because which one it is can't be told from a name.
 
 use super::misfit::{Lack, Misfit, Taken};
 use super::reasons::{Reason, Step};
@@ -6,7 +7,7 @@ use super::write::part_in;
 use super::{quotations, Text};
 use crate::desk::Desk;
 use crate::labels::{Label, Way};
-use crate::numbers::{Card, Shape};
+use crate::numbers::Card;
 use crate::typing::met::Need;
 use crate::typing::Pair;
 
@@ -19,7 +20,7 @@ pub fn cannot(text: &Text, reason: &Reason) -> String {
     let who = text.card_title(card.index());
     format!(
         "{who} can't be {}: {}",
-        a_shape(text, shape),
+        text.shape_name(shape.index()),
         because(text, reason)
     )
 }
@@ -28,7 +29,7 @@ pub fn cannot(text: &Text, reason: &Reason) -> String {
 pub fn because(text: &Text, reason: &Reason) -> String {
     let wrong = wrong(text, &reason.misfit);
     let (card, shape) = reason.root();
-    let what = a_shape(text, shape);
+    let what = text.shape_name(shape.index());
     match &reason.steps[..] {
         [] => wrong,
         [need] => format!("{} can't be {what}: {wrong}", far_card(text, need)),
@@ -73,7 +74,14 @@ fn path(text: &Text, steps: &[Need]) -> String {
 
 /// What the cards at the far ends of a card's links are or must be; those beyond the first few are only counted.
 pub fn far_cards(text: &Text, needs: &[Need], verb: &str) -> String {
-    let one = |need: &Need| format!("{} {verb} {}", far_card(text, need), a_shape(text, need.1 .1));
+    let one = |need: &Need| {
+        let (_, (_, shape)) = need;
+        format!(
+            "{} {verb} {}",
+            far_card(text, need),
+            text.shape_name(shape.index())
+        )
+    };
     let mut told: Vec<String> = needs.iter().take(MOST_STEPS).map(one).collect();
     if needs.len() > MOST_STEPS {
         told.push(format!("so with {} more of its links", needs.len() - MOST_STEPS));
@@ -152,15 +160,4 @@ pub fn called(text: &Text, card: Card) -> String {
         (_, Some(title)) => quotations::write(title),
         (name, None) => name.text.clone(),
     }
-}
-
-/// A shape with its article.
-pub fn a_shape(text: &Text, shape: Shape) -> String {
-    let name = text.shape_name(shape.index());
-    let article = if name.starts_with(|first| "AEIOUaeiou".contains(first)) {
-        "an"
-    } else {
-        "a"
-    };
-    format!("{article} {name}")
 }

@@ -2,7 +2,7 @@
 //! as it is, but for the bookings that go: those that repeat one of the same desk.
 
 use super::form::{form, Form};
-use super::load::compiled;
+use super::load::{compiled, long_enough, trouble};
 use super::told::Told;
 use super::trouble::{Trouble, Why};
 use super::{explain, roles};
@@ -25,15 +25,11 @@ pub struct Tidied {
 /// Tidies the bookings of the sheet in the bytes of a file, or tells why there is no sheet.
 pub fn tidy(file: &str, bytes: &[u8]) -> Result<Tidied, Trouble> {
     let form = form(bytes);
-    let tidied = match form {
+    let tidied = long_enough(bytes).and_then(|()| match form {
         Form::Text => of_text(bytes),
-        Form::Words => of_words(bytes).map_err(|told| Why::Refused(Box::new(told))),
-    };
-    tidied.map_err(|why| Trouble {
-        file: file.to_string(),
-        form,
-        why,
-    })
+        Form::Words => of_words(bytes).map_err(Why::refused),
+    });
+    tidied.map_err(|why| trouble(file, form, why))
 }
 
 fn of_words(bytes: &[u8]) -> Result<Tidied, Told> {
@@ -52,7 +48,7 @@ fn of_words(bytes: &[u8]) -> Result<Tidied, Told> {
 
 fn of_text(bytes: &[u8]) -> Result<Tidied, Why> {
     let (text, compiled) = compiled(bytes)?;
-    let told = |refusal| Why::Refused(Box::new(explain::tell(&compiled, refusal)));
+    let told = |refusal| Why::refused(explain::tell(&compiled, refusal));
     let files = sheet::split(&compiled.files().bytes()).map_err(told)?;
     let first = firsts(&files).map_err(told)?;
     let repeats = text.bookings.iter().zip(first).filter(|(_, first)| !first);

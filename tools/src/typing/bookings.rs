@@ -103,6 +103,13 @@ pub fn words(booked: &[Booking]) -> Vec<u16> {
     words
 }
 
+/// The words of each booking of a list that has so many for each, whatever its count says.
+pub fn cut<const SIZE: usize>(list: &[u16]) -> Vec<[u16; SIZE]> {
+    let each = list.get(1..).unwrap_or_default().chunks_exact(SIZE);
+    each.map(|words| words.try_into().expect("a piece of this size"))
+        .collect()
+}
+
 /// The words of a stored list.
 pub fn stored_words(pairs: &[Pair]) -> Vec<u16> {
     let mut words = vec![pairs.len() as u16];

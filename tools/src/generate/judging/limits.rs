@@ -1,7 +1,7 @@
 //! Everything at its limit: accepted, and refused at the very last byte, pair or booking.
 
 use super::samples::SMALL;
-use super::{JudgeCase, MOST_FILE_WORDS, MOST_GRID_BYTES};
+use super::JudgeCase;
 use crate::desk::Desk;
 use crate::generate::heavy::{common_kinds, dense_template, densest_open};
 use crate::generate::parts::filler;
@@ -16,6 +16,10 @@ use crate::sheet::Files;
 use crate::template::{self, Link, MOST_SHAPES, MOST_WORDS};
 use crate::typing::bookings::{self, by, MOST_BOOKINGS};
 use crate::typing::Pair;
+
+/// The words of a file, and the bytes of a grid, that are far too long.
+const LONG_FILE: usize = 32_767;
+const LONG_GRID: usize = 65_535;
 
 /// All cases at the limits.
 pub fn limits() -> Vec<JudgeCase> {
@@ -98,7 +102,7 @@ fn grids(pairs: usize) -> Vec<JudgeCase> {
         JudgeCase::new("last-byte", &wide, &cards, &[0], &over),
         JudgeCase::new("last-byte-missing", &wide, &cards, &[0], &vec![1; pairs - 1]),
         JudgeCase::new("no-bytes", &wide, &cards, &[0], &[]),
-        JudgeCase::new("longest-grid", &SMALL, &[3, 0], &[0], &vec![1; MOST_GRID_BYTES]),
+        JudgeCase::new("longest-grid", &SMALL, &[3, 0], &[0], &vec![1; LONG_GRID]),
     ]
 }
 
@@ -164,7 +168,7 @@ fn long_files() -> Vec<JudgeCase> {
         let part = filler(words - 3).words();
         [vec![1, 1, part.len() as u16], part].concat()
     };
-    let long_list = vec![0; MOST_FILE_WORDS];
+    let long_list = vec![0; LONG_FILE];
     vec![
         JudgeCase::new("template-4096", &template(MOST_WORDS), &[1, 0], &[0], &[1]),
         JudgeCase::new("template-4097", &template(MOST_WORDS + 1), &[1, 0], &[0], &[1]),

@@ -33,19 +33,53 @@ then the radio's:
 
     bookings = script.tidy_bookings([(2, 1), (0, 0), (2, 1)])  # [(Desk.RADIO, 2, 1), (Desk.RADIO, 0, 0)]
 
-What the library turns down is a Refused, which says in words what is wrong and where. The library is libprep.so in
-the folder that PREP_LIB_DIR names, or in the lib folder of the package that this file came with, or where the system
-looks. Python 3.8 or later; nothing but the standard library. Other threads run while the library works.
+What the library turns down is a Refused, which says in words what is wrong and where. Templates, scripts, answers and
+refusals can be pickled, so that they go from one process to another. The library is libprep.so in the folder that
+PREP_LIB_DIR names, or the one that was installed with this module, or that of the package in which it stands, or
+where the system looks. Python 3.8 or later; nothing but the standard library. Other threads run while the library
+works.
 """
 
 import array
 import ctypes
+import dataclasses
 import enum
 import os
-from typing import Iterable, List, NamedTuple, Sequence, Tuple
+from typing import Iterable, List, NamedTuple, Optional, Sequence, Tuple
+
+__all__ = [
+    "Booking",
+    "Both",
+    "Desk",
+    "GridNotMet",
+    "GRID_NOT_MET",
+    "Largest",
+    "Link",
+    "MAJOR",
+    "MINOR",
+    "NotMet",
+    "NOT_MET",
+    "PairRefused",
+    "Part",
+    "Refused",
+    "Script",
+    "Smallest",
+    "Template",
+    "Typing",
+    "all_of",
+    "choice",
+    "incoming",
+    "link",
+    "nothing",
+    "open_shape",
+    "optional",
+    "plus",
+    "star",
+    "version",
+]
 
 # The versions that this file is for: this major one, with this minor one or a later one.
-MAJOR = 5
+MAJOR = 6
 MINOR = 0
 
 # The refusals that have a card and a shape instead of a place.
@@ -55,12 +89,16 @@ GRID_NOT_MET = 62
 _SIZE = ctypes.c_size_t
 _WORD = ctypes.c_uint16
 _BYTE = ctypes.c_uint8
-_FILES = ("nothing", "template", "script", "bookings", "counts", "grid", "input")
+_FILES = ("nothing", "template", "script", "bookings", "counts", "grid", "input", "tidied")
+
+# The call for whose refusals words are asked, PREP_CALL_JUDGE. What means one thing in one call and another in another
+# is only ever this call's here, or told alike: the others are lent grids and words of the right length.
+_CALL = 7
 
 
 def _answer(name: str, *fields: str) -> type:
-    """A struct of prep.h. Its sizes and counts of pairs are size_t, all else is words."""
-    sizes = ("place", "rounds", "struck", "bare", "pairs", "words")
+    """A struct of prep.h. Places and counts that may pass a word are size_t, all else is words."""
+    sizes = ("place", "rounds", "struck", "bare", "pairs", "written")
     kinds = [(field, _SIZE if field in sizes else _WORD) for field in fields]
     return type(name, (ctypes.Structure,), {"_fields_": kinds})
 
@@ -72,7 +110,7 @@ _LargestAnswer = _answer("_LargestAnswer", "number", "place", "rounds", "struck"
 _SmallestAnswer = _answer("_SmallestAnswer", "number", "card", "shape", "place", "pairs")
 _BothAnswer = _answer("_BothAnswer", "number", "card", "shape", "place", "rounds", "struck", "bare", "pairs")
 _JudgeAnswer = _answer("_JudgeAnswer", "number", "card", "shape", "place")
-_TidyAnswer = _answer("_TidyAnswer", "number", "place", "words")
+_WrittenAnswer = _answer("_WrittenAnswer", "number", "place", "written")
 
 
 def _library_path() -> str:
@@ -81,8 +119,9 @@ def _library_path() -> str:
     if folder:
         return os.path.join(folder, "libprep.so")
     here = os.path.dirname(os.path.abspath(__file__))
-    beside = os.path.normpath(os.path.join(here, "..", "..", "..", "lib", "libprep.so"))
-    return beside if os.path.exists(beside) else f"libprep.so.{MAJOR}"
+    package = os.path.normpath(os.path.join(here, "..", "..", "..", "lib"))
+    files = [os.path.join(folder, "libprep.so") for folder in (here, package)]
+    return next((file for file in files if os.path.exists(file)), f"libprep.so.{MAJOR}")
 
 
 def _load() -> ctypes.CDLL:
@@ -107,9 +146,11 @@ def _load() -> ctypes.CDLL:
         ("prep_smallest", _SmallestAnswer, lent * 3 + [_WORD] + lent),
         ("prep_both_typings", _BothAnswer, lent * 3 + [_WORD] + lent * 2),
         ("prep_judge", _JudgeAnswer, lent * 3 + [_WORD] + lent),
-        ("prep_tidy_bookings", _TidyAnswer, lent * 4),
+        ("prep_tidy_bookings", _WrittenAnswer, lent * 4),
         ("prep_reason", ctypes.c_char_p, [_WORD]),
         ("prep_file_of", ctypes.c_uint, [_WORD]),
+        ("prep_call_reason", ctypes.c_char_p, [ctypes.c_uint, _WORD, _SIZE]),
+        ("prep_call_file", ctypes.c_uint, [ctypes.c_uint, _WORD, _SIZE]),
     ):
         function = getattr(library, name)
         function.restype, function.argtypes = result, parameters
@@ -136,15 +177,20 @@ class Refused(Exception):
     """What the library turns down: a number, a place and the file that the place is counted in, or a grid's byte."""
 
     def __init__(self, number: int, place: int):
+        super().__init__(number, place)
         self.number = number
         self.place = place
-        self.reason = _library.prep_reason(number).decode()
-        file = _library.prep_file_of(number)
+        self.reason: str = _library.prep_call_reason(_CALL, number, place).decode()
+        file = _library.prep_call_file(_CALL, number, place)
         self.file = _FILES[file] if file < len(_FILES) else "nothing"
-        super().__init__(f"{self.reason} (refusal {number}, {self._where()})")
+
+    def __str__(self) -> str:
+        return f"{self.reason} (refusal {self.number}{self._where()})"
 
     def _where(self) -> str:
-        return f"{'byte' if self.file == 'grid' else 'word'} {self.place}"
+        if self.file == "nothing":
+            return ""
+        return f", {'byte' if self.file == 'grid' else 'word'} {self.place}"
 
 
 class PairRefused(Refused):
@@ -153,12 +199,13 @@ class PairRefused(Refused):
     NUMBER = 0
 
     def __init__(self, card: int, shape: int):
+        super().__init__(self.NUMBER, 0)
+        self.args = (card, shape)
         self.card = card
         self.shape = shape
-        super().__init__(self.NUMBER, 0)
 
     def _where(self) -> str:
-        return f"card {self.card}, shape {self.shape}"
+        return f", card {self.card}, shape {self.shape}"
 
 
 class NotMet(PairRefused):
@@ -186,7 +233,9 @@ def _array(code: str, element: type, limits: str, numbers: Iterable[int]) -> cty
 
 
 def _words(numbers: Iterable[int]) -> ctypes.Array:
-    """An array of 16-bit words; ValueError for a number that no word holds."""
+    """An array of 16-bit words; ValueError for a number that no word holds, TypeError for the bytes of a file."""
+    if isinstance(numbers, (bytes, bytearray)):
+        raise TypeError("numbers are wanted, not bytes; struct.iter_unpack('<H', data) gives the words of a file")
     return _array("H", _WORD, "a word is 0 to 65,535", numbers)
 
 
@@ -270,11 +319,13 @@ def open_shape(part: Part) -> Part:
     return [18] + part
 
 
+@dataclasses.dataclass(frozen=True)
 class Typing:
-    """Which shapes each card has."""
+    """Which shapes each card has: a byte for each pair, 1 where card n has shape t, at place n * shapes + t, else 0."""
 
-    def __init__(self, grid: bytes, cards: int, shapes: int):
-        self.grid, self.cards, self.shapes = grid, cards, shapes
+    grid: bytes
+    cards: int
+    shapes: int
 
     def has(self, card: int, shape: int) -> bool:
         """Whether a card has a shape; not if there is no such card or shape."""
@@ -325,8 +376,8 @@ class Both(NamedTuple):
     """Both typings. Where the bookings are not met, `smallest` is None and `not_met` says which pair is not."""
 
     largest: Largest
-    smallest: "Smallest | None"
-    not_met: "NotMet | None"
+    smallest: Optional[Smallest]
+    not_met: Optional[NotMet]
 
 
 class Template:
@@ -337,6 +388,9 @@ class Template:
         self._words = _words(words)
         answer = _accept(_library.prep_read_template(*_lend(self._words)))
         self.words, self.kinds, self.shapes = tuple(self._words), answer.kinds, answer.shapes
+
+    def __reduce__(self):
+        return type(self), (self.words,)
 
     @classmethod
     def of(cls, kinds: int, shapes: Sequence[Part]) -> "Template":
@@ -366,6 +420,9 @@ class Script:
         for one in self.links:
             self._of[one.start].append(one)
 
+    def __reduce__(self):
+        return type(self), (self.template, self.words)
+
     @classmethod
     def of(cls, template: Template, cards: int, links: Iterable[Tuple[int, int, int]]) -> "Script":
         """A script of so many cards, and links (from, kind, to) in any order; one given twice is there once."""
@@ -373,7 +430,8 @@ class Script:
         return cls(template, [cards, len(ascending)] + [word for one in ascending for word in one])
 
     def links_of(self, card: int) -> List[Link]:
-        """The links that start at a card, ascending, not those that arrive there; none if there is no such card."""
+        """The links that start at a card, ascending, not those that arrive there; none if there is no such card. They
+        are looked up here, in the words that the library accepted; its own prep_links_of_card answers the same."""
         return list(self._of[card]) if 0 <= card < self.cards else []
 
     def largest(self) -> Largest:
@@ -383,15 +441,15 @@ class Script:
         return Largest(self._typing(grid), answer.rounds, answer.struck, answer.bare)
 
     def smallest(self, bookings: Iterable[Booking], desk: int) -> Smallest:
-        """The smallest sound typing that has the pairs of card and shape that the desk books. Refusals: 30 to 33, 65
+        """The smallest sound typing that has the pairs of card and shape that the desk books. Refusals: 31 to 33, 65
         where a desk books a pair a second time, 66 for a number that is no desk, at place 0 if the call's own; or
-        NotMet."""
+        NotMet. ValueError for a booking that is no triple, here and below."""
         grid = self._grid()
         answer = _accept(_library.prep_smallest(*self._booked(bookings, desk), *_lend(grid)))
         return Smallest(self._typing(grid), answer.pairs)
 
     def both(self, bookings: Iterable[Booking], desk: int) -> Both:
-        """Both typings in one call; the largest is the same for either desk. Refusals: 30 to 33, 65, 66; bookings that
+        """Both typings in one call; the largest is the same for either desk. Refusals: 31 to 33, 65, 66; bookings that
         are not met are no exception here."""
         small, large = self._grid(), self._grid()
         answer = _library.prep_both_typings(*self._booked(bookings, desk), *_lend(small, large))
@@ -404,21 +462,23 @@ class Script:
 
     def judge(self, bookings: Iterable[Booking], desk: int, grid: Iterable[int]) -> None:
         """Returns if a grid of bytes, such as a typing's, is a sound typing that has the pairs that the desk books.
-        Refusals: 30 to 33, 65, 66, 40, 61, 63; or GridNotMet."""
+        Refusals: 31 to 33, 65, 66, 40, 61, 63; or GridNotMet."""
         _accept(_library.prep_judge(*self._booked(bookings, desk), *_lend(_bytes(grid))))
 
     def tidy_bookings(self, stored: Iterable[Tuple[int, int]]) -> List[Booking]:
-        """The first booking of each pair, in the list's order, as the radio's. This is for lists that were stored with
-        a version before 5: pairs of card and shape, which may stand there several times. Refusals: 30 to 33."""
+        """The first booking of each pair, in the list's order, as the radio's. This is for lists that were stored
+        without desks: pairs of card and shape, which may stand there several times. Refusals: 31 to 33. ValueError for
+        what is no pair."""
         listed = list(stored)
         tidied = (_WORD * (1 + 3 * len(listed)))()
-        lent = _lend(self.template._words, self._words, _list_words(listed), tidied)
-        words = tidied[1 : _accept(_library.prep_tidy_bookings(*lent)).words]
+        lent = _lend(self.template._words, self._words, _list_words(listed, 2), tidied)
+        words = tidied[1 : _accept(_library.prep_tidy_bookings(*lent)).written]
         return [(Desk(desk), card, shape) for desk, card, shape in zip(words[::3], words[1::3], words[2::3])]
 
     def _booked(self, bookings: Iterable[Booking], desk: int) -> list:
-        """The template, the script, the bookings and the desk, as parameters."""
-        return _lend(self.template._words, self._words, _list_words(bookings)) + [_word(desk)]
+        """The template, the script, the bookings and the desk, as parameters; ValueError for a booking that is no
+        triple."""
+        return _lend(self.template._words, self._words, _list_words(bookings, 3)) + [_word(desk)]
 
     def _grid(self) -> ctypes.Array:
         return (_BYTE * (self.cards * self.template.shapes))()
@@ -427,7 +487,11 @@ class Script:
         return Typing(bytes(grid), self.cards, self.template.shapes)
 
 
-def _list_words(bookings: Iterable[Tuple[int, ...]]) -> ctypes.Array:
-    """The count of a list and its bookings' numbers. A count that no word holds is refused as any over 1,024 is."""
-    listed = list(bookings)
+def _list_words(bookings: Iterable[Tuple[int, ...]], width: int) -> ctypes.Array:
+    """The count of a list and its bookings' numbers, so many for each; ValueError for a booking of any other length. A
+    count that no word holds is refused as any over 1,024 is."""
+    listed = [tuple(booking) for booking in bookings]
+    wrong = next((booking for booking in listed if len(booking) != width), None)
+    if wrong is not None:
+        raise ValueError(f"a booking has {width} numbers here, and {wrong!r} has {len(wrong)}")
     return _words([min(len(listed), 65535)] + [number for booking in listed for number in booking])
