@@ -105,7 +105,8 @@ arriving-not-followed before after x =
 host-had : (X : Pairs) → Met visited X 1 1 → X 0 ≡ true
 unfolding fromAt kindAt toAt neighbours lookedAt looksAt openAt shapePlace
 host-had X met =
-    let (fits, had) = met-exact 2 (Has visited X) (neighboursOf visited 1 1) (partOf visited 1) tt (omega arith) .0 met in
+    let near = neighboursOf visited 1 1 in
+    let (fits, had) = met-exact 2 (Has visited X) near (partOf visited 1) tt (omega arith) .0 met in
     let (u, declared, has) = had .0 in
     let host : 0 * 2 + u ≡ 0 = omega (arith, declared .1) in
     subst (λ (p : ℕ). X p ≡ true) host has

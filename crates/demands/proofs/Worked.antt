@@ -10,8 +10,8 @@
 --   met-listed, unmet-listed, both-unmet-listed, listed-asked   the lists are read, for each desk
 --   worked-links, worked-fit   what the other operations say of it, by computation
 --   all-inside, together  the bookings of a list that is read are in the sheet; what follows from those of each desk
---   worked-largest, worked-smallest, worked-not-met, worked-none, worked-both, worked-both-none, worked-both-not-met, worked-desks   the
---                         right answers are allowed
+--   worked-largest, worked-smallest, worked-not-met, worked-none, worked-both, worked-both-none, worked-both-not-met,
+--   worked-desks          the right answers are allowed
 -- Assumes nothing.
 use Prim.Native.Nat.{ℕ, zero, suc, _+_, _*_, _/_, _%_, _≤_, _<_}
 use mathlib.Core.Path.{_≡_, refl, sym, ap₂, _∙_, subst, subst₂}

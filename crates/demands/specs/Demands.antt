@@ -34,7 +34,8 @@
 --   Bag, Bags, total      2.1: a bag of (label, shape), the bags of a part, how many of a label a bag has
 --   InputFormed, writeInput   the limits of the printer's input, and the bytes of what keeps them
 --
--- From the pages before this one: what is well-formed (Formed), and the numbers that an operation refuses with (Listed).
+-- From the pages before this one: what is well-formed (Formed), and the numbers that an operation refuses with
+-- (Listed).
 --
 -- Here:
 --   FirstDemand                         faults get their refusals, and nothing else is refused

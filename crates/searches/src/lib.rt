@@ -1,5 +1,5 @@
-// The two searches on a sheet whose pairs are tested: what they leave is the largest typing, and the smallest that holds
-// a desk's bookings.
+// The two searches on a sheet whose pairs are tested: what they leave is the largest typing, and the smallest that
+// holds a desk's bookings.
 ghost use Rattle.sheet.specs.Sheet.{Sheet};
 ghost use Rattle.bookings.specs.Bookings.{Booked};
 ghost use Rattle.typing.specs.Answer.{struckSaid, settledSaid};

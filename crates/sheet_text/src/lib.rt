@@ -1,4 +1,5 @@
-// The text of a sheet that is read: the lines of its largest typing and of each desk's smallest, put into a lent buffer.
+// The text of a sheet that is read: the lines of its largest typing and of each desk's smallest, put into a lent
+// buffer.
 ghost use Rattle.words.specs.Wrote.{Wrote};
 ghost use Rattle.sheet_text.specs.Printed.{largestText, pairsText};
 ghost use Rattle.sheet_text.specs.Steps.{settledText, Putting, Printing, SheetWritten};

@@ -20,8 +20,8 @@ abbrev read : tie.After-known-told2 → tie.After-read-booked
 read c = c .before .before .before .before
 
 listed : (c : tie.After-known-told2) → let s = start (read c) .args in
-    BookedSheet (now (s .template)) (now (s .script)) (read c .read-booked .last .1 .1 .1 .0) (c .before .read2 .given .0 .0)
-    (now (s .bookings)) (c .before .read2 .given .0 .1 .0)
+    BookedSheet (now (s .template)) (now (s .script)) (read c .read-booked .last .1 .1 .1 .0)
+    (c .before .read2 .given .0 .0) (now (s .bookings)) (c .before .read2 .given .0 .1 .0)
 listed c =
     let s = start (read c) .args in
     subst (BookedAs (now (s .template)) (now (s .script)) (read c .read-booked .last .1 .1 .1 .0) (now (s .bookings)))

@@ -1,4 +1,5 @@
--- `sheet_text::print_grids` prints what was found of the typings of both desks: the largest's lines, and then each desk's.
+-- `sheet_text::print_grids` prints what was found of the typings of both desks: the largest's lines, and then each
+-- desk's.
 -- Assumes nothing.
 use Prim.Native.Nat.{_*_, _≤_}
 use native.Mathlib.Omega.{arith}

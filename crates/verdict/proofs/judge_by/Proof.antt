@@ -27,7 +27,10 @@ test-pairs-requires : tie.Need-test-pairs-requires
 test-pairs-requires c κs =
     let asked = start (c .before .before .before) .pre in
     let k = asked .lent .booked .known in
-    record { sized = record { known = k; size = omega (arith, asked .lent .size, few-pairs k) }; arriving = asked .arriving }
+    record {
+      sized = record { known = k; size = omega (arith, asked .lent .size, few-pairs k) };
+      arriving = asked .arriving;
+    }
 
 judge-tested-requires : tie.Need-judge-tested-requires
 judge-tested-requires c κs = search needs

@@ -1,5 +1,5 @@
--- `verdict::judge_of` gives the verdict on a grid of a sheet's size: a byte over 1, or what testing its pairs finds. The
--- links to each card are chained where some shape names an incoming kind. Assumes nothing.
+-- `verdict::judge_of` gives the verdict on a grid of a sheet's size: a byte over 1, or what testing its pairs finds.
+-- The links to each card are chained where some shape names an incoming kind. Assumes nothing.
 use mathlib.Core.Path.{_∙_, ap}
 use denote.Ref.{now}
 use borrow.Author.Needs.{needs}
