@@ -14,3 +14,8 @@ ends 1 'LINK.md:3: crates/words/src' python3 tools/checks/pages.py "$out/pages" 
 printf '# A page\n\n    ./package && ls\n' >"$out/pages/docs/LINK.md"
 ends 1 'LINK.md:3: ./package' python3 tools/checks/pages.py "$out/pages" .
 say "pages: $pages"
+
+# Versions were steps of the work so far, and a stored list is known by its form, not by one of them.
+grep -qF 'No version was handed out yet' "$package/CHANGELOG.md" || fail 'CHANGELOG.md speaks of a version handed out'
+! grep -niE 'version before|before version' "$package/include/prep.h" || fail 'prep.h knows a list by a version'
+say 'pages: no page takes a version for handed out'
