@@ -59,7 +59,7 @@
 /* The version of this header; prep_version gives the library's. */
 #define PREP_VERSION_MAJOR 6
 #define PREP_VERSION_MINOR 0
-#define PREP_VERSION_PATCH 0
+#define PREP_VERSION_PATCH 1
 #define PREP_VERSION (PREP_VERSION_MAJOR * 10000 + PREP_VERSION_MINOR * 100 + PREP_VERSION_PATCH)
 
 /* The format's limits, for callers that set arrays aside. */
@@ -236,7 +236,10 @@ size_t prep_links_of_card(const uint16_t *template_words, size_t template_length
                           size_t script_length, uint16_t card_number, uint16_t *link_words, size_t links_length);
 
 /*
- * Writes the largest typing of the script to `largest_grid`, which has cards x shapes bytes.
+ * Writes the largest typing of the script to `largest_grid`, which has cards x shapes bytes. A
+ * program that strikes pairs one at a time, in any order, comes to the same: from every pair on it
+ * strikes only pairs that are left and not met at that moment, and stops when all left are met. Then
+ * just the pairs of `largest_grid` are left, and it has made `struck` strikes.
  * Refusals: the template's, the script's, then 40 at place 0.
  */
 struct prep_largest_answer prep_largest(const uint16_t *template_words, size_t template_length,

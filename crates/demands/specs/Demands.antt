@@ -2,7 +2,8 @@
 -- proves each. The code of a call is proved to meet the `…Says` relation of its operation (the crates that the README's
 -- table of operations names): on every input, without any premise, with its end reached and nothing undefined on the
 -- way. What follows is said of every answer that such a relation allows. What is promised of grids that are judged, of
--- the two desks and of lists that are tidied stands on the pages JudgedGrids, ApartDesks and TidiedLists.
+-- the two desks, of lists that are tidied and of pairs struck one at a time stands on the pages JudgedGrids,
+-- ApartDesks, TidiedLists and SingleStrikes.
 --
 -- From the crates below, each defined there in a few lines:
 --   Said                  what is said: values, or a refusal with its number and its place

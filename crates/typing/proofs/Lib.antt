@@ -7,7 +7,7 @@
 -- made apart. Verdicts: a grid that is judged has one right verdict. Values: values are said of a sheet that is read.
 -- Judging: the judge and the two typings. SamePairs: bookings of the same pairs. NoneBooked: where nothing is booked.
 -- DifferentPairs: how many pairs are booked. Tidying: a list that is tidied. DesksApart: what one desk books changes
--- nothing for the other. DeskAnswers: the typings of both desks in one call.
+-- nothing for the other. DeskAnswers: the typings of both desks in one call. Orders: pairs struck one at a time.
 pub mod Boards
 pub mod Represents
 pub mod Rounds
@@ -32,3 +32,4 @@ pub mod DifferentPairs
 pub mod Tidying
 pub mod DesksApart
 pub mod DeskAnswers
+pub mod Orders

@@ -1,5 +1,5 @@
 -- The promise: Typing, Largest, Smallest, Demand3, what the typings are; Answer, Calls, Desks, Judge and Tidy,
--- what the calls answer.
+-- what the calls answer; Orders, pairs struck one at a time.
 -- Needs: the board of a sheet; no part of a promise.
 pub mod Needs
 pub mod Typing
@@ -11,3 +11,4 @@ pub mod Calls
 pub mod Desks
 pub mod Judge
 pub mod Tidy
+pub mod Orders

@@ -1,11 +1,12 @@
 -- Laws of the frame of a contract.
 --   answered-values    values are said only of what was read
+--   answered-part      so it is where a part of what is said are values
 --   answered-refused   a refusal is the reading's, with a number of a kind and nothing changed, or of what was read
 --   answered-unique    two answers to one reading are equal, and so is what they leave
 --   told-unique        the same where nothing is lent
 -- Assumes nothing.
 use Prim.Native.Nat.{ℕ}
-use mathlib.Core.Path.{_≡_, refl, sym, subst, _∙_}
+use mathlib.Core.Path.{_≡_, refl, sym, ap, subst, _∙_}
 use mathlib.Core.List.{List}
 use Rattle.words.specs.Said.{Said, values, refusal}
 use Rattle.words.specs.Reading.{Reading, accepted, turnedDown}
@@ -18,6 +19,15 @@ module _ {A B : Type 0} {Found : A → Type 0} where
       → Answered r (Unchanged before after (values found)) Found → (a : A) × (r ≡ accepted a) × Found a
   answered-values (turnedDown number place) before after found x = values-refusal (x .0)
   answered-values (accepted a) before after found x = (a, refl, x)
+
+  -- told: how the refusal is said; part: a part of what is said, in which the refusal is itself
+  pub answered-part : {C : Type 0} (told : Said → C) (part : C → Said)
+      → ((refused : Said) → part (told refused) ≡ refused)
+      → (r : Reading A) (before after : B) (said : C) (found : List ℕ) → part said ≡ values found
+      → Answered r (λ refused. Unchanged before after said (told refused)) Found → (a : A) × (r ≡ accepted a) × Found a
+  answered-part told part same (turnedDown number place) before after said found e x =
+      values-refusal (sym e ∙ ap part (x .0) ∙ same _)
+  answered-part told part same (accepted a) before after said found e x = (a, refl, x)
 
   pub answered-refused : {R : Type 0} (Number : ℕ → Type 0) (r : Reading A) (before after : B) (number : ℕ)
       (at : List ℕ) → Numbered Number r → (Number number → after ≡ before → R)
