@@ -1,7 +1,7 @@
 //! Pairs struck one at a time: whatever the order, the largest typing is left, after as many strikes as in the rounds.
 
 use prep_tools::generate::special::{chain, document, longest};
-use prep_tools::generate::turns::{chain_back, longest_back, zigzag};
+use prep_tools::generate::turns::{chain_back, longest_back};
 use prep_tools::generate::{self, MIDDLE, SMALL, TINY};
 use prep_tools::random::Random;
 use prep_tools::sheet::Files;
@@ -78,13 +78,14 @@ fn struck_by_chance<'a>(setting: &'a Setting, random: &mut Random) -> Strikes<'a
 /// What single strikes came to on some sheets.
 #[derive(Default, Debug)]
 struct Played {
-    sheets: usize,
     /// Sheets on which some pair was struck, and some was left.
     partly: usize,
     /// Sheets on which not all orders were the same.
     differently: usize,
-    /// The sizes of the sheets.
+    /// How many pairs each sheet has.
     sizes: Vec<usize>,
+    /// How many rounds each sheet takes.
+    rounds: Vec<usize>,
 }
 
 impl Played {
@@ -105,10 +106,10 @@ impl Played {
             assert_eq!(strikes.left, largest, "{files:?}");
             assert_eq!(strikes.struck.len(), answer.struck, "{files:?}");
         }
-        self.sheets += 1;
         self.partly += usize::from(answer.struck > 0 && answer.struck < setting.size());
         self.differently += usize::from(all.iter().any(|strikes| strikes.struck != all[0].struck));
         self.sizes.push(setting.size());
+        self.rounds.push(answer.rounds);
     }
 }
 
@@ -132,19 +133,39 @@ fn in_any_order_random_sheets_come_to_the_largest_typing() {
     );
 }
 
+/// Chains of so many cards beside each other: each card but the last of a chain leads to the next one, and must.
+fn chains(count: u16, cards: u16) -> Files {
+    let starts = (0..count * cards).filter(|card| (card + 1) % cards != 0);
+    let links: Vec<[u16; 3]> = starts.map(|card| [card, 0, card + 1]).collect();
+    Files {
+        template: vec![1, 1, 4, 256, 0, 1, 1],
+        script: [vec![count * cards, links.len() as u16], links.concat()].concat(),
+        bookings: vec![0],
+    }
+}
+
 #[test]
-fn in_any_order_sheets_of_many_rounds_come_to_the_largest_typing() {
+fn chains_side_by_side_are_struck_in_many_orders() {
     let (mut random, mut played) = (Random::new(82), Played::default());
-    for closed in [false, true] {
-        played.play(&mut random, &chain(200, closed));
-        played.play(&mut random, &chain_back(100, closed));
-        played.play(&mut random, &zigzag(100, !closed));
+    for (count, cards) in [(2, 100), (10, 21), (34, 30)] {
+        played.play(&mut random, &chains(count, cards));
     }
+    assert_eq!(played.rounds, [101, 22, 31]);
+    assert_eq!(played.differently, 3);
+}
+
+#[test]
+fn where_each_round_strikes_one_pair_there_is_one_order() {
+    let (mut random, mut played) = (Random::new(83), Played::default());
+    let mut sheets = vec![chain(200, false), chain_back(100, false)];
     for (cards, shapes) in [(7, 3), (31, 4), (5, 31)] {
-        played.play(&mut random, &longest(cards, shapes));
-        played.play(&mut random, &longest_back(cards, shapes));
+        sheets.extend([longest(cards, shapes), longest_back(cards, shapes)]);
     }
-    assert_eq!(played.sheets, 12);
+    for files in &sheets {
+        played.play(&mut random, files);
+    }
+    assert_eq!(played.rounds, [201, 101, 22, 22, 125, 125, 156, 156]);
+    assert_eq!(played.differently, 0);
 }
 
 #[test]
