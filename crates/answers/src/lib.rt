@@ -1,4 +1,6 @@
 // What the operations answer: lines, and the text of a sheet. Each function answers whether its end was written.
+#![tactic(auto)]
+
 use counts::{FitAnswer, fit_counts};
 use printer::{TEXT_ROOM, print_sheet};
 use script::{ScriptAnswer, links_of_card, read_script};

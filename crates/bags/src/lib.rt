@@ -1,4 +1,6 @@
 // Intervals of repetitions as two numbers (docs/FORMAT.md, "Bags and counts"; section 8.2 of the paper).
+#![tactic(auto)]
+
 ghost use Rattle.std.specs.Prelude.{◌≡◌, cond, ℕ, ◌+◌, min, max};
 ghost use Rattle.bags.specs.Interval.{inside, meet, add, low_room, high_room, link_interval, lowered};
 ghost use Rattle.bags.specs.Interval.{wrap_interval};
@@ -8,7 +10,7 @@ ghost use Rattle.bags.specs.Part.{Limit, limit_of};
 use words::NO_LIMIT;
 
 // From lo to hi; hi 4,294,967,295 is no limit; empty where hi is below lo.
-#[derive(Drop)]
+#[derive(Clone, Copy)]
 pub struct Span {
     pub lo: u32,
     pub hi: u32,

@@ -1,4 +1,6 @@
 // How many cards of a sheet have some link and no shape.
+#![tactic(auto)]
+
 ghost use Rattle.std.specs.Prelude.{◌≡◌};
 ghost use Rattle.board.specs.Grid.{on};
 ghost use Rattle.sheet.specs.Sheet.{Sheet};

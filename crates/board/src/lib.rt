@@ -1,4 +1,6 @@
 // A grid of bytes, 1 where a place is on, and a queue of places: what the searches for both typings do with them.
+#![tactic(auto)]
+
 ghost use Rattle.std.specs.Prelude.{◌≡◌, eqb, length, get_or, replicate, ◌<◌};
 ghost use Rattle.words.specs.First.{First};
 ghost use Rattle.board.specs.Grid.{on, tally};

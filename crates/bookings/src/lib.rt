@@ -1,5 +1,7 @@
 // A list of bookings of both desks (a pre-typing of each): its words, and reading it.
 //   lookup    looking a booking up among those before it
+#![tactic(auto)]
+
 mod lookup;
 
 ghost use Rattle.std.specs.Prelude.{◌≡◌, ◌*◌, ◌≤◌};
@@ -13,7 +15,7 @@ pub use lookup::enter_booking;
 use words::{Card, MAX_BOOKINGS, MAX_CARDS, Shape, wide};
 
 // What reading a booking list finds: its count, or number and place.
-#[derive(Drop)]
+#[derive(Clone, Copy)]
 pub enum BookingRead {
     Count(u16),
     Refused(u16, usize),

@@ -1,4 +1,6 @@
 // Both typings in one call: the largest, and the smallest for a desk. Each pair's counts are tested once.
+#![tactic(auto)]
+
 ghost use Rattle.std.specs.Prelude.{◌≡◌};
 ghost use Rattle.words.specs.Reading.{accepted};
 ghost use Rattle.sheet.specs.Sheet.{Sheet, read_sheet};

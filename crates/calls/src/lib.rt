@@ -1,6 +1,8 @@
 // The calls for the two typings of a script: the largest that it allows, and the smallest that holds the bookings.
 // A call reads what it is lent, and takes a few steps on the sheet that is read: test the pairs, strike rounds, settle
 // the bookings. These are a function of their own, with `_of` to the call's name.
+#![tactic(auto)]
+
 ghost use Rattle.std.specs.Prelude.{◌≡◌};
 ghost use Rattle.words.specs.Reading.{accepted};
 ghost use Rattle.sheet.specs.Sheet.{Sheet, read_sheet};

@@ -1,5 +1,7 @@
 // The operations for C and Rust, on words and bytes that the caller lends (docs/FORMAT.md, "Operations"). An answer is
 // a struct of plain numbers: number is 0 where nothing is refused, and what an answer does not say is 0.
+#![tactic(auto)]
+
 ghost use Rattle.std.specs.Prelude.{◌≡◌, length};
 ghost use Rattle.template.specs.Template.{template_says};
 ghost use Rattle.counts.specs.Fit.{FitSays};
@@ -22,7 +24,7 @@ use words::{Card, Shape, WriteAnswer};
 
 // A template's counts of kinds and of shapes; or a refusal's number and place.
 #[repr(C)]
-#[derive(Drop)]
+#[derive(Clone, Copy)]
 pub struct PrepTemplate {
     pub number: u16,
     pub kinds: u16,
@@ -32,7 +34,7 @@ pub struct PrepTemplate {
 
 // Whether counts fit, 1 or 0; or a refusal's number and place.
 #[repr(C)]
-#[derive(Drop)]
+#[derive(Clone, Copy)]
 pub struct PrepFit {
     pub number: u16,
     pub fits: u16,
@@ -41,7 +43,7 @@ pub struct PrepFit {
 
 // A script's counts of cards and of links; or a refusal's number and place.
 #[repr(C)]
-#[derive(Drop)]
+#[derive(Clone, Copy)]
 pub struct PrepScript {
     pub number: u16,
     pub cards: u16,
@@ -51,7 +53,7 @@ pub struct PrepScript {
 
 // The largest typing's rounds, pairs struck and cards with some link and no shape; or a refusal's number and place.
 #[repr(C)]
-#[derive(Drop)]
+#[derive(Clone, Copy)]
 pub struct PrepLargest {
     pub number: u16,
     pub place: usize,
@@ -62,7 +64,7 @@ pub struct PrepLargest {
 
 // The smallest typing's pairs; or 50 with a card and a shape; or another refusal's number and place.
 #[repr(C)]
-#[derive(Drop)]
+#[derive(Clone, Copy)]
 pub struct PrepSmallest {
     pub number: u16,
     pub card: u16,
@@ -73,7 +75,7 @@ pub struct PrepSmallest {
 
 // The numbers of both typings; with 50 those of the largest, a card and a shape; or another refusal's number and place.
 #[repr(C)]
-#[derive(Drop)]
+#[derive(Clone, Copy)]
 pub struct PrepBoth {
     pub number: u16,
     pub card: u16,
@@ -87,7 +89,7 @@ pub struct PrepBoth {
 
 // Nothing where a grid is accepted; or 62 with a card and a shape; or another refusal's number and place.
 #[repr(C)]
-#[derive(Drop)]
+#[derive(Clone, Copy)]
 pub struct PrepJudge {
     pub number: u16,
     pub card: u16,
@@ -97,7 +99,7 @@ pub struct PrepJudge {
 
 // How many words or bytes were written; or a refusal's number and place.
 #[repr(C)]
-#[derive(Drop)]
+#[derive(Clone, Copy)]
 pub struct PrepWritten {
     pub number: u16,
     pub place: usize,

@@ -9,6 +9,8 @@
 //   7 Tidy bookings: a template, a script, a stored list, how many words the buffer has, which are all 7 before
 // The program ends where the input does, at any other tag, and at a section that is not whole or has no room. Each
 // function reads the sections from one place on, and answers whether it is to go on.
+#![tactic(auto)]
+
 use answers::{
     tell_fit, tell_links, tell_script, tell_sheet, tell_template, tell_tidied, tell_verdict,
 };

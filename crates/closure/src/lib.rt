@@ -1,4 +1,6 @@
 // The closure of the bookings in a grid, for the smallest typing, and its lowest pair that does not fit.
+#![tactic(auto)]
+
 ghost use Rattle.std.specs.Prelude.{◌≡◌, length};
 ghost use Rattle.closure.specs.Closing.{MarkAsked, Marked, CloseAsked, Closes, UnfitAsked, UnfitFound};
 
@@ -9,7 +11,7 @@ use walks::pair_place;
 use words::{Card, Shape, wide};
 
 // The lowest pair of a closure that does not fit, if there is one.
-#[derive(Drop)]
+#[derive(Clone, Copy)]
 pub enum Unfit {
     Nowhere,
     At(Card, Shape),

@@ -1,4 +1,6 @@
 // The printer as a program: from a file to standard output.
+#![tactic(auto)]
+
 use io::{read_full, write_all};
 use printer::{TEXT_ROOM, print_sheet};
 use words::MAX_INPUT;

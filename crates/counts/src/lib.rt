@@ -1,4 +1,6 @@
 // Fit counts: whether counts of links fit a shape of a template.
+#![tactic(auto)]
+
 ghost use Rattle.std.specs.Prelude.{◌≡◌};
 ghost use Rattle.words.specs.Limits.{max_depth};
 ghost use Rattle.bags.specs.Part.{Part};
@@ -17,7 +19,7 @@ use trees::word;
 use words::{MAX_COUNT, MAX_KINDS, MAX_LABELS, Shape, TABLE_SIZE, wide};
 
 // Whether counts fit a shape, or what is refused: number and place.
-#[derive(Drop)]
+#[derive(Clone, Copy)]
 pub enum FitAnswer {
     Yes,
     No,

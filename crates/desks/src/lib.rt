@@ -1,4 +1,6 @@
 // The typings of both desks in one call: the largest, and each desk's smallest. Each pair's counts are tested once.
+#![tactic(auto)]
+
 ghost use Rattle.std.specs.Prelude.{◌≡◌};
 ghost use Rattle.words.specs.Reading.{accepted};
 ghost use Rattle.sheet.specs.Sheet.{Sheet, read_sheet};

@@ -1,5 +1,7 @@
 // The interval of repetitions of a part, from the template's words (section 8.2 of the paper).
 // `part` evaluates a part and `run` a run of parts, and each calls the other.
+#![tactic(auto)]
+
 ghost use Rattle.std.specs.Prelude.{◌≡◌, ℕ};
 ghost use Rattle.words.specs.Limits.{max_depth};
 ghost use Rattle.bags.specs.Part.{Part, Parts};

@@ -1,6 +1,8 @@
 // Which pairs of a sheet fit by counts. Each shape is looked over once, and then held against every card: a flat one by
 // going along the card's links, any other by the evaluator, which counts each label off them. Cards whose links have
 // the same kinds share the byte of a shape that names no incoming kind.
+#![tactic(auto)]
+
 ghost use Rattle.std.specs.Prelude.{ℕ, ◌≡◌, cond, List};
 ghost use Rattle.bags.specs.Part.{Part};
 ghost use Rattle.bags.specs.Interval.{others_zero};
@@ -25,7 +27,7 @@ use words::{MAX_CARDS, MAX_KINDS, MAX_LABELS, wide};
 
 // How a shape is tested: whether it is open, and where its part and the part's core start; if the core is flat, how
 // many of its links must be there.
-#[derive(Drop)]
+#[derive(Clone, Copy)]
 struct Plan {
     opened: bool,
     start: usize,

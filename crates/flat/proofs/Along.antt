@@ -33,8 +33,8 @@ use Rattle.flat.specs.Meeting.{LeavingAs, ArrivingAsked, ArrivingAs, LastLabels}
 use Rattle.flat.specs.declared.meet.Found.{Found}
 use Rattle.flat.specs.declared.meet.Leaving.TheVariants as leaving
 use Rattle.flat.specs.declared.meet.Meeting.TheVariants as meeting
-use Rattle.flat.proofs.Meeting.{demand-few, met-none, met_next, met-skip, met-alike, met-few, interval-met}
-use Rattle.flat.proofs.Meeting.{unnamed-counts, named-counts}
+use Rattle.flat.proofs.MeetingCards.{demand-few, met-none, met_next, met-skip, met-alike, met-few, interval-met}
+use Rattle.flat.proofs.MeetingCards.{unnamed-counts, named-counts}
 
 -- Going along the links stands before a link: those before it have kinds below the bound, the others have not, and the
 -- labels below it are met. A closed shape has a link for each kind passed.

@@ -2,6 +2,8 @@
 // comes.
 //   survey   where the link of each label stands
 //   meet     the interval for the links of a card
+#![tactic(auto)]
+
 mod meet;
 mod survey;
 

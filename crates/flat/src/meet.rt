@@ -12,21 +12,21 @@ use links::run_length;
 use words::{MAX_LABELS, wide};
 
 // The interval so far, and how many of the links that must be there are.
-#[derive(Drop)]
+#[derive(Clone, Copy)]
 struct Found {
     span: Span,
     found: usize,
 }
 
 // What the links from a card come to: a closed shape does not name one of their kinds, or the interval so far.
-#[derive(Drop)]
+#[derive(Clone, Copy)]
 enum Leaving {
     Unnamed,
     Met(Found),
 }
 
 // What a card's links come to: a closed shape does not name one of their kinds, or the part's interval.
-#[derive(Drop)]
+#[derive(Clone, Copy)]
 pub enum Meeting {
     Unnamed,
     Met(Span),

@@ -7,7 +7,7 @@ ghost use Rattle.flat.specs.Places.{code_size, LinkRoom, EnterAsked, entered, mu
 use words::wide;
 
 // A flat part has so many links that must be there; other parts are not looked into.
-#[derive(Drop)]
+#[derive(Clone, Copy)]
 pub enum Survey {
     Flat(usize),
     Other,

@@ -1,5 +1,7 @@
 // The search forwards over pairs of a card and a shape: from the pairs that are queued, along the links of what is
 // found, from a card and to it. It is linear in links times shapes.
+#![tactic(auto)]
+
 ghost use Rattle.std.specs.Prelude.{◌≡◌, ◌/◌};
 ghost use Rattle.bags.specs.Label.{outgoing, incoming as arriving};
 ghost use Rattle.board.specs.Work.{work, Swept};

@@ -1,4 +1,6 @@
 // The grid judge: from standard input to standard output.
+#![tactic(auto)]
+
 use io::{read_full, write_all};
 use judge_line::{LINE_ROOM, MAX_JUDGED, judge_line};
 

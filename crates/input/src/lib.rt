@@ -1,5 +1,7 @@
 // The printer's input: finding its three sections in bytes, and decoding their words. They also start the input of
 // another program.
+#![tactic(auto)]
+
 ghost use Rattle.std.specs.Prelude.{◌≡◌, ◌+◌, ◌*◌, ◌≤◌, ◌<◌, length};
 ghost use Rattle.words.specs.Bounded.{Bounded};
 ghost use Rattle.input.specs.Input.{word_at, read_front, read_input};
@@ -9,14 +11,14 @@ ghost use Rattle.input.specs.Machine.{SectionsInside};
 use words::{MAX_INPUT, wide};
 
 // Where a section's words start in the input, and how many they are.
-#[derive(Drop)]
+#[derive(Clone, Copy)]
 pub struct Section {
     pub at: usize,
     pub count: usize,
 }
 
 // Where the words of template, script and bookings are, or that the input is at fault.
-#[derive(Drop)]
+#[derive(Clone, Copy)]
 pub enum Sections {
     Found(Section, Section, Section),
     Faulty,

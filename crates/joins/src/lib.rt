@@ -1,5 +1,7 @@
 // Parts of a choice (16) or of an all (17), joined one after the other: what the first parts of a run come to. The
 // count of a label stands in a list, or is counted off the links of a card.
+#![tactic(auto)]
+
 ghost use Rattle.std.specs.Prelude.{◌≡◌, true, List, ℕ, ◌+◌};
 ghost use Rattle.bags.specs.Part.{Limit};
 ghost use Rattle.bags.specs.Interval.{link_interval};
@@ -14,14 +16,14 @@ use trees::word;
 use words::{MAX_LABELS, wide};
 
 // What evaluating a part finds: the next place, and its interval.
-#[derive(Drop)]
+#[derive(Clone, Copy)]
 pub struct Eval {
     pub next: usize,
     pub span: Span,
 }
 
 // What the parts of a run so far come to, and how many of them were taken last.
-#[derive(Drop)]
+#[derive(Clone, Copy)]
 pub struct Taken {
     pub eval: Eval,
     pub count: u16,

@@ -1,4 +1,6 @@
 // The grid judge, from the bytes of its input to the bytes of its output. A program above it only reads and writes.
+#![tactic(auto)]
+
 ghost use Rattle.std.specs.Prelude.{◌≤◌, length};
 ghost use Rattle.words.specs.Wrote.{Wrote};
 ghost use Rattle.input.specs.Input.{input_of};

@@ -1,4 +1,6 @@
 // What is wrong with a grid: its lowest pair that is not met under it, and the first booking that it does not hold.
+#![tactic(auto)]
+
 ghost use Rattle.std.specs.Prelude.{true, ◌↔◌, ◌≡◌, ℕ, ◌+◌, ◌*◌, ◌<◌, length};
 ghost use Rattle.words.specs.First.{First};
 ghost use Rattle.bags.specs.Label.{outgoing, incoming as arriving};

@@ -1,4 +1,6 @@
 // What a call is lent, read: a template, a script and a booking list, and then a desk and a grid.
+#![tactic(auto)]
+
 ghost use Rattle.std.specs.Prelude.{◌≡◌, ◌*◌, replicate};
 ghost use Rattle.words.specs.Sizes.{table_size};
 ghost use Rattle.lent.specs.Readings.{BookedAs, LentAs};
@@ -8,7 +10,7 @@ use sheet::{Extent, SheetRead, read_sheet};
 
 // What reading a template, a script and a booking list finds: the sheet's counts and that of the bookings, or number
 // and place.
-#[derive(Drop)]
+#[derive(Clone, Copy)]
 pub enum BookedRead {
     Sheet(Extent, u16),
     Refused(u16, usize),

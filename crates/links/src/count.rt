@@ -25,7 +25,7 @@ pub fn run_length(links: &[u16], at: usize, kind: u16) -> usize
 
 // A kind that was counted, how many of a card's links have it, and the place of a link's kind: no link before it has a
 // kind above that one.
-#[derive(Drop)]
+#[derive(Clone, Copy)]
 pub struct KindCount {
     pub next: usize,
     pub kind: u16,

@@ -2,6 +2,8 @@
 //   index     where the links from each card start, and the links to each card as a chain
 //   count     how many links of a kind a card has, from it and to it
 //   mark      which cards have some link
+#![tactic(auto)]
+
 mod count;
 mod index;
 mod mark;

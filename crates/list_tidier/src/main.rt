@@ -1,4 +1,6 @@
 // The list tidier: from standard input to standard output.
+#![tactic(auto)]
+
 use io::{read_full, write_all};
 use tidy_list::{LIST_ROOM, tidy_list};
 use words::MAX_INPUT;

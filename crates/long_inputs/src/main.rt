@@ -1,5 +1,7 @@
 // The sheet printer on the files that its three arguments name: an input as long as the format takes, one a byte
 // longer, after a whole input, and one a word longer, which is otherwise whole.
+#![tactic(auto)]
+
 use console::print_from;
 
 // Prints the sheet of the file that an argument names, or says why it cannot be opened.

@@ -1,4 +1,6 @@
 // The pairs of a sheet tested, and where its links stand.
+#![tactic(auto)]
+
 ghost use Rattle.pairs.specs.Pairs.{ArrivalsAsked, ArrivalsChained, TestAsked, PairsTested};
 
 use fits::fit_grid;

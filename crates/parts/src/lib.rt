@@ -1,5 +1,7 @@
 // Reading one part of a template (a schema): `part` reads a part and `run` a run of parts, and each calls the other. A
 // row of names gets the shape (a type) that each link leads to.
+#![tactic(auto)]
+
 ghost use Rattle.std.specs.Prelude.{◌≡◌, ◌+◌, ◌<◌};
 ghost use Rattle.words.specs.Limits.{max_shapes};
 ghost use Rattle.parts.specs.Reading.{limits_ok, read_link, read_part, read_run};
@@ -8,14 +10,14 @@ ghost use Rattle.parts.specs.Machine.{shown, outcome, PartReadAsked, LinkReadAsk
 use words::{Kind, MAX_COUNT, MAX_GROUP, MAX_KINDS, MIN_GROUP, NO_LIMIT, Shape};
 
 // The counts that a template starts with.
-#[derive(Drop)]
+#[derive(Clone, Copy)]
 pub struct Sizes {
     pub kinds: u16,
     pub shapes: u16,
 }
 
 // The next place after what was read, or the refusal's number and place.
-#[derive(Drop)]
+#[derive(Clone, Copy)]
 pub enum Read {
     Next(usize),
     Refused(u16, usize),

@@ -1,4 +1,6 @@
 // The sheet printer, from the bytes of its input to the bytes of its output. A program above it only reads and writes.
+#![tactic(auto)]
+
 ghost use Rattle.std.specs.Prelude.{◌≤◌, length};
 ghost use Rattle.input.specs.Machine.{words_in, part_in};
 ghost use Rattle.sheet_text.specs.Steps.{text_room, SheetWritten};

@@ -3,6 +3,8 @@
 //   8 The grid judge: its line
 //   9 The list tidier: `:` and the bytes that it writes, as numbers
 // The program ends where the input does, at any other tag, and at a section that is not whole or has no room.
+#![tactic(auto)]
+
 use judge_line::{LINE_ROOM, MAX_JUDGED, judge_line};
 use sections::{bytes, next_word, read_bytes, text};
 use tidy_list::{LIST_ROOM, tidy_list};

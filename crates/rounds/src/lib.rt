@@ -1,5 +1,7 @@
 // The search backwards over pairs of a card and a shape, for the largest typing: from the pairs whose counts do not
 // fit, rounds of strikes, until one strikes nothing. It is linear in links times shapes.
+#![tactic(auto)]
+
 ghost use Rattle.std.specs.Prelude.{◌≡◌, ◌/◌};
 ghost use Rattle.rounds.specs.Rounds.{SourceCardAsked, OutAsked, BothAsked, BackAsked, StrikeAsked};
 ghost use Rattle.rounds.specs.Rounds.{StrikesLeft};

@@ -1,4 +1,6 @@
 // Reading a script (a graph): its cards (nodes) and links (edges), and the links of a card.
+#![tactic(auto)]
+
 ghost use Rattle.std.specs.Prelude.{◌≡◌, ℕ, suc, ◌+◌, ◌*◌};
 ghost use Rattle.words.specs.Reading.{Reading, accepted, said_of};
 ghost use Rattle.script.specs.Link.{greater, above, below};
@@ -11,14 +13,14 @@ use template::{TemplateAnswer, read_template};
 use words::{Card, MAX_CARDS, MAX_LINKS, wide};
 
 // A script's counts of cards and of links, or what it is refused for: number and place.
-#[derive(Drop)]
+#[derive(Clone, Copy)]
 pub enum ScriptAnswer {
     Counts(u16, u16),
     Refused(u16, usize),
 }
 
 // What the test of one link finds: nothing at fault, or a refusal's number and place.
-#[derive(Drop)]
+#[derive(Clone, Copy)]
 enum LinkTest {
     Passed,
     Refused(u16, usize),

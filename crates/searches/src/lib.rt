@@ -1,5 +1,7 @@
 // The two searches on a sheet whose pairs are tested: what they leave is the largest typing, and the smallest that
 // holds a desk's bookings.
+#![tactic(auto)]
+
 ghost use Rattle.sheet.specs.Sheet.{Sheet};
 ghost use Rattle.bookings.specs.Bookings.{Booked};
 ghost use Rattle.typing.specs.Answer.{struck_said, settled_said};

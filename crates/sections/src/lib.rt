@@ -1,5 +1,7 @@
 // What a program over stored cases reads and writes. On standard input: words, two bytes each, and sections, each
 // after its length in bytes in four bytes; low bytes first. On standard output: texts and numbers.
+#![tactic(auto)]
+
 ghost use Rattle.io.specs.Counts.{IsPrefixLen};
 
 use input::decode;
@@ -13,14 +15,14 @@ pub const MOST_BYTES: usize = MAX_INPUT + 1;
 pub const MOST_WORDS: usize = MOST_BYTES / 2;
 
 // How much of a buffer a section takes, and whether it was whole and had room there.
-#[derive(Drop)]
+#[derive(Clone, Copy)]
 pub struct Section {
     pub whole: bool,
     pub count: usize,
 }
 
 // A word, which is 0 where there is none.
-#[derive(Drop)]
+#[derive(Clone, Copy)]
 pub struct Word {
     pub whole: bool,
     pub value: u16,

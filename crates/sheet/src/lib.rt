@@ -1,4 +1,6 @@
 // A template and a script that are read together.
+#![tactic(auto)]
+
 ghost use Rattle.std.specs.Prelude.{ℕ, ◌<◌, ◌≡◌, false, length, get_or, replicate};
 ghost use Rattle.words.specs.Sizes.{table_size};
 ghost use Rattle.sheet.specs.Opened.{OnlyOutgoing, WaysAsked, ReadAs};
@@ -8,7 +10,7 @@ use template::{TemplateAnswer, read_names};
 use words::{MAX_KINDS, MAX_LABELS, wide};
 
 // The counts of a template and a script that are read, and whether some shape names an incoming kind.
-#[derive(Drop)]
+#[derive(Clone, Copy)]
 pub struct Extent {
     pub kinds: u16,
     pub shapes: u16,
@@ -18,7 +20,7 @@ pub struct Extent {
 }
 
 // What reading a template and a script finds.
-#[derive(Drop)]
+#[derive(Clone, Copy)]
 pub enum SheetRead {
     Sheet(Extent),
     Refused(u16, usize),

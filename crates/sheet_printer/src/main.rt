@@ -1,4 +1,6 @@
 // The sheet printer.
+#![tactic(auto)]
+
 use console::print_input;
 
 fn main() {

@@ -1,5 +1,7 @@
 // The text of a sheet that is read: the lines of its largest typing and of each desk's smallest, put into a lent
 // buffer.
+#![tactic(auto)]
+
 ghost use Rattle.words.specs.Wrote.{Wrote};
 ghost use Rattle.sheet_text.specs.Printed.{largest_text, pairs_text};
 ghost use Rattle.sheet_text.specs.Steps.{settled_text, Putting, Printing, SheetWritten};

@@ -1,5 +1,7 @@
 // A stored list of bookings, of two words each, in which a pair may stand several times: its words, and reading it.
 //   tidying   writing it without its repeats
+#![tactic(auto)]
+
 mod tidying;
 
 ghost use Rattle.std.specs.Prelude.{◌≡◌};

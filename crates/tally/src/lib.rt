@@ -1,10 +1,12 @@
 // The tally of rounds and strikes, and the thin round closer.
+#![tactic(auto)]
+
 ghost use Rattle.std.specs.Prelude.{◌≡◌, ◌≤◌};
 ghost use Rattle.words.specs.Sizes.{max_grid};
 ghost use Rattle.tally.specs.Tally.{closed, HeadTally};
 
 // Rounds and pairs struck.
-#[derive(Drop)]
+#[derive(Clone, Copy)]
 pub struct Tally {
     pub rounds: usize,
     pub struck: usize,

@@ -1,5 +1,7 @@
 // Reading a template (a schema): the words of each shape (a type) are one part exactly, which `parts` reads. The same
 // reading fills the table of names.
+#![tactic(auto)]
+
 ghost use Rattle.std.specs.Prelude.{◌≡◌, ◌+◌, ◌<◌, length, replicate};
 ghost use Rattle.words.specs.Sizes.{table_size};
 ghost use Rattle.words.specs.Reading.{accepted};
@@ -12,14 +14,14 @@ use parts::{Read, Sizes, part};
 use words::{MAX_DEPTH, MAX_KINDS, MAX_LABELS, MAX_SHAPES, MAX_TEMPLATE, TABLE_SIZE, wide};
 
 // A template's words and the next place to read.
-#[derive(Drop)]
+#[derive(Clone, Copy)]
 struct Reader<'a> {
     words: &'a [u16],
     at: usize,
 }
 
 // A template's counts of kinds and of shapes, or what it is refused for: number and place.
-#[derive(Drop)]
+#[derive(Clone, Copy)]
 pub enum TemplateAnswer {
     Counts(u16, u16),
     Refused(u16, usize),

@@ -1,4 +1,6 @@
 // Writing the text of a printed sheet, or of a verdict, into a lent buffer, a piece at a time.
+#![tactic(auto)]
+
 ghost use Rattle.std.specs.Prelude.{[], ◌∷◌, ◌+◌, ◌*◌};
 ghost use Rattle.text.specs.Text.{digits, shape_text, shapes_text, card_line, card_lines, two_numbers, largest_line};
 ghost use Rattle.text.specs.Text.{smallest_line, not_met_line, refused_line};

@@ -1,4 +1,6 @@
 // Tidying a stored list of bookings: the first booking of each pair stays, as the radio desk's.
+#![tactic(auto)]
+
 ghost use Rattle.words.specs.Writes.{write_said};
 ghost use Rattle.typing.specs.Tidy.{TidySays};
 

@@ -1,4 +1,6 @@
 // The list tidier, from the bytes of its input to the bytes of its output. A program above it only reads and writes.
+#![tactic(auto)]
+
 ghost use Rattle.std.specs.Prelude.{◌≤◌, [], ◌∷◌, length};
 ghost use Rattle.words.specs.Bytes.{low_first, write_words};
 ghost use Rattle.words.specs.Said.{values};

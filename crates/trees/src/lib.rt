@@ -1,5 +1,7 @@
 // The part at a place of a template's words: the stars, pluses and optionals that it starts with, where what they are
 // around starts, its core, and what they make of the core's interval, all of them together.
+#![tactic(auto)]
+
 ghost use Rattle.std.specs.Prelude.{ℕ, ◌+◌, ◌-◌, ◌≤◌, ◌≡◌, ◌||◌, length, get_or};
 ghost use Rattle.bags.specs.Interval.{inside, interval};
 ghost use Rattle.bags.specs.Span.{view};
@@ -10,7 +12,7 @@ use bags::{Span, has_one, wrap_span};
 
 // The wrappers before a core: where it starts, whether one of them is a star or a plus, and whether one is a star or an
 // optional.
-#[derive(Drop)]
+#[derive(Clone, Copy)]
 pub struct Front {
     pub core: usize,
     pub lowers: bool,

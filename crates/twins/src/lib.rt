@@ -1,5 +1,7 @@
 // Cards whose links have the same kinds, in order. A table of marks names for each card an earlier one that may be
 // like it, and comparing their kinds decides.
+#![tactic(auto)]
+
 ghost use Rattle.std.specs.Prelude.{ℕ, ◌+◌, ◌<◌, ◌≡◌, true};
 ghost use Rattle.links.specs.Index.{LeavingOf};
 ghost use Rattle.links.specs.Runs.{kinds_in};

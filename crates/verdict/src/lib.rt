@@ -1,5 +1,7 @@
 // The verdict on a grid that another maker made: whether it is a sound typing that holds the bookings. The grid is only
 // read.
+#![tactic(auto)]
+
 ghost use Rattle.std.specs.Prelude.{◌≡◌};
 ghost use Rattle.words.specs.Reading.{accepted};
 ghost use Rattle.sheet.specs.Sheet.{Sheet, read_sheet};

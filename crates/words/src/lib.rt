@@ -1,5 +1,7 @@
 // The format's limits, the numbers of cards, kinds and shapes, words and bytes as sizes, and the answer of what writes:
 // what every crate starts with.
+#![tactic(auto)]
+
 ghost use Rattle.words.specs.Bounded.{Bounded};
 
 // The limits, as specs/Limits and specs/Sizes have them.
@@ -34,19 +36,19 @@ pub const TABLE_SIZE: usize = MAX_SHAPES * MAX_LABELS;
 pub const MAX_GRID: usize = MAX_CARDS * MAX_SHAPES;
 
 // The number of a card: it counts the script's cards from 0.
-#[derive(Drop)]
+#[derive(Clone, Copy)]
 pub struct Card(pub u16);
 
 // The number of a kind: it counts the template's kinds from 0.
-#[derive(Drop)]
+#[derive(Clone, Copy)]
 pub struct Kind(pub u16);
 
 // The number of a shape: it counts the template's shapes from 0.
-#[derive(Drop)]
+#[derive(Clone, Copy)]
 pub struct Shape(pub u16);
 
 // What an operation answers that writes into a buffer: how many words or bytes it wrote, or number and place.
-#[derive(Drop)]
+#[derive(Clone, Copy)]
 pub enum WriteAnswer {
     Written(usize),
     Refused(u16, usize),

@@ -2,7 +2,7 @@
 -- Assumes nothing.
 use native.Mathlib.Omega.{arith}
 use borrow.Author.Rules.{rules}
-use Rattle.flat.proofs.Meeting.{all_found, one-missing}
+use Rattle.flat.proofs.MeetingCards.{all_found, one-missing}
 use Rattle.flat.proofs.meet.all_met.Statement.{statement}
 use Rattle.flat.proofs.meet.all_met.Tie as tie
 

@@ -9,7 +9,7 @@ use borrow.Author.Rules.{rules}
 use Rattle.words.specs.Limits.{max_labels}
 use Rattle.words.proofs.Bools.{eq-or-ne}
 use Rattle.flat.specs.Meeting.{LinkAsked}
-use Rattle.flat.proofs.Meeting.{demand-few}
+use Rattle.flat.proofs.MeetingCards.{demand-few}
 use Rattle.flat.proofs.Along.{Arrived, arrived-start, arrived-next, arrived-done}
 use Rattle.flat.proofs.meet.meet_arriving.Statement.{statement}
 use Rattle.flat.proofs.meet.meet_arriving.Tie as tie

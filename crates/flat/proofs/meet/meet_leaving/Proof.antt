@@ -10,7 +10,7 @@ use borrow.Author.Rules.{rules}
 use Rattle.words.specs.Limits.{max_kinds, max_links}
 use Rattle.words.proofs.Bools.{never_both, not_of_false, false_of_not}
 use Rattle.flat.specs.Meeting.{LinkAsked}
-use Rattle.flat.proofs.Meeting.{met-few, demand-few}
+use Rattle.flat.proofs.MeetingCards.{met-few, demand-few}
 use Rattle.flat.proofs.Along.{Walked, walked_start, walked-kind, walked-asked, walked-few, walked-unnamed}
 use Rattle.flat.proofs.Along.{walked_next, walked-done}
 use Rattle.flat.proofs.meet.meet_leaving.Statement.{statement}

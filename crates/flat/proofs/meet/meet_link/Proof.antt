@@ -3,7 +3,7 @@
 use native.Mathlib.Omega.{arith}
 use borrow.Author.Rules.{rules}
 use Rattle.flat.specs.Meeting.{link_at}
-use Rattle.flat.proofs.Meeting.{link-none, link-some}
+use Rattle.flat.proofs.MeetingCards.{link-none, link-some}
 use Rattle.flat.proofs.meet.meet_link.Statement.{statement}
 use Rattle.flat.proofs.meet.meet_link.Tie as tie
 

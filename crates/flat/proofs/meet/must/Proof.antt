@@ -1,7 +1,7 @@
 -- `flat::meet::must` meets its contract.
 -- Assumes nothing.
 use native.Mathlib.Omega.{arith}
-use Rattle.flat.proofs.Meeting.{demand-none, demand-low, demand-some}
+use Rattle.flat.proofs.MeetingCards.{demand-none, demand-low, demand-some}
 use Rattle.flat.proofs.meet.must.Statement.{statement}
 use Rattle.flat.proofs.meet.must.Tie as tie
 

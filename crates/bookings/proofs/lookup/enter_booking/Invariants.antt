@@ -1,0 +1,17 @@
+-- `bookings::enter_booking` looks a booking up along the chain of its card. The invariant: what is below the booking
+-- that it stands at decides.
+-- Assumes nothing.
+use Prim.Native.Nat.{ℕ, ◌-◌}
+use Rattle.bookings.specs.Bookings.{Booking}
+use Rattle.bookings.proofs.Repeats.{Looking}
+use Rattle.bookings.proofs.lookup.enter_booking.Given as goal
+
+-- what is looked up
+abbrev pub it : ℕ → ℕ → ℕ → Booking
+it desk card shape = record { desk = desk; card = card; shape = shape }
+
+abbrev pub invariant-loop-at : goal.invariant-loop-at
+invariant-loop-at l = Looking l.bookings (it l.desk l.n l.shape.0) l.k l.at
+
+abbrev pub decreases-loop-at : goal.decreases-loop-at
+decreases-loop-at l = l.at
