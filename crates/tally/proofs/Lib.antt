@@ -1,2 +1,0 @@
--- Tallies: a tally in memory.
-pub mod Tallies
