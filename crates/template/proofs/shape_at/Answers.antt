@@ -1,0 +1,57 @@
+-- `template::shape_at` meets its contract: a law of proofs/ShapeLaws for each answer.
+-- Assumes nothing.
+use Prim.Native.Nat.{◌+◌, ◌-◌, ◌≤◌, ◌<◌}
+use native.Mathlib.Omega.{arith}
+use mathlib.Core.Path.{ap}
+use lib.ListN.{length}
+use Rattle.template.proofs.ShapeLaws.{shape-missing, shape-long, shape-empty, shape-left, shape-done}
+use Rattle.template.proofs.ShapeLaws.{shape-refused}
+use borrow.Author.Rules.{rules}
+use Rattle.template.proofs.shape_at.Goals as goal
+use Rattle.template.proofs.shape_at.Goals.{After-part-whole, After-wide-count}
+
+-- the count stands inside the words, and so many words follow it
+inside : (c : After-wide-count) → c.args.at < length c.args.words.now
+inside c = omega arith
+
+follow : (p : After-part-whole) → p.wide-count.result ≤ length p.args.words.now - (p.args.at + 1)
+follow p = p.if-words-start.false
+
+pub returns-then-words-at : goal.returns-then-words-at
+returns-then-words-at c =
+    shape-missing c.args.sizes c.args.words.now c.args.at c.args.row.now c.if-words-at.true
+
+pub returns-then-words-start : goal.returns-then-words-start
+returns-then-words-start c =
+    shape-long c.args.sizes c.args.words.now c.args.at c.wide-count.result (inside (goal.at.returns-then-words-start c).After-wide-count)
+    c.wide-count.ensures.same c.args.row.now c.if-words-start.true
+
+pub returns-then-count-eq0 : goal.returns-then-count-eq0
+returns-then-count-eq0 c =
+    shape-empty c.args.sizes c.args.words.now c.args.at c.wide-count.result (inside (goal.at.returns-then-count-eq0 c).After-wide-count)
+    c.wide-count.ensures.same c.if-words-start.false c.args.row.now c.if-count-eq0.true
+
+pub part-whole-requires : goal.part-whole-requires
+part-whole-requires c =
+    let e = ap length c.requires.unnamed in
+    search rules
+
+pub returns-then-next-end : goal.returns-then-next-end
+returns-then-next-end c =
+    shape-left c.args.sizes c.args.words.now c.args.at c.wide-count.result (inside (goal.at.returns-then-next-end c).After-wide-count)
+    c.wide-count.ensures.same (follow (goal.at.returns-then-next-end c).After-part-whole) c.args.row.now c.part_at-first.result c.part-whole.result _
+    c.requires.unnamed c.part_at-first.ensures c.part-whole.ensures _ c.in-Next.is
+    c.if-next-end.true
+
+pub returns-else-next-end : goal.returns-else-next-end
+returns-else-next-end c =
+    shape-done c.args.sizes c.args.words.now c.args.at c.wide-count.result (inside (goal.at.returns-else-next-end c).After-wide-count)
+    c.wide-count.ensures.same (follow (goal.at.returns-else-next-end c).After-part-whole) c.args.row.now c.part_at-first.result c.part-whole.result _
+    c.requires.unnamed c.part_at-first.ensures c.part-whole.ensures _ c.requires.kinds-high
+    c.in-Next.is c.if-next-end.false
+
+pub returns-in-Refused : goal.returns-in-Refused
+returns-in-Refused c =
+    shape-refused c.args.sizes c.args.words.now c.args.at c.wide-count.result (inside (goal.at.returns-in-Refused c).After-wide-count)
+    c.wide-count.ensures.same (follow (goal.at.returns-in-Refused c).After-part-whole) c.args.row.now c.part_at-first.result c.part-whole.result _
+    c.requires.unnamed c.part_at-first.ensures c.part-whole.ensures _ _ c.in-Refused.is
