@@ -144,7 +144,7 @@ module _ (nth : ℕ → Booking) where
       let next = booking-next x (firsts nth i) (nth i) (different nth i) full in
       let before =
       before-kept x (firsts nth i) (words_of (nth i)) (different nth i) full b (different nth i) (omega arith) in
-      rw (different-new nth i e, kept_new nth i e)
+      rw (kept_new nth i e, different-new nth i e)
       (before_more (booking_at (x ∷ (firsts nth i ++ words_of (nth i)))) b (different nth i)
       ∙ ap₂ ◌||◌ (before ∙ kept-before x i b) (ap (λ (c : Booking). same c b) next) ∙ sym (before_more nth b i)))
       (true-or-false (repeated nth i))
