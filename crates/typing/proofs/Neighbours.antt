@@ -27,6 +27,7 @@ module _ (has : ℕ → ℕ → Type 0) (p : Part) where
 
   pub targets-at : (ns : List Neighbour) → TargetsHave has ns p
       → (label far : ℕ) → Memᴰ (to label far) ns → TargetHas label far
+  targets-at [] h label far m = elim m [ ]
   targets-at (to l f ∷ ns) h label far (Memᴰ.head e) =
       let (u, d, x) = h.0 in
       let same-label : l ≡ label = cc in
@@ -35,6 +36,7 @@ module _ (has : ℕ → ℕ → Type 0) (p : Part) where
   targets-at (to l f ∷ ns) h label far (Memᴰ.tail m) = targets-at ns h.1 label far m
 
 pub label-counted : (ns : List Neighbour) (label far : ℕ) → Memᴰ (to label far) ns → 0 < label_count ns label
+label-counted [] label far m = elim m [ ]
 label-counted (to l f ∷ ns) label far (Memᴰ.head e) =
     let same : label ≡ l = cc in
     let one : when (eqb label l) 1 ≡ 1 = ap (λ (b : Bool). when b 1) (eq-eqb label l same) in

@@ -1,0 +1,97 @@
+-- `flat::meet::meet_leaving` goes along the links run by run; the invariant is Walked.
+-- Assumes nothing.
+use Prim.Native.Nat.{ℕ, ◌+◌, ◌-◌, ◌*◌, ◌≤◌, ◌<◌}
+use mathlib.Core.Path.{◌≡◌, refl, ◌∙◌, ap}
+use mathlib.Core.Logic.{⊎_elim}
+use mathlib.Core.Bool.{false}
+use native.Mathlib.Omega.{arith}
+use lib.ListN.{length, get_or}
+use Rattle.words.specs.Limits.{max_kinds, max_links}
+use Rattle.words.proofs.Bools.{never_both, not_of_false, false_of_not}
+use Rattle.flat.specs.Meeting.{LinkAsked}
+use Rattle.flat.proofs.MeetingCards.{met-few, demand-few}
+use Rattle.flat.proofs.Along.{walked_start, walked-kind, walked-asked, walked-few, walked-unnamed}
+use Rattle.flat.proofs.Along.{walked_next, walked-done}
+use Rattle.flat.proofs.meet.meet_leaving.Goals as goal
+use Rattle.flat.proofs.meet.meet_leaving.Goals.{After-run_length-count, After-wide-place, In-loop-at, Joined-else-place-eq0}
+
+-- The kind and the place of a turn.
+abbrev kind : In-loop-at → ℕ
+kind l = get_or l.args.links.now l.loop-at.at 0
+
+place_is : (a : After-wide-place)
+    → a.wide-place.result ≡ get_or a.args.places.now (kind (goal.at.After-wide-place a).In-loop-at) 0
+place_is a =
+    a.wide-place.ensures.same
+    ∙ ap (λ (k : ℕ). get_or a.args.places.now k 0) a.wide.ensures.same
+
+link-asked : (a : After-wide-place)
+    → LinkAsked a.args.words.now a.wide-place.result
+link-asked a l =
+    let placed = a.requires.placed in
+    let e = place_is a in
+    omega (arith, placed.inside (kind (goal.at.After-wide-place a).In-loop-at) (omega arith))
+
+-- A closed shape has a link for the kind.
+named : (c : Joined-else-place-eq0) → c.args.is_open ≡ false
+    → 0 < c.wide-place.result
+named c shut = ⊎_elim (λ w. never_both w.if-not-is_open.false shut) (λ w. omega arith) c.else-place-eq0.branch-raw
+
+-- The run is of so many links, and ends with them.
+few : (c : After-run_length-count)
+    → (c.run_length-count.result ≤ max_links) × (1 ≤ c.run_length-count.result)
+    × (c.loop-at.at + 3 * c.run_length-count.result
+    ≤ 1 + length c.args.links.now)
+few c =
+    walked-few c.requires c.loop-at.invariant c.loop-at-test.true (kind (goal.at.After-run_length-count c).In-loop-at) refl _ (place_is (goal.at.After-run_length-count c).After-wide-place) _
+    c.run_length-count.ensures
+
+pub loop-at-init : goal.loop-at-init
+loop-at-init c = walked_start _ _ _ _
+
+pub bounds-places-wide : goal.bounds-places-wide
+bounds-places-wide c =
+    let below : kind (goal.at.bounds-places-wide c).In-loop-at < max_kinds =
+    walked-kind c.requires c.loop-at.invariant c.loop-at-test.true (kind (goal.at.bounds-places-wide c).In-loop-at) refl in
+    omega (arith, c.wide.ensures.same, c.requires.placed.full)
+
+pub returns-then-not-is_open : goal.returns-then-not-is_open
+returns-then-not-is_open c =
+    walked-unnamed c.requires c.loop-at.invariant c.loop-at-test.true (kind (goal.at.returns-then-not-is_open c).In-loop-at) refl _ (place_is (goal.at.returns-then-not-is_open c).After-wide-place)
+    (false_of_not c.if-not-is_open.true-raw) c.if-place-eq0.true
+
+pub run_length-count-requires : goal.run_length-count-requires
+run_length-count-requires c =
+    walked-asked c.requires c.loop-at.invariant c.loop-at-test.true (kind (goal.at.run_length-count-requires c).In-loop-at) refl
+
+pub overflow_cast-count : goal.overflow_cast-count
+overflow_cast-count c = omega (arith, few c)
+
+pub meet_link-span-requires : goal.meet_link-span-requires
+meet_link-span-requires c = link-asked (goal.at.meet_link-span-requires c).After-wide-place
+
+pub must-found-requires : goal.must-found-requires
+must-found-requires c = link-asked (goal.at.must-found-requires c).After-wide-place
+
+pub overflow_add-found : goal.overflow_add-found
+overflow_add-found c =
+    let one = demand-few c.args.words.now c.wide-place.result in
+    omega (arith, c.must-found.ensures, met-few c.loop-at.invariant.met, c.loop-at.invariant.outgoing)
+
+pub overflow_mul-at : goal.overflow_mul-at
+overflow_mul-at c = omega (arith, few (goal.at.overflow_mul-at c).After-run_length-count)
+
+pub overflow_add-at : goal.overflow_add-at
+overflow_add-at c = omega (arith, few (goal.at.overflow_add-at c).After-run_length-count)
+
+pub loop-at-smaller : goal.loop-at-smaller
+loop-at-smaller c = omega (arith, few (goal.at.loop-at-smaller c).After-run_length-count)
+
+pub loop-at-preserved : goal.loop-at-preserved
+loop-at-preserved c =
+    rw c.must-found.ensures
+    (walked_next c.requires c.loop-at.invariant c.loop-at-test.true (kind (goal.at.loop-at-preserved c).In-loop-at) refl _
+    (place_is (goal.at.loop-at-preserved c).After-wide-place) _ c.run_length-count.ensures _ (named (goal.at.loop-at-preserved c).Joined-else-place-eq0) c.meet_link-span.ensures)
+
+pub returns : goal.returns
+returns c = walked-done c.requires c.loop-at.invariant c.loop-at-test.false

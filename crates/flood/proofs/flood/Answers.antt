@@ -1,0 +1,105 @@
+-- `flood::flood` leaves the closure of what was queued. Assumes nothing.
+use mathlib.Core.Path.{subst, sym, ◌∙◌}
+use Prim.Native.Nat.{ℕ, ◌<◌, ◌≤◌, ◌*◌, ◌-◌}
+use native.Mathlib.Omega.{arith}
+use lib.ListN.{length, get_or}
+use Rattle.words.specs.Sizes.{max_grid}
+use Rattle.board.specs.Work.{work, entry, Queued, Swept}
+use Rattle.board.proofs.Flooding.{Flooding, flood-start, queued-inside, flood-tail, flood-head, flood-room}
+use Rattle.board.proofs.Flooding.{flood-turn, flood-done}
+use Rattle.typing.specs.Needs.{Needs, board_of}
+use Rattle.typing.proofs.Boards.{pairs-bound, board-inside, needs-in}
+use Rattle.walks.proofs.Cards.{card-last}
+use Rattle.flood.proofs.Followed.{led-asked, followed}
+use Rattle.flood.proofs.flood.Goals as goal
+use Rattle.flood.proofs.flood.Goals.{After-wide-q, At-loop-head}
+
+-- the invariant for one grid of fits, and what it says of sizes
+Now : (l : At-loop-head) → Flooding (board_of l.args.script.now l.args.names.now l.args.shapes l.args.grid.now)
+    (Queued (entry l.args.queue.now) l.args.booked) (length l.args.queue.now)
+    (work l.loop-head.grid l.loop-head.queue l.loop-head.tail) l.loop-head.head
+Now l = l.loop-head.invariant.2 l.args.grid.now
+
+room_of : (l : At-loop-head) → get_or l.args.script.now 0 0 * l.args.shapes ≤ length l.args.queue.now
+room_of l = omega (arith, l.loop-head.invariant.0, l.requires.full)
+
+few-pairs : (l : At-loop-head) → get_or l.args.script.now 0 0 * l.args.shapes ≤ max_grid
+few-pairs l = pairs-bound l.requires.links.ready
+
+-- the pair that is read is one of the sheet
+read-in : (a : After-wide-q) → a.wide-q.result < get_or a.args.script.now 0 0 * a.args.shapes
+read-in a =
+    omega (arith, a.wide-q.ensures.same, flood-head (Now (goal.at.After-wide-q a).At-loop-head) a.loop-head-test.true)
+
+pub reciprocal-factor-requires : goal.reciprocal-factor-requires
+reciprocal-factor-requires c = let ready = c.requires.links.ready in (ready.one-shape, ready.few-shapes)
+
+pub loop-head-init : goal.loop-head-init
+loop-head-init c =
+    (
+      c.requires.room,
+      omega arith,
+      λ fits.
+          flood-start c.args.grid.now c.args.queue.now c.args.booked c.requires.full c.requires.listed,
+    )
+
+pub offset_bounds-queue-head : goal.offset_bounds-queue-head
+offset_bounds-queue-head c = omega (arith, c.loop-head-test.true, flood-tail (Now (goal.at.offset_bounds-queue-head c).At-loop-head), few-pairs (goal.at.offset_bounds-queue-head c).At-loop-head)
+
+pub bounds-queue-head : goal.bounds-queue-head
+bounds-queue-head c =
+    omega (arith, c.loop-head-test.true, flood-tail (Now (goal.at.bounds-queue-head c).At-loop-head), (Now (goal.at.bounds-queue-head c).At-loop-head).space, room_of (goal.at.bounds-queue-head c).At-loop-head)
+
+pub overflow_add-head : goal.overflow_add-head
+overflow_add-head c =
+    omega (arith, c.loop-head-test.true, flood-tail (Now (goal.at.overflow_add-head c).At-loop-head), few-pairs (goal.at.overflow_add-head c).At-loop-head)
+
+pub led_card-n-requires : goal.led_card-n-requires
+led_card-n-requires c =
+    let links = c.requires.links in
+    led-asked links.ready (read-in c) c.reciprocal-factor.ensures c.loop-head.invariant.1 links.leaving
+
+pub follow_pair-tail-requires : goal.follow_pair-tail-requires
+follow_pair-tail-requires c =
+    record {
+      links = c.requires.links;
+      card = c.led_card-n.ensures;
+      on-board = omega (arith, read-in (goal.at.follow_pair-tail-requires c).After-wide-q, (Now (goal.at.follow_pair-tail-requires c).At-loop-head).full);
+      full = (Now (goal.at.follow_pair-tail-requires c).At-loop-head).full;
+      room = flood-room (Now (goal.at.follow_pair-tail-requires c).At-loop-head) (room_of (goal.at.follow_pair-tail-requires c).At-loop-head);
+    }
+
+pub overflow_add-head-in-loop-head : goal.overflow_add-head-in-loop-head
+overflow_add-head-in-loop-head c =
+    omega (arith, c.loop-head-test.true, flood-tail (Now (goal.at.overflow_add-head-in-loop-head c).At-loop-head), few-pairs (goal.at.overflow_add-head-in-loop-head c).At-loop-head)
+
+pub loop-head-smaller : goal.loop-head-smaller
+loop-head-smaller c =
+    omega (arith, c.loop-head-test.true, flood-tail (Now (goal.at.loop-head-smaller c).At-loop-head), c.requires.full)
+
+pub loop-head-preserved : goal.loop-head-preserved
+loop-head-preserved c =
+    let ready = c.requires.links.ready in
+    let q = get_or c.loop-head.queue c.loop-head.head 0 in
+    let w = work c.loop-head.grid c.loop-head.queue c.loop-head.tail in
+    let last = c.follow_pair-tail.last.1.1.1.1.1.1.1.1.1 in
+    let v = work last.0 last.1.0 c.follow_pair-tail.result in
+    let NeededBy = Needs c.args.script.now c.args.names.now c.args.shapes in (
+      c.loop-head.invariant.0,
+      card-last ready (read-in (goal.at.loop-head-preserved c).After-wide-q) c.led_card-n.ensures,
+      λ fits. flood-turn (c.loop-head.invariant.2 fits) (room_of (goal.at.loop-head-preserved c).At-loop-head) c.loop-head-test.true
+          (λ p d. (needs-in ready q p d, d)) (λ p d. d)
+          (subst (λ (x : ℕ). Swept (NeededBy x) w v) c.wide-q.ensures.same c.follow_pair-tail.ensures),
+    )
+
+pub shape_of-grid : goal.shape_of-grid
+shape_of-grid c = (Now (goal.at.shape_of-grid c).At-loop-head).full ∙ sym c.requires.full
+
+pub shape_of-queue : goal.shape_of-queue
+shape_of-queue c = (Now (goal.at.shape_of-queue c).At-loop-head).space
+
+pub returns : goal.returns
+returns c =
+    followed c.requires.listed ((Now (goal.at.returns c).At-loop-head).full ∙ sym c.requires.full) (λ fits.
+    flood-done (c.loop-head.invariant.2 fits) (board-inside c.requires.links.ready fits)
+    (λ p b. omega (arith, queued-inside c.requires.listed p b, c.requires.full)) c.loop-head-test.false)

@@ -1,0 +1,18 @@
+-- `flood::follow_arriving` walks the chain of the links to a card, and strikes what they lead back to.
+-- Assumes nothing.
+use Prim.Native.Nat.{◌-◌}
+use lib.ListN.{get_or}
+use Rattle.bags.specs.Label.{incoming}
+use Rattle.script.specs.Link.{to_at}
+use Rattle.board.specs.Work.{work}
+use Rattle.walks.specs.Entries.{LedGood}
+use Rattle.walks.proofs.Walks.{Walking}
+use Rattle.flood.proofs.follow_arriving.Given as goal
+
+abbrev pub invariant-loop-at : goal.invariant-loop-at
+invariant-loop-at l =
+    Walking (to_at l.script) l.m (get_or l.script 1 0) (LedGood incoming l.script l.row l.shapes)
+    (work l.initial.grid l.initial.queue l.tail) (work l.grid l.queue l.end) l.at
+
+abbrev pub decreases-loop-at : goal.decreases-loop-at
+decreases-loop-at l = l.at

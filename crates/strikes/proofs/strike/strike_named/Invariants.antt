@@ -1,0 +1,16 @@
+-- `strikes::strike_named` walks the chain of a kind and a shape. Assumes nothing.
+use Prim.Native.Nat.{◌*◌, ◌-◌}
+use Rattle.words.specs.Limits.{max_kinds}
+use Rattle.board.specs.Work.{work}
+use Rattle.strikes.specs.Indexes.{entry_key}
+use Rattle.strikes.proofs.Names.{RowGood}
+use Rattle.walks.proofs.Walks.{Walking}
+use Rattle.strikes.proofs.strike.strike_named.Given as goal
+
+abbrev pub invariant-loop-at : goal.invariant-loop-at
+invariant-loop-at l =
+    Walking (entry_key l.names l.start) l.key (l.shapes * max_kinds) (RowGood l.base)
+    (work l.initial.grid l.initial.queue l.tail) (work l.grid l.queue l.end) l.at
+
+abbrev pub decreases-loop-at : goal.decreases-loop-at
+decreases-loop-at l = l.at

@@ -1,0 +1,19 @@
+-- `strikes::strike_sources` walks the chain of the links to a card, and strikes what needs it at their starts.
+-- Assumes nothing.
+use Prim.Native.Nat.{◌-◌}
+use lib.ListN.{get_or}
+use Rattle.bags.specs.Label.{outgoing}
+use Rattle.script.specs.Link.{to_at}
+use Rattle.board.specs.Work.{work}
+use Rattle.strikes.specs.Strikes.{NeedGood}
+use Rattle.walks.proofs.Walks.{Walking}
+use Rattle.strikes.proofs.strike.strike_sources.Given as goal
+
+abbrev pub invariant-loop-at : goal.invariant-loop-at
+invariant-loop-at l =
+    Walking (to_at l.script) l.m (get_or l.script 1 0) (NeedGood outgoing l.script l.names l.shapes l.u.0)
+    (work l.initial.grid l.initial.queue l.tail) (work l.grid l.queue l.end) l.at
+
+abbrev pub decreases-loop-at : goal.decreases-loop-at
+decreases-loop-at l =
+    l.at
