@@ -82,8 +82,7 @@ loop-head-preserved c =
     let ready = c.requires.links.ready in
     let q = get_or c.loop-head.queue c.loop-head.head 0 in
     let w = work c.loop-head.grid c.loop-head.queue c.loop-head.tail in
-    let last = c.follow_pair-tail.last.1.1.1.1.1.1.1.1.1 in
-    let v = work last.0 last.1.0 c.follow_pair-tail.result in
+    let v = work c.follow_pair-tail.new.grid c.follow_pair-tail.new.queue c.follow_pair-tail.result in
     let NeededBy = Needs c.args.script.now c.args.names.now c.args.shapes in (
       c.loop-head.invariant.0,
       card-last ready (read-in (goal.at.loop-head-preserved c).After-wide-q) c.led_card-n.ensures,

@@ -112,8 +112,7 @@ loop-at-smaller c =
 pub loop-at-preserved : goal.loop-at-preserved
 loop-at-preserved c =
     let w = work c.loop-at.grid c.loop-at.queue c.loop-at.end in
-    let last = c.strike_entry-end.new in
-    let v = work last.1.1.0 last.1.1.1.0 c.strike_entry-end.result in
+    let v = work c.strike_entry-end.new.grid c.strike_entry-end.new.queue c.strike_entry-end.result in
     walk-next c.loop-at.invariant c.loop-at-test.true (next-is c)
     (subst₂ (λ (k base : ℕ). Swept (EntryGood (get_or c.args.row.now k 0) base) w v) (kind-is (goal.at.loop-at-preserved c).After-wide-kind)
     (ap (λ (x : ℕ). x * c.args.shapes) (from_is (goal.at.loop-at-preserved c).After-wide-from)) c.strike_entry-end.ensures)

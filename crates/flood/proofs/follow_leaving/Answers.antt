@@ -70,8 +70,7 @@ strike_entry-end-requires c =
 pub loop-i-preserved : goal.loop-i-preserved
 loop-i-preserved c =
     let w = work c.loop-i.grid c.loop-i.queue c.loop-i.end in
-    let last = c.strike_entry-end.new in
-    let v = work last.1.1.0 last.1.1.1.0 c.strike_entry-end.result in (
+    let v = work c.strike_entry-end.new.grid c.strike_entry-end.new.queue c.strike_entry-end.result in (
       omega arith,
       omega (arith, c.loop-i-test.true),
       leaving-more c.loop-i.invariant.0 c.loop-i.invariant.2

@@ -7,7 +7,7 @@ use Rattle.bookings.specs.Bookings.{read_bookings}
 use Rattle.lent.proofs.KnownSheet.{read as accepted}
 use Rattle.lent.proofs.Readings.{known_by, sheet-refused, list-refused, list_read}
 use Rattle.lent.proofs.read_booked.Goals as goal
-use Rattle.lent.proofs.read_booked.Goals.{After-read_bookings-list, After-read_sheet-read, In-Sheet}
+use Rattle.lent.proofs.read_booked.Goals.{After-read_sheet-read, In-Sheet}
 
 -- the reading of the list
 abbrev reading : After-read_sheet-read → ℕ → ℕ → Reading ℕ
@@ -35,5 +35,5 @@ returns-in-Count c =
     let k = known (goal.at.returns-in-Count c).In-Sheet in
     record {
       known = k;
-      (goal.at.returns-in-Count c).After-read_bookings-list = list_read (reading (goal.at.returns-in-Count c).After-read_sheet-read) k c.read_bookings-list.ensures c.in-Count.is;
+      list = list_read (reading (goal.at.returns-in-Count c).After-read_sheet-read) k c.read_bookings-list.ensures c.in-Count.is;
     }

@@ -5,7 +5,7 @@ use Rattle.lent.specs.Readings.{BookedSheet}
 use Rattle.lent.proofs.Readings.{booked-read, booked-refused, listed-asked, files-refused}
 use Rattle.lent.proofs.Readings.{desk-refused, size-refused}
 use Rattle.lent.proofs.read_lent.Goals as goal
-use Rattle.lent.proofs.read_lent.Goals.{After-grid_size, In-Sheet}
+use Rattle.lent.proofs.read_lent.Goals.{In-Sheet}
 
 booked : (c : In-Sheet) → let s = c.args in
     BookedSheet s.template.now s.script.now c.read_booked-read.new.names
@@ -35,5 +35,5 @@ returns-else-grid-grid_size c =
     record {
       booked = booked (goal.at.returns-else-grid-grid_size c).In-Sheet;
       ours = c.if-desk-gt1.false;
-      (goal.at.returns-else-grid-grid_size c).After-grid_size = omega (arith, c.grid_size.ensures);
+      size = omega (arith, c.grid_size.ensures);
     }

@@ -29,11 +29,11 @@ loop-p-init c =
 
 -- the place that a turn reads is in the table
 place_here : (e : After-entry_place)
-    → e.entry_IsPlace.result < length e.args.names.now
+    → e.entry_place.result < length e.args.names.now
 place_here e =
     omega (
       arith,
-      e.entry_IsPlace.ensures,
+      e.entry_place.ensures,
       half_in e.args.names.now e.args.start e.loop-p.p e.args.shapes e.requires.half
           e.loop-p-test.true,
       e.requires.table.rows,
@@ -44,7 +44,7 @@ entry-is : (a : After-byte-entry) → a.byte-entry.result ≡ half_entry a.args.
 entry-is a =
     let names = a.args.names.now in
     a.byte-entry.ensures.same
-    ∙ ap (λ (x : ℕ). get_or names x 0) a.entry_IsPlace.ensures
+    ∙ ap (λ (x : ℕ). get_or names x 0) a.entry_place.ensures
     ∙ half_place names a.args.start a.loop-p.p
 
 -- an entry is a shape plus one at most, so its key has a head

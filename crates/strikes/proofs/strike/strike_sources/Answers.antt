@@ -128,8 +128,7 @@ loop-at-smaller c =
 pub loop-at-preserved : goal.loop-at-preserved
 loop-at-preserved c =
     let w = work c.loop-at.grid c.loop-at.queue c.loop-at.end in
-    let last = c.strike_named-end.last.1.1.1.1.1.1.1.1 in
-    let v = work last.0 last.1.0 c.strike_named-end.result in
+    let v = work c.strike_named-end.new.grid c.strike_named-end.new.queue c.strike_named-end.result in
     walk-next c.loop-at.invariant c.loop-at-test.true (next-is c)
     (subst₂ (λ (k base : ℕ).
     Swept (NamedGood c.args.names.now c.args.shapes (0 + k) base c.args.u.0) w v)

@@ -105,8 +105,7 @@ strike_named-end-requires c =
 pub loop-i-preserved : goal.loop-i-preserved
 loop-i-preserved c =
     let w = work c.loop-i.grid c.loop-i.queue c.loop-i.end in
-    let last = c.strike_named-end.new.1.1.1.1.1.1.1.1 in
-    let v = work last.0 last.1.0 c.strike_named-end.result in (
+    let v = work c.strike_named-end.new.grid c.strike_named-end.new.queue c.strike_named-end.result in (
       omega arith,
       omega (arith, c.loop-i-test.true),
       leaving-more c.loop-i.invariant.0 c.loop-i.invariant.2

@@ -1,0 +1,60 @@
+-- `fit_accepted` meets its contract. Assumes nothing.
+use native.Mathlib.Omega.{arith}
+use Prim.Native.Nat.{◌+◌, ◌-◌, ◌*◌}
+use mathlib.Core.Path.{◌≡◌, refl}
+use Rattle.words.specs.Limits.{max_labels}
+use Rattle.template.proofs.Accepted.{template-accepted}
+use Rattle.template.proofs.Answers.{template-read}
+use Rattle.counts.proofs.Fitting.{fits-asks, fit-shape, fit_length, fit-over, fit-yes, fit-no}
+use Rattle.counts.proofs.fit_accepted.Goals as goal
+
+pub returns-then-shapes-n : goal.returns-then-shapes-n
+returns-then-shapes-n c =
+    let (t, e, kinds, shapes) = template-read _ _ _ c.requires.said in
+    fit-shape _ _ _ t e (omega arith)
+
+pub returns-then-counts-each_way : goal.returns-then-counts-each_way
+returns-then-counts-each_way c =
+    let (t, e, kinds, shapes) = template-read _ _ _ c.requires.said in
+    fit_length _ _ _ t e (omega arith) (omega arith)
+
+pub returns-then-over-counts : goal.returns-then-over-counts
+returns-then-over-counts c =
+    let (t, e, kinds, shapes) = template-read _ _ _ c.requires.said in
+    fit-over _ _ _ t e (omega arith) (omega arith) _ c.first_over-over.ensures c.if-over-counts.true
+
+pub spread-requires : goal.spread-requires
+spread-requires c =
+    let (t, e, kinds, shapes) = template-read _ _ _ c.requires.said in
+    let high = (template-accepted _ t e).kinds-high in
+    record { few = omega arith; each_way = omega arith; zeros = refl }
+
+pub slice_bounds-list_fits-end : goal.slice_bounds-list_fits-end
+slice_bounds-list_fits-end c =
+    let (t, e, kinds, shapes) = template-read _ _ _ c.requires.said in
+    let high = (template-accepted _ t e).shapes-high in
+    omega arith
+
+pub list_fits-requires : goal.list_fits-requires
+list_fits-requires c =
+    let (t, e, kinds, shapes) = template-read _ _ _ c.requires.said in
+    let row = c.wide-base.result * max_labels in
+    let base : row ≡ c.args.shape.0 * max_labels = omega arith in
+    let size : row + max_labels - row ≡ max_labels = omega arith in
+    let few = (template-accepted _ t e).kinds-high in
+    fits-asks _ t e _ (omega arith) c.args.names.now _ _ _ _ _ (c.requires.table t e) c.requires.size
+    c.spread.ensures.full (omega arith) c.shape_place-at.ensures base size
+
+pub returns-then-list_fits : goal.returns-then-list_fits
+returns-then-list_fits c =
+    let (t, e, kinds, shapes) = template-read _ _ _ c.requires.said in
+    fit-yes _ _ _ t e (omega arith) (omega arith) _ c.first_over-over.ensures c.if-over-counts.false _ _ _
+    (omega arith) c.spread.ensures c.shape_place-at.ensures _
+    c.list_fits.ensures c.if-list_fits.true
+
+pub returns-else-list_fits : goal.returns-else-list_fits
+returns-else-list_fits c =
+    let (t, e, kinds, shapes) = template-read _ _ _ c.requires.said in
+    fit-no _ _ _ t e (omega arith) (omega arith) _ c.first_over-over.ensures c.if-over-counts.false _ _ _
+    (omega arith) c.spread.ensures c.shape_place-at.ensures _
+    c.list_fits.ensures c.if-list_fits.false
