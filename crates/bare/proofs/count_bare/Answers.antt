@@ -34,10 +34,12 @@ loop-n-init c =
     (omega arith, omega arith, sym (tally-zero (is_bare marks args.grid.now args.e.shapes)))
 
 pub overflow_mul-base : goal.overflow_mul-base
-overflow_mul-base c = omega (arith, row_in (goal.at.overflow_mul-base c).In-loop-n)
+overflow_mul-base c =
+    omega (arith, card-room c.args.e.cards c.args.e.shapes c.loop-n.n c.loop-n-test.true, c.requires.full)
 
 pub overflow_add-end : goal.overflow_add-end
-overflow_add-end c = omega (arith, row_in (goal.at.overflow_add-end c).In-loop-n)
+overflow_add-end c =
+    omega (arith, card-room c.args.e.cards c.args.e.shapes c.loop-n.n c.loop-n-test.true, c.requires.full)
 
 pub bounds-linked-n : goal.bounds-linked-n
 bounds-linked-n c = omega (arith, c.requires.few-cards)
@@ -54,17 +56,17 @@ loop-n-preserved c =
     let row = row-off grid (n * shapes) shapes (row_in (goal.at.loop-n-preserved c).In-loop-n) in ⊎_elim
     (λ w. (
       omega arith,
-      omega (arith, w.4),
-      w.4 ∙ ap (λ (x : ℕ). x + 1) c.loop-n.invariant.2
-          ∙ sym (bare-hit marks grid shapes n w.0.taken (sym (w.2.ensures ∙ row) ∙ w.3.taken)),
+      omega (arith, w.bare-is),
+      w.bare-is ∙ ap (λ (x : ℕ). x + 1) c.loop-n.invariant.2
+          ∙ sym (bare-hit marks grid shapes n w.if-linked-n-eq1.true (sym (w.all_off.ensures ∙ row) ∙ w.if-all_off.true)),
     ))
     (λ w. (
       omega arith,
-      omega (arith, w.1),
-      w.1 ∙ c.loop-n.invariant.2 ∙ sym (⊎_elim
-          (λ v. shaped-miss marks grid shapes n (sym (v.2.ensures ∙ row) ∙ v.3.left))
-          (λ v. blank-miss marks grid shapes n v.left)
-          w.0.came),
+      omega (arith, w.bare-is),
+      w.bare-is ∙ c.loop-n.invariant.2 ∙ sym (⊎_elim
+          (λ v. shaped-miss marks grid shapes n (sym (v.all_off.ensures ∙ row) ∙ v.if-all_off.false))
+          (λ v. blank-miss marks grid shapes n v.if-linked-n-eq1.false)
+          w.else-linked-n-eq1.branch-raw),
     ))
     c.if-linked-n-eq1.branch-raw
 

@@ -13,6 +13,7 @@ use Rattle.words.specs.Chain.{Chained}
 use Rattle.words.proofs.Chains.{chained-none, chained_more, chained-skip}
 use Rattle.strikes.specs.Indexes.{entry_key, half_entry}
 use Rattle.strikes.proofs.Names.{half_place, half_in, half-bound, key-none, key_of, key-own}
+use Rattle.strikes.proofs.index.index_names.Invariants.{ChainedTo}
 use Rattle.strikes.proofs.index.index_names.Goals as goal
 use Rattle.strikes.proofs.index.index_names.Goals.{After-byte-entry, After-entry_place, After-name_key-key}
 
@@ -77,27 +78,28 @@ place-low a =
 -- after a turn: the state that the next one starts from
 abbrev After : After-byte-entry → List ℕ → List ℕ → Type 0
 After a first next =
-    invariant-loop a.args.names.now a.args.start a.args.shapes a.args.first.now a.args.next.now 0
-    first next (a.loop-p.p + 1)
+    ChainedTo a.args.names.now a.args.start a.args.shapes a.args.first.now a.args.next.now first next
+    (a.loop-p.p + 1)
 
 -- the place names a shape, and is chained
-one_more : (k : After-name_key-key) → let key = k.name_key-key.result in
-    After (goal.at.After-name_key-key k).After-byte-entry (set k.loop-p.first key (k.loop-p.p + 1))
-    (set k.loop-p.next k.loop-p.p (get_or k.loop-p.first key 0))
-one_more k =
+one_more : (k : After-byte-entry) (key : ℕ) → 0 < k.byte-entry.result
+    → key ≡ k.loop-p.p % max_kinds * max_shapes + (k.byte-entry.result - 1)
+    → After k (set k.loop-p.first key (k.loop-p.p + 1)) (set k.loop-p.next k.loop-p.p (get_or k.loop-p.first key 0))
+one_more k key some named =
     let names = k.args.names.now in
     let first = k.loop-p.first in
     let next = k.loop-p.next in
     let p = k.loop-p.p in
-    let key = k.name_key-key.result in
     let head = get_or first key 0 in
-    let is = k.name_key-key.ensures
-    ∙ ap (λ (x : ℕ). p % max_kinds * max_shapes + (x - 1)) (entry-is (goal.at.After-name_key-key k).After-byte-entry)
-    ∙ sym (key_of names k.args.start p (λ z. omega (arith, entry-is (goal.at.After-name_key-key k).After-byte-entry, z, k.if-entry-gt0.true))) in (
+    let low : key < length first =
+        omega (arith, named, entry-low k, shape-in max_kinds (omega arith) p, k.loop-p.invariant.1, k.requires.keys) in
+    let is = named
+    ∙ ap (λ (x : ℕ). p % max_kinds * max_shapes + (x - 1)) (entry-is k)
+    ∙ sym (key_of names k.args.start p (λ z. omega (arith, entry-is k, z, some))) in (
       omega (arith, k.loop-p-test.true),
       length-set first key (p + 1) ∙ k.loop-p.invariant.1,
       length-set next p head ∙ k.loop-p.invariant.2,
-      chained_more (entry_key names k.args.start) first next p key k.loop-p.invariant.3 is (key-low k) (place-low (goal.at.After-name_key-key k).After-byte-entry),
+      chained_more (entry_key names k.args.start) first next p key k.loop-p.invariant.3 is low (place-low k),
       λ j past small. get_or-set_other next p j head 0 (λ e. omega (arith, e, past))
           ∙ k.loop-p.invariant.4 j (omega arith) (omega (arith, length-set next p head)),
     )
@@ -157,9 +159,10 @@ overflow_add-p c = omega (arith, place-low (goal.at.overflow_add-p c).After-byte
 pub loop-p-preserved : goal.loop-p-preserved
 loop-p-preserved c =
     ⊎_elim
-    (λ w. subst₂ (After (goal.at.loop-p-preserved c).After-byte-entry) (sym w.3) (sym w.4)
-    (one_more (record { before = record { before = (goal.at.loop-p-preserved c).After-byte-entry; if1 = w.0 }; name-key = w.1 })))
-    (λ w. subst₂ (After (goal.at.loop-p-preserved c).After-byte-entry) (sym w.1) (sym w.2) (none_here (goal.at.loop-p-preserved c).After-byte-entry w.0.left))
+    (λ w. subst₂ (After (goal.at.loop-p-preserved c).After-byte-entry) (sym w.first-is) (sym w.next-is)
+    (one_more (goal.at.loop-p-preserved c).After-byte-entry w.name_key-key.result w.if-entry-gt0.true w.name_key-key.ensures))
+    (λ w. subst₂ (After (goal.at.loop-p-preserved c).After-byte-entry) (sym w.first-is) (sym w.next-is)
+    (none_here (goal.at.loop-p-preserved c).After-byte-entry w.if-entry-gt0.false))
     c.if-entry-gt0.branch-raw
 
 pub shape_of-first : goal.shape_of-first

@@ -38,7 +38,8 @@ key_in c =
     omega (arith, c.name_key-key.ensures, c.requires.places.keys, c.requires.kind-in, c.requires.shape-in)
 
 pub bounds-named-key : goal.bounds-named-key
-bounds-named-key c = key_in (goal.at.bounds-named-key c).After-shared_slice_known-4-1
+bounds-named-key c =
+    omega (arith, c.name_key-key.ensures, c.requires.places.keys, c.requires.kind-in, c.requires.shape-in)
 
 pub loop-at-init : goal.loop-at-init
 loop-at-init c =
