@@ -11,7 +11,7 @@ use Rattle.closure.specs.Closing.{Marked}
 use Rattle.bookings.proofs.Accepted.{words-in}
 use Rattle.closure.proofs.Marks.{marked_more, marked_other, marked-none}
 use Rattle.closure.proofs.mark_bookings.Goals as goal
-use Rattle.closure.proofs.mark_bookings.Goals.{After-desk_at, After-pair_place, Then-desk_at-desk}
+use Rattle.closure.proofs.mark_bookings.Goals.{After-desk_at, After-pair_place}
 
 -- the place that is turned off is that of the booking's pair
 place_here : (a : After-pair_place) → let i = a.loop-i.i in
@@ -61,31 +61,38 @@ pub bounds-grid-pair_place : goal.bounds-grid-pair_place
 bounds-grid-pair_place c = place-low c
 
 -- what a booking of the desk leaves
-marked-here : (a : After-pair_place) → let left = set a.loop-i.grid a.pair_place.result 0 in
+marked-here : (a : After-desk_at) (place : ℕ) → desk_at a.args.bookings.now a.loop-i.i ≡ a.args.desk
+    → place ≡ card_at a.args.bookings.now a.loop-i.i * a.args.shapes + shape_at a.args.bookings.now a.loop-i.i
+    → let left = set a.loop-i.grid place 0 in
     (length left ≡ length a.args.grid.now)
     × Marked a.args.bookings.now a.args.desk a.args.shapes (a.loop-i.i + 1) left
-marked-here a =
-    let ours : desk_at a.args.bookings.now a.loop-i.i ≡ a.args.desk =
-    omega (arith, a.desk_at.ensures, a.if-desk_at-desk.true) in (
-      length-set a.loop-i.grid a.pair_place.result 0 ∙ a.loop-i.invariant.1,
-      marked_more a.pair_place.result a.loop-i.invariant.2 ours (place_here a) (place-low a),
+marked-here a place ours is =
+    let i = a.loop-i.i in
+    let bookings = a.args.bookings.now in
+    let (card, shape) = a.requires.booked-in i (omega arith) in
+    let low : place < length a.loop-i.grid =
+        omega (arith, is, place_in a.args.cards a.args.shapes (card_at bookings i) (shape_at bookings i) card shape,
+        a.loop-i.invariant.1, a.requires.full) in (
+      length-set a.loop-i.grid place 0 ∙ a.loop-i.invariant.1,
+      marked_more place a.loop-i.invariant.2 ours is low,
     )
 
 pub loop-i-preserved : goal.loop-i-preserved
 loop-i-preserved c =
+    let a = (goal.at.loop-i-preserved c).After-desk_at in
+    let bookings = c.args.bookings.now in
     ⊎_elim
     (λ w.
-    let desk : Then-desk_at-desk = record { before = (goal.at.loop-i-preserved c).After-desk_at; if2 = w.0 } in
-    let a : After-pair_place = record {
-      before = record { before = record { before = desk; card-at = w.1 }; shape_at = w.2 };
-      pair_place = w.3;
-    } in
-    let (long, marked) = marked-here a in
-    rw w.4 (omega arith, long, marked))
-    (λ w. rw w.1 (
+    let ours : desk_at bookings c.loop-i.i ≡ c.args.desk = omega (arith, c.desk_at.ensures, w.if-desk_at-desk.true) in
+    let is = w.pair_place.ensures
+        ∙ ap (λ (n : ℕ). n * c.args.shapes + w.shape_at-shape.result.0) w.card_at-card.ensures
+        ∙ ap (λ (t : ℕ). card_at bookings c.loop-i.i * c.args.shapes + t) w.shape_at-shape.ensures in
+    let (long, marked) = marked-here a w.pair_place.result ours is in
+    rw w.grid-is (omega arith, long, marked))
+    (λ w. rw w.grid-is (
       omega arith,
       c.loop-i.invariant.1,
-      marked_other c.loop-i.invariant.2 (λ e. absurd (omega (arith, e, c.desk_at.ensures, w.0.left))),
+      marked_other c.loop-i.invariant.2 (λ e. absurd (omega (arith, e, c.desk_at.ensures, w.if-desk_at-desk.false))),
     ))
     c.if-desk_at-desk.branch-raw
 

@@ -14,25 +14,14 @@ use Rattle.walks.proofs.Cards.{card-low, shape-left, card-last}
 use Rattle.walks.proofs.Needs.{arrivals-at}
 use Rattle.strikes.proofs.Striking.{sources-same, struck-sources}
 use Rattle.rounds.proofs.strike_rounds.Goals as goal
-use Rattle.rounds.proofs.strike_rounds.Goals.{After-at_head-tally, After-list_off-arg-1, After-reciprocal-factor, After-source_card-m, After-wide-q, At-loop-head, Start}
-
--- the reciprocal, and the function's entry, from where the queue is listed and from the loop
-abbrev Reckoned : tie.After-list-off-arg2 invariant-loop decreases-loop → After-reciprocal-factor
-Reckoned c = c.before.before
-
-abbrev Entered : tie.After-list-off-arg2 invariant-loop decreases-loop → Start
-Entered c = (Reckoned c).before.before.before.before.before.before.before.before.before
-
-abbrev Start : At-loop-head → Start
-Start l = Entered (goal.at.At-loop-head l).After-list_off-arg-1
+use Rattle.rounds.proofs.strike_rounds.Goals.{After-at_head-tally, After-source_card-m, After-wide-q}
 
 -- the tally has the closed rounds, and the head is within the level
 levelled : (c : After-at_head-tally) → Within c.loop-head.invariant.0 c.at_head-tally.result
 levelled c = rounds-level c.loop-head.invariant.0 c.loop-head-test.true c.at_head-tally.ensures
 
 -- the pair that is read is one of the sheet
-read-in : (a : After-wide-q) → let s = Start (goal.at.After-wide-q a).At-loop-head in
-    a.wide-q.result < get_or s.args.script.now 0 0 * s.args.shapes
+read-in : (a : After-wide-q) → a.wide-q.result < get_or a.args.script.now 0 0 * a.args.shapes
 read-in a =
     omega (arith, a.wide-q.ensures.same, rounds-head a.loop-head.invariant.0 a.loop-head-test.true)
 
@@ -42,18 +31,16 @@ reciprocal-factor-requires c =
 
 pub list_off-tail-requires : goal.list_off-tail-requires
 list_off-tail-requires c =
-    let s = Entered c in
     record {
-      few-places = omega (arith, s.pre.lent.full, pairs-bound s.pre.out.ready);
-      room = s.pre.lent.room;
+      few-places = omega (arith, c.requires.lent.full, pairs-bound c.requires.out.ready);
+      room = c.requires.lent.room;
     }
 
 pub loop-head-init : goal.loop-head-init
 loop-head-init c =
-    let s = Entered (goal.at.loop-head-init c).After-list_off-arg-1 in
     (
-      rounds-start s.pre.out.ready
-          (record { full = s.pre.lent.full; room = omega (arith, c.list_off-tail.auto.queue, s.pre.lent.room) })
+      rounds-start c.requires.out.ready
+          (record { full = c.requires.lent.full; room = omega (arith, c.list_off-tail.auto.queue, c.requires.lent.room) })
           c.list_off-tail.ensures,
       omega arith,
     )
@@ -74,22 +61,18 @@ overflow_add-head c =
 
 pub source_card-m-requires : goal.source_card-m-requires
 source_card-m-requires c =
-    let out = (Start (goal.at.source_card-m-requires c).At-loop-head).pre.out in
-    source-asked out.ready (read-in c) (Reckoned (goal.at.source_card-m-requires c).After-list_off-arg-1).reciprocal.ensures c.loop-head.invariant.1
+    let out = c.requires.out in
+    source-asked out.ready (read-in c) c.reciprocal-factor.ensures c.loop-head.invariant.1
     out.arriving
 
 -- the card that is found is the pair's, and what is left of the place is its shape
-found-room : (a : After-source_card-m) → let s = Start (goal.at.After-source_card-m a).At-loop-head in
-    a.source_card-m.result * s.args.shapes ≤ a.wide-q.result
+found-room : (a : After-source_card-m) → a.source_card-m.result * a.args.shapes ≤ a.wide-q.result
 found-room a =
-    let s = Start (goal.at.After-source_card-m a).At-loop-head in
-    card-low s.args.shapes a.wide-q.result s.pre.out.ready.one-shape a.source_card-m.ensures
+    card-low a.args.shapes a.wide-q.result a.requires.out.ready.one-shape a.source_card-m.ensures
 
-left_is : (a : After-source_card-m) → let s = Start (goal.at.After-source_card-m a).At-loop-head in
-    a.wide-q.result - a.source_card-m.result * s.args.shapes ≡ a.wide-q.result % s.args.shapes
+left_is : (a : After-source_card-m) → a.wide-q.result - a.source_card-m.result * a.args.shapes ≡ a.wide-q.result % a.args.shapes
 left_is a =
-    let s = Start (goal.at.After-source_card-m a).At-loop-head in
-    shape-left s.args.shapes a.wide-q.result s.pre.out.ready.one-shape a.source_card-m.ensures
+    shape-left a.args.shapes a.wide-q.result a.requires.out.ready.one-shape a.source_card-m.ensures
 
 pub overflow_mul-m : goal.overflow_mul-m
 overflow_mul-m c = omega (arith, found-room c, c.wide-q.ensures)
@@ -104,16 +87,15 @@ overflow_cast-q c = omega (arith, c.wide-q.ensures)
 pub strike_sources-tail-requires : goal.strike_sources-tail-requires
 strike_sources-tail-requires c =
     let r = c.loop-head.invariant.0 in
-    let s = Start (goal.at.strike_sources-tail-requires c).At-loop-head in
-    let out = s.pre.out in
+    let out = c.requires.out in
     let q = c.wide-q.result in
-    let cards = get_or s.args.script.now 0 0 in
-    let here = card-in s.args.shapes out.ready.one-shape cards q (read-in (goal.at.strike_sources-tail-requires c).After-wide-q) in
+    let cards = get_or c.args.script.now 0 0 in
+    let here = card-in c.args.shapes out.ready.one-shape cards q (read-in (goal.at.strike_sources-tail-requires c).After-wide-q) in
     record {
       need = record {
         ready = out.ready;
         places = out.places;
-        shape-in = omega (arith, left_is (goal.at.strike_sources-tail-requires c).After-source_card-m, shape-in s.args.shapes out.ready.one-shape q);
+        shape-in = omega (arith, left_is (goal.at.strike_sources-tail-requires c).After-source_card-m, shape-in c.args.shapes out.ready.one-shape q);
         full = r.search.full;
         room = rounds-room r;
       };
@@ -128,16 +110,15 @@ loop-head-smaller c = omega (arith, c.loop-head-test.true, (rounds-tail c.loop-h
 
 pub loop-head-preserved : goal.loop-head-preserved
 loop-head-preserved c =
-    let s = Start (goal.at.loop-head-preserved c).At-loop-head in
-    let Good = Needs s.args.script.now s.args.names.now s.args.shapes in
+    let Good = Needs c.args.script.now c.args.names.now c.args.shapes in
     let w = work c.loop-head.grid c.loop-head.queue c.loop-head.tail in
     let v = work c.strike_sources-tail.new.grid c.strike_sources-tail.new.queue c.strike_sources-tail.result in
     let (r, inside) = levelled (goal.at.loop-head-preserved c).After-at_head-tally in
-    let ready = s.pre.out.ready in
+    let ready = c.requires.out.ready in
     let swept = sources-same ready c.wide-q.result c.source_card-m.ensures (left_is (goal.at.loop-head-preserved c).After-source_card-m) c.strike_sources-tail.ensures in (
       rounds-turn r inside
           (subst (λ (q : ℕ). Swept (λ p. Good p q) w v) c.wide-q.ensures.same
-          (struck-sources ready c.wide-q.result s.pre.only swept)),
+          (struck-sources ready c.wide-q.result c.requires.only swept)),
       card-last ready (read-in (goal.at.loop-head-preserved c).After-wide-q) c.source_card-m.ensures,
     )
 

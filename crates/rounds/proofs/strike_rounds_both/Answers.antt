@@ -11,25 +11,14 @@ use Rattle.walks.proofs.Cards.{card-last}
 use Rattle.rounds.proofs.Rounds.{rounds-start, rounds-few, rounds-tail, rounds-head, rounds-room}
 use Rattle.rounds.proofs.Rounds.{Within, rounds-level, rounds-turn, source-asked, rounds-done}
 use Rattle.rounds.proofs.strike_rounds_both.Goals as goal
-use Rattle.rounds.proofs.strike_rounds_both.Goals.{After-at_head-tally, After-list_off-arg-1, After-reciprocal-factor, After-wide-q, At-loop-head, Start}
-
--- the reciprocal, and the function's entry, from where the queue is listed and from the loop
-abbrev Reckoned : tie.After-list-off-arg2 invariant-loop decreases-loop → After-reciprocal-factor
-Reckoned c = c.before.before
-
-abbrev Entered : tie.After-list-off-arg2 invariant-loop decreases-loop → Start
-Entered c = (Reckoned c).before.before.before.before.before.before.before.before.before.before.before.before
-
-abbrev Start : At-loop-head → Start
-Start l = Entered (goal.at.At-loop-head l).After-list_off-arg-1
+use Rattle.rounds.proofs.strike_rounds_both.Goals.{After-at_head-tally, After-wide-q}
 
 -- the tally has the closed rounds, and the head is within the level
 levelled : (c : After-at_head-tally) → Within c.loop-head.invariant.0 c.at_head-tally.result
 levelled c = rounds-level c.loop-head.invariant.0 c.loop-head-test.true c.at_head-tally.ensures
 
 -- the pair that is read is one of the sheet
-read-in : (a : After-wide-q) → let s = Start (goal.at.After-wide-q a).At-loop-head in
-    a.wide-q.result < get_or s.args.script.now 0 0 * s.args.shapes
+read-in : (a : After-wide-q) → a.wide-q.result < get_or a.args.script.now 0 0 * a.args.shapes
 read-in a =
     omega (arith, a.wide-q.ensures.same, rounds-head a.loop-head.invariant.0 a.loop-head-test.true)
 
@@ -39,18 +28,16 @@ reciprocal-factor-requires c =
 
 pub list_off-tail-requires : goal.list_off-tail-requires
 list_off-tail-requires c =
-    let s = Entered c in
     record {
-      few-places = omega (arith, s.pre.lent.full, pairs-bound s.pre.both.out.ready);
-      room = s.pre.lent.room;
+      few-places = omega (arith, c.requires.lent.full, pairs-bound c.requires.both.out.ready);
+      room = c.requires.lent.room;
     }
 
 pub loop-head-init : goal.loop-head-init
 loop-head-init c =
-    let s = Entered (goal.at.loop-head-init c).After-list_off-arg-1 in
     (
-      rounds-start s.pre.both.out.ready
-          (record { full = s.pre.lent.full; room = omega (arith, c.list_off-tail.auto.queue, s.pre.lent.room) })
+      rounds-start c.requires.both.out.ready
+          (record { full = c.requires.lent.full; room = omega (arith, c.list_off-tail.auto.queue, c.requires.lent.room) })
           c.list_off-tail.ensures,
       omega arith,
     )
@@ -71,15 +58,15 @@ overflow_add-head c =
 
 pub source_card-m-requires : goal.source_card-m-requires
 source_card-m-requires c =
-    let out = (Start (goal.at.source_card-m-requires c).At-loop-head).pre.both.out in
-    source-asked out.ready (read-in c) (Reckoned (goal.at.source_card-m-requires c).After-list_off-arg-1).reciprocal.ensures c.loop-head.invariant.1
+    let out = c.requires.both.out in
+    source-asked out.ready (read-in c) c.reciprocal-factor.ensures c.loop-head.invariant.1
     out.arriving
 
 pub strike_needing-tail-requires : goal.strike_needing-tail-requires
 strike_needing-tail-requires c =
     let r = c.loop-head.invariant.0 in
     record {
-      both = (Start (goal.at.strike_needing-tail-requires c).At-loop-head).pre.both;
+      both = c.requires.both;
       card = c.source_card-m.ensures;
       on-board = omega (arith, read-in (goal.at.strike_needing-tail-requires c).After-wide-q, r.search.full);
       full = r.search.full;
@@ -94,14 +81,13 @@ loop-head-smaller c = omega (arith, c.loop-head-test.true, (rounds-tail c.loop-h
 
 pub loop-head-preserved : goal.loop-head-preserved
 loop-head-preserved c =
-    let s = Start (goal.at.loop-head-preserved c).At-loop-head in
-    let Good = Needs s.args.script.now s.args.names.now s.args.shapes in
+    let Good = Needs c.args.script.now c.args.names.now c.args.shapes in
     let w = work c.loop-head.grid c.loop-head.queue c.loop-head.tail in
     let v = work c.strike_needing-tail.new.grid c.strike_needing-tail.new.queue c.strike_needing-tail.result in
     let (r, inside) = levelled (goal.at.loop-head-preserved c).After-at_head-tally in (
       rounds-turn r inside
           (subst (λ (q : ℕ). Swept (λ p. Good p q) w v) c.wide-q.ensures.same c.strike_needing-tail.ensures),
-      card-last s.pre.both.out.ready (read-in (goal.at.loop-head-preserved c).After-wide-q) c.source_card-m.ensures,
+      card-last c.requires.both.out.ready (read-in (goal.at.loop-head-preserved c).After-wide-q) c.source_card-m.ensures,
     )
 
 pub after_round-requires : goal.after_round-requires
