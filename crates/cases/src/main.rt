@@ -15,133 +15,157 @@ use answers::{
     tell_fit, tell_links, tell_script, tell_sheet, tell_template, tell_tidied, tell_verdict,
 };
 use sections::{MOST_BYTES, MOST_WORDS, next_word, read_bytes, read_word, read_words};
+use std::io::Read;
 use words::wide;
+
+// No more cases are answered.
+const MOST_CASES: u32 = 1000000;
 
 // Room for a buffer of as many words as a word can say.
 const BUFFER_ROOM: usize = 65536;
 
 // From the shape on.
-fn from_shape(template: &[u16]) -> bool {
-    let shape = read_word();
+fn from_shape(rt: &impl Print, input: &mut impl Read, template: &[u16]) -> bool {
+    let shape = read_word(input);
     if !shape.whole {
         return false;
     }
     let mut words = [0u16; MOST_WORDS];
-    let counts = read_words(&mut words);
+    let counts = read_words(input, &mut words);
     if !counts.whole {
         return false;
     }
     let end = counts.count;
-    tell_fit(template, shape.value, &words[..end])
+    tell_fit(rt, template, shape.value, &words[..end])
 }
 
 // From the card on.
-fn from_card(template: &[u16], script: &[u16]) -> bool {
-    let card = read_word();
+fn from_card(rt: &impl Print, input: &mut impl Read, template: &[u16], script: &[u16]) -> bool {
+    let card = read_word(input);
     if !card.whole {
         return false;
     }
-    tell_links(template, script, card.value)
+    tell_links(rt, template, script, card.value)
 }
 
 // From the desk on.
-fn from_desk(template: &[u16], script: &[u16], bookings: &[u16]) -> bool {
-    let desk = read_word();
+fn from_desk(
+    rt: &impl Print,
+    input: &mut impl Read,
+    template: &[u16],
+    script: &[u16],
+    bookings: &[u16],
+) -> bool {
+    let desk = read_word(input);
     if !desk.whole {
         return false;
     }
     let mut bytes = [0u8; MOST_BYTES];
-    let grid = read_bytes(&mut bytes);
+    let grid = read_bytes(input, &mut bytes);
     if !grid.whole {
         return false;
     }
     let end = grid.count;
-    tell_verdict(template, script, bookings, desk.value, &bytes[..end])
+    tell_verdict(rt, template, script, bookings, desk.value, &bytes[..end])
 }
 
 // From the size of the buffer on.
-fn from_size(template: &[u16], script: &[u16], stored: &[u16]) -> bool {
-    let size = read_word();
+fn from_size(
+    rt: &impl Print,
+    input: &mut impl Read,
+    template: &[u16],
+    script: &[u16],
+    stored: &[u16],
+) -> bool {
+    let size = read_word(input);
     if !size.whole {
         return false;
     }
     let end = wide(size.value);
     let mut buffer = [7u16; BUFFER_ROOM];
-    tell_tidied(template, script, stored, &mut buffer[0..end])
+    tell_tidied(rt, template, script, stored, &mut buffer[0..end])
 }
 
 // From the bookings or the stored list on.
-fn from_list(tag: u16, template: &[u16], script: &[u16]) -> bool {
+fn from_list(
+    rt: &impl Print,
+    input: &mut impl Read,
+    tag: u16,
+    template: &[u16],
+    script: &[u16],
+) -> bool {
     let mut words = [0u16; MOST_WORDS];
-    let section = read_words(&mut words);
+    let section = read_words(input, &mut words);
     if !section.whole {
         return false;
     }
     let end = section.count;
     let list = &words[..end];
     match tag {
-        6 => from_desk(template, script, list),
-        _ => from_size(template, script, list),
+        6 => from_desk(rt, input, template, script, list),
+        _ => from_size(rt, input, template, script, list),
     }
 }
 
 // From the script on.
-fn from_script(tag: u16, template: &[u16]) -> bool {
+fn from_script(rt: &impl Print, input: &mut impl Read, tag: u16, template: &[u16]) -> bool {
     let mut words = [0u16; MOST_WORDS];
-    let section = read_words(&mut words);
+    let section = read_words(input, &mut words);
     if !section.whole {
         return false;
     }
     let end = section.count;
     let script = &words[..end];
     match tag {
-        3 => tell_script(template, script),
-        4 => from_card(template, script),
-        _ => from_list(tag, template, script),
+        3 => tell_script(rt, template, script),
+        4 => from_card(rt, input, template, script),
+        _ => from_list(rt, input, tag, template, script),
     }
 }
 
 // From the template on.
-fn from_template(tag: u16) -> bool {
+fn from_template(rt: &impl Print, input: &mut impl Read, tag: u16) -> bool {
     let mut words = [0u16; MOST_WORDS];
-    let section = read_words(&mut words);
+    let section = read_words(input, &mut words);
     if !section.whole {
         return false;
     }
     let end = section.count;
     let template = &words[..end];
     match tag {
-        1 => tell_template(template),
-        2 => from_shape(template),
-        _ => from_script(tag, template),
+        1 => tell_template(rt, template),
+        2 => from_shape(rt, input, template),
+        _ => from_script(rt, input, tag, template),
     }
 }
 
 // From the bytes of an input on.
-fn from_input() -> bool {
+fn from_input(rt: &impl Print, input: &mut impl Read) -> bool {
     let mut bytes = [0u8; MOST_BYTES];
-    let input = read_bytes(&mut bytes);
-    if !input.whole {
+    let section = read_bytes(input, &mut bytes);
+    if !section.whole {
         return false;
     }
-    let end = input.count;
-    tell_sheet(&bytes[..end])
+    let end = section.count;
+    tell_sheet(rt, &bytes[..end])
 }
 
 // The next case.
-fn next_case() -> bool {
-    let word = next_word();
+fn next_case(rt: &impl Print, input: &mut impl Read) -> bool {
+    let word = next_word(input);
     let tag = word.value;
     match tag {
-        5 => from_input(),
-        1..=7 => from_template(tag),
+        5 => from_input(rt, input),
+        1..=7 => from_template(rt, input, tag),
         _ => false,
     }
 }
 
-fn main() {
-    let mut left: u32 = 1000000;
-    while 0 < left && next_case() {
-        left -= 1;
+fn main(rt: HostRuntime) {
+    let mut input = rt.stdin();
+    for _ in 0..MOST_CASES {
+        if !next_case(&rt, &mut input) {
+            break;
+        }
     }
 }

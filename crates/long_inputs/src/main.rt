@@ -3,22 +3,27 @@
 #![tactic(auto)]
 
 use console::print_from;
+use std::rt::{Env, Files};
+use std::{fs, str};
+
+// No longer name is read.
+const MOST_NAME: usize = 4096;
 
 // Prints the sheet of the file that an argument names, or says why it cannot be opened.
-fn print_file(number: usize) {
-    let mut name = io::buffer();
-    let length = os::arg(number, &mut name);
-    let fd = os::open_read(&name[..length]);
-    if fd < 0 {
-        os::fail(&name[..length]);
-        return;
+fn print_file(rt: &(impl Env + Files + Print + Eprint), number: usize) {
+    let mut name = [0u8; MOST_NAME];
+    let length = rt.arg(number, &mut name).unwrap_or(0);
+    let path = str::from_utf8(&name[..length]).unwrap_or("");
+    match fs::open(rt, path) {
+        Ok(mut file) => print_from(rt, &mut file),
+        Err(error) => {
+            let _ = eprintln!(rt; "{path}: {error}");
+        }
     }
-    print_from(fd);
-    libc::close(fd);
 }
 
-fn main() {
-    print_file(1);
-    print_file(2);
-    print_file(3);
+fn main(rt: HostRuntime) {
+    print_file(&rt, 1);
+    print_file(&rt, 2);
+    print_file(&rt, 3);
 }

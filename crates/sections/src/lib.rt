@@ -1,11 +1,12 @@
-// What a program over stored cases reads and writes. On standard input: words, two bytes each, and sections, each
-// after its length in bytes in four bytes; low bytes first. On standard output: texts and numbers.
+// What a program over stored cases reads and writes. On the stream that it reads: words, two bytes each, and sections,
+// each after its length in bytes in four bytes; low bytes first. On standard output: texts and numbers.
 #![tactic(auto)]
 
-ghost use Rattle.io.specs.Counts.{IsPrefixLen};
+ghost use Rattle.streams.specs.Counts.{IsPrefixLen};
 
 use input::decode;
-use io::{print_decimal, read_full, write_all};
+use std::io::Read;
+use streams::read_full;
 use words::{MAX_INPUT, byte, wide};
 
 // No section has more bytes: one more than the longest input of a program.
@@ -29,34 +30,33 @@ pub struct Word {
 }
 
 // Writes a text, and answers whether it was written in full.
-pub fn text(s: &[u8]) -> bool {
-    write_all(libc::STDOUT_FILENO, s)
+pub fn text(rt: &impl Print, s: &[u8]) -> bool {
+    rt.write_all(s).is_ok()
 }
 
 // A number after a space.
-pub fn number(x: u64) {
-    text(b" ");
-    print_decimal(libc::STDOUT_FILENO, x);
+pub fn number(rt: &impl Print, x: u64) {
+    let _ = print!(rt; " {x}");
 }
 
 // The words of a list, each after a space.
-pub fn numbers(words: &[u16]) {
-    for i in 0..words.len() {
-        number(wide(words[i]) as u64);
+pub fn numbers(rt: &impl Print, words: &[u16]) {
+    for word in words {
+        number(rt, wide(*word) as u64);
     }
 }
 
 // The bytes of a text, each as a number after a space.
-pub fn bytes(s: &[u8]) {
-    for i in 0..s.len() {
-        number(byte(s[i]) as u64);
+pub fn bytes(rt: &impl Print, s: &[u8]) {
+    for x in s {
+        number(rt, byte(*x) as u64);
     }
 }
 
 // The next word.
-pub fn next_word() -> Word {
+pub fn next_word(reader: &mut impl Read) -> Word {
     let mut bytes = [0u8; 2];
-    if read_full(libc::STDIN_FILENO, &mut bytes) < 2 {
+    if read_full(reader, &mut bytes) < 2 {
         return Word {
             whole: false,
             value: 0,
@@ -71,9 +71,9 @@ pub fn next_word() -> Word {
 }
 
 // The length in front of a section; where there is none, more than any section has.
-fn next_length() -> usize {
-    let low = next_word();
-    let high = next_word();
+fn next_length(reader: &mut impl Read) -> usize {
+    let low = next_word(reader);
+    let high = next_word(reader);
     if !high.whole {
         return MOST_BYTES + 1;
     }
@@ -81,28 +81,28 @@ fn next_length() -> usize {
 }
 
 // The word of a section that has only this one.
-pub fn read_word() -> Word {
-    if next_length() != 2 {
+pub fn read_word(reader: &mut impl Read) -> Word {
+    if next_length(reader) != 2 {
         return Word {
             whole: false,
             value: 0,
         };
     }
-    next_word()
+    next_word(reader)
 }
 
 // Reads a section to the front of a buffer.
-pub fn read_bytes(bytes: &mut [u8]) -> Section
+pub fn read_bytes(reader: &mut impl Read, bytes: &mut [u8]) -> Section
     ensures { IsPrefixLen result.count bytes.new }
 {
-    let length = next_length();
+    let length = next_length(reader);
     if bytes.len() < length {
         return Section {
             whole: false,
             count: 0,
         };
     }
-    let got = read_full(libc::STDIN_FILENO, &mut bytes[0..length]);
+    let got = read_full(reader, &mut bytes[0..length]);
     Section {
         whole: got == length,
         count: length,
@@ -110,11 +110,11 @@ pub fn read_bytes(bytes: &mut [u8]) -> Section
 }
 
 // Reads the words of a section to the front of a buffer.
-pub fn read_words(words: &mut [u16]) -> Section
+pub fn read_words(reader: &mut impl Read, words: &mut [u16]) -> Section
     ensures { IsPrefixLen result.count words.new }
 {
     let mut bytes = [0u8; MOST_BYTES];
-    let section = read_bytes(&mut bytes);
+    let section = read_bytes(reader, &mut bytes);
     let count = section.count / 2;
     if words.len() < count {
         return Section {

@@ -3,6 +3,6 @@
 
 use console::print_input;
 
-fn main() {
-    print_input();
+fn main(rt: HostRuntime) {
+    print_input(&rt);
 }
