@@ -25,5 +25,5 @@ returns-in-NotMet c =
 
 pub returns-in-Refused : goal.returns-in-Refused
 returns-in-Refused c =
-    let (number, place) = c.said-in-Refused-1.given.0 in
-    verdict-wrote c.in-Refused.is (wrote-same (verdict-refused number place.0) c.put_refused.ensures)
+    let told = verdict-refused c.in-Refused.number c.in-Refused.place in
+    verdict-wrote c.in-Refused.is (wrote-same told c.put_refused.ensures)

@@ -6,8 +6,7 @@ use Rattle.sheet_text.proofs.put_settled.Goals as goal
 
 pub put_not_met-requires : goal.put_not_met-requires
 put_not_met-requires c =
-    let (card, shape) = c.found-in-NotMet-1.given.0 in
-    omega (arith, c.requires.room, not-met-bound card.0 shape.0.0)
+    omega (arith, c.requires.room, not-met-bound c.in-NotMet.card.0 c.in-NotMet.shape.0)
 
 pub returns-in-Pairs : goal.returns-in-Pairs
 returns-in-Pairs c =
