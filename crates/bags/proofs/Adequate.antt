@@ -57,7 +57,8 @@ abbrev pub Symbol : ℕ → ℕ → Language
 Symbol label shape b = b ≡ copies 1 label shape
 
 pub link-is : (label shape low : ℕ) (high : Limit)
-    → Same (Bags (link label shape low high)) (λ b. (i : ℕ) × (low ≤ i) × Under i high × Power (Symbol label shape) i b)
+    → Same (Bags (link label shape low high)) (λ b. (i : ℕ) × (low ≤ i) × Under i high × Power (Symbol label shape)
+    i b)
 link-is label shape low high b = (
   λ t. let (n, l, u, e) = t in (n, l, u, subst (Power (Symbol label shape) n) (sym e) (powers n)),
   λ t. let (n, l, u, q) = t in (n, l, u, copied n b q),

@@ -84,7 +84,8 @@ mutual
       (only-more (RunDeclares ps) (RunDeclares (more p ps)) (λ m n d. inr d) y (each-only ps y g))
       e
 
-same-bag : (S : ℕ) (p : Part) → Single p → ShapesBelow S p → (x y : Bag) → OnlyAt (Declares p) x → OnlyAt (Declares p) y
+same-bag : (S : ℕ) (p : Part) → Single p → ShapesBelow S p → (x y : Bag) → OnlyAt (Declares p) x → OnlyAt (Declares
+    p) y
     → ((k : ℕ) → total S x k ≡ total S y k) → x ≡ y
 same-bag S p one below x y f g e = bag-ext (λ k s. either k s (f k s) (g k s))
   where

@@ -134,7 +134,8 @@ module _ (p : Part) (w : ℕ → ℕ) where
 -- Counts of labels in which the outgoing ones that are no kinds are 0.
 module _ (is_open : Bool) (p : Part) (w : ℕ → ℕ) (kinds : ℕ) (few : kinds ≤ max_kinds)
     (rest : (k : ℕ) → kinds ≤ k → k < max_kinds → w k ≡ 0) where
-  outgoing-zero : (is_open || others_zero kinds p w) ≡ true → is_open ≡ false → (k : ℕ) → (Names p k → ⊥) → k < max_kinds
+  outgoing-zero : (is_open || others_zero kinds p w) ≡ true → is_open ≡ false → (k : ℕ) → (Names p k → ⊥) → k <
+      max_kinds
       → w k ≡ 0
   outgoing-zero e shut k n h = ⊎_elim
       (λ l. rest k l h)
@@ -159,7 +160,8 @@ module _ (is_open : Bool) (p : Part) (w : ℕ → ℕ) (kinds : ℕ) (few : kind
   others-exact = (unnamed-zero, zero-unnamed)
 
   -- what the shape looks at fits exactly where the test is passed
-  pub fits-decided : (S : ℕ) → Single p → ShapesBelow S p → Fits S p (seen is_open p w) ↔ (fits is_open kinds p w ≡ true)
+  pub fits-decided : (S : ℕ) → Single p → ShapesBelow S p → Fits S p (seen is_open p w) ↔ (fits is_open kinds p w ≡
+      true)
   fits-decided S one below =
       let fit = inside 1 (interval p w) in
       let others = is_open || others_zero kinds p w in

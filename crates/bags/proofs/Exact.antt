@@ -65,7 +65,8 @@ module _ (w : ℕ → ℕ) where
     zero-run : (ps : Parts) → Zero w (RunNames ps) → run_all_zero ps w ≡ true
     zero-run none z = refl
     zero-run (more p ps) z =
-        and_both (all_zero p w) (run_all_zero ps w) (zero-all p (λ k n. z k (inl n))) (zero-run ps (λ k n. z k (inr n)))
+        and_both (all_zero p w) (run_all_zero ps w) (zero-all p (λ k n. z k (inl n))) (zero-run ps (λ k n. z k (inr
+        n)))
 
   mutual
     pub part-proper : (p : Part) → Proper (interval p w)

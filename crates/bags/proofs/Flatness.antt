@@ -6,7 +6,7 @@
 -- Assumes nothing.
 use Prim.Native.Nat.{ℕ, suc, ◌+◌}
 use mathlib.Core.Path.{◌≡◌, refl, ap, ap₂}
-use mathlib.Core.Logic.{◌⊎◌, inl, inr, ⊎_elim, ◌↔◌}
+use mathlib.Core.Logic.{inl, inr, ⊎_elim, ◌↔◌}
 use native.Mathlib.Omega.{arith}
 use Rattle.bags.specs.Part.{Limit, Part, nothing, star, plus, optional, choice, all, link}
 use Rattle.bags.specs.Part.{Parts, none, more, Names, RunNames}
@@ -94,7 +94,8 @@ mutual
       (λ h k a b g. rw g.0 (rw g.1 (rw g.2 h)), λ h. h label low high (refl, refl, refl))
 
   run-flat-in : (ps : Parts) → RunFlat ps → (w : ℕ → ℕ) (i : ℕ)
-      → In i (meet_run ps w) ↔ ((k low : ℕ) (high : Limit) → RunHas ps k low high → In i (link_interval (w k) low high))
+      → In i (meet_run ps w) ↔ ((k low : ℕ) (high : Limit) → RunHas ps k low high → In i (link_interval (w k) low
+      high))
   run-flat-in none f w i = (λ h k a b g. absurd g, λ h. omega arith)
   run-flat-in (more p ps) f w i =
       let both = in_meet (interval p w) (meet_run ps w) i in

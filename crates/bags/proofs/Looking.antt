@@ -127,7 +127,8 @@ module _ (is_open : Bool) (p : Part) (k m : ℕ) where
 -- A label counts among the neighbours looked at what it counts among all, if it is looked at, else 0.
 module _ (is_open : Bool) (p : Part) (label far : ℕ) (ns : List Neighbour) (k : ℕ) where
   -- one of two labels is looked at and the other is not
-  apart : {a b : Bool} → looks_at is_open p label ≡ a → looks_at is_open p k ≡ b → (a ≡ b → ⊥) → when (eqb k label) 1 ≡ 0
+  apart : {a b : Bool} → looks_at is_open p label ≡ a → looks_at is_open p k ≡ b → (a ≡ b → ⊥) → when (eqb k label)
+      1 ≡ 0
   apart e l ne = when-no k label 1 (λ q. ne (sym e ∙ ap (looks_at is_open p) (sym q) ∙ l))
 
   seen_more : label_count (looked_at is_open p ns) k ≡ seen is_open p (label_count ns) k

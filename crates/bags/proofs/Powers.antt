@@ -66,7 +66,8 @@ power-union A B (suc i) b t =
     (λ a. (j, suc l, omega arith, (c, x ⊕ d, pc, (x, d, a, pd, refl), right)))
     h
 
-pub union-power : (A B : Language) (j l : ℕ) (x y : Bag) → Power A j x → Power B l y → Power (Union A B) (j + l) (x ⊕ y)
+pub union-power : (A B : Language) (j l : ℕ) (x y : Bag) → Power A j x → Power B l y → Power (Union A B) (j + l) (x
+    ⊕ y)
 union-power A B j l x y p q =
     power-add (Union A B) j l x y
     (power-map A (Union A B) (λ b h. inl h) j x p)

@@ -129,7 +129,8 @@ module _ (w : ℕ → ℕ) where
       one-or-more z M zero r = absurd (z (reps-zero M K r))
       one-or-more z M (suc i) r = omega arith
 
-      pub exact-star : (t : Bool) → (t ≡ true → Zero K) → (t ≡ false → Zero K → ⊥) → Exact (star_interval t I) (Star L) K
+      pub exact-star : (t : Bool) → (t ≡ true → Zero K) → (t ≡ false → Zero K → ⊥) → Exact (star_interval t I)
+          (Star L) K
       exact-star true yz nz i = (λ h. star-all (yz refl) i, λ r. omega arith)
       exact-star false yz nz i = (
         λ h. let (g, u) = (in-one-up I i pI).0 h in star-some i g u.0 u.1,
@@ -147,7 +148,8 @@ module _ (w : ℕ → ℕ) where
       plus-same z zero h = reps-empty (Plus L) K z
       plus-same z (suc i) h = plus-some (suc i) (omega arith) (suc i) (omega arith) h
 
-      pub exact-plus : (t : Bool) → (t ≡ true → Zero K) → (t ≡ false → Zero K → ⊥) → Exact (plus_interval t I) (Plus L) K
+      pub exact-plus : (t : Bool) → (t ≡ true → Zero K) → (t ≡ false → Zero K → ⊥) → Exact (plus_interval t I)
+          (Plus L) K
       exact-plus true yz nz i = (
         plus-same (yz refl) i,
         λ r.

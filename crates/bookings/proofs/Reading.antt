@@ -20,7 +20,8 @@ use borrow.Author.Tests.{le-leb, lt-leb, lt-ltb, le-ltb, eq-eqb, ne_eqb}
 use Rattle.words.specs.Limits.{max_bookings}
 use Rattle.words.specs.Reading.{Reading, accepted, turned_down}
 use Rattle.words.proofs.Readings.{Numbered, refuse-numbered}
-use Rattle.bookings.specs.Bookings.{read_each, read_list, desk_index, card_index, shape_index, desk_at, card_at, shape_at}
+use Rattle.bookings.specs.Bookings.{read_each, read_list, desk_index, card_index, shape_index, desk_at, card_at}
+use Rattle.bookings.specs.Bookings.{shape_at}
 use Rattle.bookings.specs.Bookings.{booking_at, repeated, booking_rule, read_bookings}
 use Rattle.bookings.specs.Steps.{ListOf, CountRead}
 use Rattle.bookings.specs.declared.BookingRead.{BookingRead}
@@ -90,7 +91,8 @@ module _ (cards shapes : ℕ) (bookings : List ℕ) (i : ℕ) (rest : Reading �
   rule-desk h = rw (lt-ltb 1 (desk_at bookings i) h) refl
 
   module _ (ours : desk_at bookings i ≤ 1) where
-    pub rule-card : cards ≤ card_at bookings i → booking_rule cards shapes bookings i rest ≡ turned_down 32 (card_index i)
+    pub rule-card : cards ≤ card_at bookings i → booking_rule cards shapes bookings i rest ≡ turned_down 32
+        (card_index i)
     rule-card h = rw (le-ltb 1 (desk_at bookings i) ours, le-leb cards (card_at bookings i) h) refl
 
     pub rule-shape : card_at bookings i < cards → shapes ≤ shape_at bookings i

@@ -99,7 +99,8 @@ pub booked-exact : (bookings : List ℕ) (d n t : ℕ)
     → (booked_before (booking_at bookings) (record { desk = d; card = n; shape = t }) (get_or bookings 0 0) ≡ true)
     ↔ Booked bookings d n t
 booked-exact bookings d n t =
-    let exact = before-exact (booking_at bookings) (record { desk = d; card = n; shape = t }) (get_or bookings 0 0) in (
+    let exact = before-exact (booking_at bookings) (record { desk = d; card = n; shape = t }) (get_or bookings 0 0)
+    in (
       λ e. let (j, l, is) = exact.0 e in
           record {
             booking = j;

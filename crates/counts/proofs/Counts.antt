@@ -29,7 +29,8 @@ module _ (counts : List ℕ) (i : ℕ) where
   over-end e = rw (e, drop-length counts)
 
 pub over_none :
-    (counts : List ℕ) → ((i : ℕ) → i < length counts → get_or counts i 0 ≤ max_count) → first_over counts ≡ length counts
+    (counts : List ℕ) → ((i : ℕ) → i < length counts → get_or counts i 0 ≤ max_count) → first_over counts ≡ length
+    counts
 unfolding first_over
 over_none [] h = refl
 over_none (w ∷ ws) h =

@@ -131,7 +131,8 @@ module _ (words : List ℕ) (shape : ℕ) (counts : List ℕ) where
 
       -- Else nothing is refused.
       pub fit-asked :
-          length counts ≤ first_over counts → fit_question words shape counts ≡ accepted (question words t shape counts)
+          length counts ≤ first_over counts → fit_question words shape counts ≡ accepted (question words t shape
+          counts)
       unfolding fit_question
       fit-asked none =
           rw (

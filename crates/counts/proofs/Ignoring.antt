@@ -45,7 +45,8 @@ pub record AlikeFor (is_open : Bool) (p : Part) (kinds : ℕ) (counts other : Li
 
 -- A shape whose kinds are counted sees the same in lists that are alike for it.
 module _
-    (is_open : Bool) (p : Part) (kinds : ℕ) (few : kinds ≤ max_kinds) (below : KindsBelow kinds p) (counts other : List ℕ)
+    (is_open : Bool) (p : Part) (kinds : ℕ) (few : kinds ≤ max_kinds) (below : KindsBelow kinds p) (counts other :
+    List ℕ)
     (room : kinds ≤ length counts) (other-room : kinds ≤ length other) (alike : AlikeFor is_open p kinds counts other)
   where
     outgoing-same :

@@ -24,7 +24,8 @@ asked-numbers :
 asked-numbers template shape counts t =
     refuse-numbered FitNumber 42 0 (leb t.shapes shape) _ (inr (omega arith))
     (refuse-numbered FitNumber 41 0 (not (eqb (length counts) (2 * t.kinds))) _ (inr (omega arith))
-    (refuse-numbered FitNumber 43 (first_over counts) (ltb (first_over counts) (length counts)) _ (inr (omega arith)) tt))
+    (refuse-numbered FitNumber 43 (first_over counts) (ltb (first_over counts) (length counts)) _ (inr (omega
+    arith)) tt))
 
 -- A question that is refused is refused with one of its numbers.
 pub fit-numbers :

@@ -47,7 +47,8 @@ module _ {kinds cards links : ℕ} {script : List ℕ} (few : kinds ≤ max_kind
   pub own-named : (k : ℕ) → OfKindBelow kinds k → label_count (neighbours script n links) k ≡ listed kinds counts k
   own-named k (outgoing, kind, l, e) = own-outgoing k (omega arith)
   own-named k (incoming, kind, l, e) =
-      subst (λ (x : ℕ). label_count (neighbours script n links) x ≡ listed kinds counts x) (sym e) (own-incoming kind l)
+      subst (λ (x : ℕ). label_count (neighbours script n links) x ≡ listed kinds counts x) (sym e) (own-incoming
+      kind l)
 
   -- no count is over that of the links
   own-low-out : (k : ℕ) → k < kinds → get_or counts k 0 ≤ max_count

@@ -99,7 +99,8 @@ module _ (counts : List ℕ) (kinds : ℕ) where
   -- What the list has for a label of one of the kinds, and of none.
   module _ (few : kinds ≤ max_kinds) (each_way : length counts ≡ 2 * kinds) where
     listed-kind :
-        (way : Way) (j : ℕ) → j < kinds → listed kinds counts (label_of way j) ≡ count counts (first_count kinds way + j)
+        (way : Way) (j : ℕ) → j < kinds → listed kinds counts (label_of way j) ≡ count counts (first_count kinds
+        way + j)
     listed-kind outgoing j l = rw zero-add (listed-outgoing kinds counts few j l)
     listed-kind incoming j l = listed-incoming kinds counts j
 

@@ -71,7 +71,8 @@ desks-asked =
 pub desk-ignored : (before after : List ℕ) → length before ≡ 6
     → SmallestSays template script met_bookings 1 before after (values (1 ∷ [])) → ⊥
 desk-ignored before after six x =
-    let e = (smallest-one-answer template script met_bookings 1 before after no_shapes _ _ x (worked-none before six)).0 in
+    let e = (smallest-one-answer template script met_bookings 1 before after no_shapes _ _ x (worked-none before
+    six)).0 in
     let z : ◌≡◌ {A = ℕ} 1 0 = cc in omega arith
 
 -- A pair that both desks book is refused.

@@ -59,7 +59,8 @@ module _ (template script bookings : List ℕ) (desk : ℕ) (s : Sheet) (f : For
     takes-ours = λ large-before small-before large small of-large of-small fl fs x y taken said.
         let (m, e) = pairs-said small-before small of-small fs y taken in
         let y' : SmallestSays template script bookings desk small-before small (values (m ∷ [])) = rw e at y in
-        let found : LargestFound s large of-large = rw ((largest-taken template script large-before s).1 (f, fl)) at x in
+        let found : LargestFound s large of-large = rw ((largest-taken template script large-before s).1 (f, fl))
+        at x in
         let x' = subst (λ (a : Said). LargestSays template script large-before large a) found.says x in (
           judge-takes-smallest template script bookings desk small-before small m y' said,
           judge-takes-largest template script bookings desk small-before small m y' large-before large found.rounds

@@ -15,7 +15,8 @@ use Rattle.bags.specs.Part.{Part}
 use Rattle.bags.specs.Look.{listed}
 use Rattle.bags.proofs.Decide.{list-decided}
 use Rattle.parts.specs.Reading.{read_link, read_run, read_part}
-use Rattle.template.specs.Template.{open_at, part_at, read_shape, read_shapes, shape_place, read_template, template_says}
+use Rattle.template.specs.Template.{open_at, part_at, read_shape, read_shapes, shape_place, read_template}
+use Rattle.template.specs.Template.{template_says}
 use Rattle.script.specs.Link.{from_at, kind_at, to_at, above, greater}
 use Rattle.script.specs.Script.{read_links, read_script, script_says}
 use Rattle.counts.specs.Fit.{first_over, fit_question, FitSays}

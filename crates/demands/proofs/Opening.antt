@@ -18,7 +18,8 @@ use Rattle.bags.specs.Part.{Part, at_most}
 use Rattle.bags.specs.Look.{listed}
 use Rattle.bags.proofs.Decide.{list-decided}
 use Rattle.parts.specs.Reading.{read_link, read_part}
-use Rattle.template.specs.Template.{open_at, part_at, read_shape, read_shapes, shape_place, read_template, template_says}
+use Rattle.template.specs.Template.{open_at, part_at, read_shape, read_shapes, shape_place, read_template}
+use Rattle.template.specs.Template.{template_says}
 use Rattle.counts.specs.Fit.{first_over, fit_question, FitSays}
 use Rattle.counts.proofs.Fitting.{fit-one-answer}
 
@@ -32,12 +33,14 @@ one = Part.link 0 0 1 (at_most 1)
 
 -- One link of kind 0 and seven of kind 1 fit, two and seven do not.
 pub tolerant-yes : FitSays tolerant 0 (1 ∷ 7 ∷ 0 ∷ 0 ∷ []) (values (1 ∷ []))
-unfolding fit_question read_template open_at part_at read_shape read_shapes read_part read_link shape_place first_over listed
+unfolding fit_question read_template open_at part_at read_shape read_shapes read_part read_link shape_place
+    first_over listed
 tolerant-yes =
     inl ((list-decided 1 true one 2 (1 ∷ 7 ∷ 0 ∷ 0 ∷ []) (omega arith) (omega arith) tt (omega arith)).1 refl, refl)
 
 pub tolerant-no : FitSays tolerant 0 (2 ∷ 7 ∷ 0 ∷ 0 ∷ []) (values (0 ∷ []))
-unfolding fit_question read_template open_at part_at read_shape read_shapes read_part read_link shape_place first_over listed
+unfolding fit_question read_template open_at part_at read_shape read_shapes read_part read_link shape_place
+    first_over listed
 tolerant-no =
     let decided = list-decided 1 true one 2 (2 ∷ 7 ∷ 0 ∷ 0 ∷ []) (omega arith) (omega arith) tt (omega arith) in
     inr (λ f. never_both (decided.0 f) refl, refl)

@@ -27,7 +27,8 @@ use Rattle.printer.specs.Printed.{Prints}
 use Rattle.printer.proofs.Unique.{prints-unique}
 use Rattle.demands.specs.Worked.{template, script, met_bookings, unmet_bookings, both_unmet, last_shape, no_shapes}
 use Rattle.demands.specs.Worked.{largest_answer}
-use Rattle.demands.specs.Printed.{worked_input, unmet_input, both_unmet_input, worked_text, unmet_text, both_unmet_text}
+use Rattle.demands.specs.Printed.{worked_input, unmet_input, both_unmet_input, worked_text, unmet_text}
+use Rattle.demands.specs.Printed.{both_unmet_text}
 use Rattle.demands.specs.Printed.{three_cards, largest_part, pair_part, none_part, no_part}
 use Rattle.demands.proofs.Worked.{worked, smallest-found, not-met-found, none_found, together, all-inside}
 use Rattle.demands.proofs.Worked.{one-just, one-other, two-radio, two-television, met-listed, unmet-listed}
@@ -134,7 +135,8 @@ parts-swapped h =
 -- No part of television's after the line of radio's 50.
 pub part-left-out : Prints unmet_input (largest_part ++ no_part) → ⊥
 part-left-out h =
-    let z : ◌≡◌ {A = ℕ} (length (largest_part ++ no_part)) (length unmet_text) = ap length (unmet-only _ h) in omega arith
+    let z : ◌≡◌ {A = ℕ} (length (largest_part ++ no_part)) (length unmet_text) = ap length (unmet-only _ h) in
+    omega arith
 
 -- "largest 4 2 5", whatever comes after it.
 pub numbers-swapped : (rest : List ℕ) → Prints worked_input
@@ -144,7 +146,8 @@ numbers-swapped rest h =
 
 -- "smallest 0" and then the cards of the largest typing, of which one has a shape.
 pub largest-under-smallest : Prints worked_input
-    (largest_part ++ (pair_part ++ ((115 ∷ 109 ∷ 97 ∷ 108 ∷ 108 ∷ 101 ∷ 115 ∷ 116 ∷ 32 ∷ 48 ∷ 10 ∷ []) ++ three_cards)))
+    (largest_part ++ (pair_part ++ ((115 ∷ 109 ∷ 97 ∷ 108 ∷ 108 ∷ 101 ∷ 115 ∷ 116 ∷ 32 ∷ 48 ∷ 10 ∷ []) ++
+    three_cards)))
     → ⊥
 largest-under-smallest h =
     let z : ◌≡◌ {A = ℕ} 32 10 = ap (λ (l : List ℕ). get_or l 111 0) (worked-only _ h) in omega arith

@@ -27,7 +27,8 @@ all_listed = refl
 
 -- The byte of one card and one shape is 2.
 over-alone : JudgeSays plain alone (0 ∷ []) 0 (2 ∷ []) (refusal 61 (0 ∷ []))
-unfolding read_sheet read_template open_at part_at read_shape read_shapes read_part read_run read_link read_script read_links
+unfolding read_sheet read_template open_at part_at read_shape read_shapes read_part read_run read_link read_script
+    read_links
     from_at kind_at to_at above greater read_list read_each repeated booked_before
 over-alone = record {
   verdict = over 0;
@@ -36,9 +37,12 @@ over-alone = record {
 }
 
 pub every-number-happens : AllGet refusals
-unfolding read_template open_at part_at read_shape read_shapes read_part read_run read_link template_says read_script read_links
-    from_at kind_at to_at above greater script_says first_over fit_question read_sheet desk_at card_at shape_at read_each read_list
-    repeated booked_before stored_card_at stored_shape_at word_at section_end script_start bookings_start input_end read_front
+unfolding read_template open_at part_at read_shape read_shapes read_part read_run read_link template_says
+    read_script read_links
+    from_at kind_at to_at above greater script_says first_over fit_question read_sheet desk_at card_at shape_at
+    read_each read_list
+    repeated booked_before stored_card_at stored_shape_at word_at section_end script_start bookings_start input_end
+    read_front
     read_input
 every-number-happens =
     refl & refl & refl & refl & refl & refl & refl & refl & refl & refl & refl & refl & refl & refl & refl &
@@ -47,9 +51,12 @@ every-number-happens =
     & refl & (refl, refl) & (refl, refl) & tt
 
 pub other-faults-happen : AllGet others
-unfolding read_template open_at part_at read_shape read_shapes read_part read_run read_link template_says read_script read_links
-    from_at kind_at to_at above greater script_says first_over fit_question read_sheet desk_at card_at shape_at read_each read_list
-    repeated booked_before stored_card_at stored_shape_at word_at section_end script_start bookings_start input_end read_front
+unfolding read_template open_at part_at read_shape read_shapes read_part read_run read_link template_says
+    read_script read_links
+    from_at kind_at to_at above greater script_says first_over fit_question read_sheet desk_at card_at shape_at
+    read_each read_list
+    repeated booked_before stored_card_at stored_shape_at word_at section_end script_start bookings_start input_end
+    read_front
     read_input
 other-faults-happen =
     refl & refl & refl & refl & refl & refl & refl & refl & refl & refl & refl & refl & refl & refl & refl & refl &

@@ -10,7 +10,7 @@
 --   written-not-told     how many words were written is told as 0
 -- Assumes nothing.
 use Prim.Native.Nat.{ℕ}
-use mathlib.Core.Path.{◌≡◌, refl, ap, ◌∙◌}
+use mathlib.Core.Path.{◌≡◌, ap, ◌∙◌}
 use mathlib.Core.List.{List, [], ◌∷◌}
 use native.Mathlib.Omega.{arith}
 use lib.ListN.{length, get_or}
@@ -25,7 +25,7 @@ use Rattle.typing.specs.Tidy.{TidySays}
 use Rattle.typing.proofs.Existence.{both-one-answer}
 use Rattle.typing.proofs.Judging.{judge-one-answer}
 use Rattle.capi.specs.declared.PrepBoth.{PrepBoth}
-use Rattle.capi.specs.Numbers.{Tells, TellsBoth, template_numbers, script_numbers, smallest_numbers, small_part, said}
+use Rattle.capi.specs.Numbers.{Tells, TellsBoth, template_numbers, script_numbers, smallest_numbers}
 use Rattle.capi.specs.Numbers.{judge_numbers, written_numbers, copied}
 use Rattle.demands.specs.Worked.{template, script, met_bookings, unmet_bookings, last_shape, no_shapes}
 use Rattle.demands.specs.Judged.{unmet_grid}
@@ -66,9 +66,11 @@ shape-for-card before after six (x, zeros) =
 
 -- For television, which books nothing, the smallest typing has no pair and the largest one.
 pub grids-swapped : (before : Grids) (r : PrepBoth) → length before.small ≡ 6 → length before.large ≡ 6
-    → TellsBoth (BothSays template script met_bookings 1 before (record { small = last_shape; large = no_shapes })) r → ⊥
+    → TellsBoth (BothSays template script met_bookings 1 before (record { small = last_shape; large = no_shapes }))
+    r → ⊥
 grids-swapped before r small large (x, zeros, others) =
-    let e = (both-one-answer template script met_bookings 1 before _ _ _ _ x (worked-both-none before small large)).1 in
+    let e = (both-one-answer template script met_bookings 1 before _ _ _ _ x (worked-both-none before small
+    large)).1 in
     let z : ◌≡◌ {A = ℕ} 1 0 = ap (λ (g : Grids). get_or g.small 5 0) e in omega arith
 
 pub strikes-for-pairs : (before after : Grids) (card shape place rounds struck bare : ℕ)

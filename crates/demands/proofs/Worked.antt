@@ -80,7 +80,8 @@ worked = record {
 }
 
 pub worked-read : read_sheet template script ≡ accepted worked
-unfolding read_sheet read_template open_at part_at read_shape read_shapes read_part read_run read_link read_script read_links
+unfolding read_sheet read_template open_at part_at read_shape read_shapes read_part read_run read_link read_script
+    read_links
     from_at kind_at to_at above greater
 worked-read = refl
 
@@ -100,13 +101,15 @@ pub worked-links : (card_links template script 0 ≡ 0 ∷ 0 ∷ 2 ∷ 0 ∷ 1 �
     × (links_start template script 1 ≡ 8)
     × (links_start template script 2 ≡ 11)
     × (links_start template script 3 ≡ 0)
-unfolding card_links read_template open_at part_at read_shape read_shapes read_part read_run read_link read_script read_links
+unfolding card_links read_template open_at part_at read_shape read_shapes read_part read_run read_link read_script
+    read_links
     from_at kind_at to_at above greater card_words below
 worked-links = (refl, refl, refl, refl, refl, refl, refl, refl)
 
 -- Card 0 has a link of each kind, and one of kind 0 leads to it: these counts fit shape 0.
 pub worked_fit : FitSays template 0 (1 ∷ 1 ∷ 1 ∷ 0 ∷ []) (values (1 ∷ []))
-unfolding fit_question read_template open_at part_at read_shape read_shapes read_part read_run read_link shape_place first_over
+unfolding fit_question read_template open_at part_at read_shape read_shapes read_part read_run read_link
+    shape_place first_over
     listed
 worked_fit =
     let part = part_of worked 0 in
@@ -444,7 +447,8 @@ not-met-found just = record {
 }
 
 -- The files are read for each desk.
-pub listed-asked : (bookings : List ℕ) (desk : ℕ) → listed_reading template script bookings ≡ accepted worked → desk ≤ 1
+pub listed-asked : (bookings : List ℕ) (desk : ℕ) → listed_reading template script bookings ≡ accepted worked →
+    desk ≤ 1
     → (before : List ℕ) → length before ≡ 6 → smallest_reading template script bookings desk before ≡ accepted worked
 listed-asked bookings desk listed ours before full =
     grid-taken before (booked_reading template script bookings desk) worked

@@ -34,12 +34,14 @@ module _ (w : ℕ → ℕ) (words : List ℕ) (left at : ℕ) (e : Eval) where
   part-deep h v = evaluates-as w at _ _ e (tree-deep words at left h) v
 
   pub part-past :
-      0 < left → length words ≤ at → Evaluates w at (placed Part.nothing at) e → Evaluates w at (tree_at left words at) e
+      0 < left → length words ≤ at → Evaluates w at (placed Part.nothing at) e → Evaluates w at (tree_at left words
+      at) e
   part-past p h v = evaluates-as w at _ _ e (tree-past words at left p h) v
 
   module _ (p : 0 < left) (h : at < length words) where
     by_code :
-        (k : Code) → code_of (get_or words at 0) ≡ k → Evaluates w at (tree_by k (tree_at (left - 1) words) words at) e →
+        (k : Code) → code_of (get_or words at 0) ≡ k → Evaluates w at (tree_by k (tree_at (left - 1) words) words
+        at) e →
         Evaluates w at (tree_at left words at) e
     by_code k c v = evaluates-as w at _ _ e (tree-by words at left p h k c) v
 
@@ -68,7 +70,8 @@ module _ (w : ℕ → ℕ) (words : List ℕ) (left at : ℕ) (e : Eval) where
 
     pub part-group :
         (parts : ℕ) → parts ≡ get_or words (at + 1) 0 → 16 ≤ get_or words at 0 → get_or words at 0 ≤ 17 →
-        Evaluates w (at + 2) (onto (gathered (get_or words at 0)) (trees_at (tree_at (left - 1) words) parts (at + 2))) e →
+        Evaluates w (at + 2) (onto (gathered (get_or words at 0)) (trees_at (tree_at (left - 1) words) parts (at +
+        2))) e →
         Evaluates w at (tree_at left words at) e
     part-group parts q a b v =
         by_code (Code.group (gathered (get_or words at 0))) (code-group _ a b)

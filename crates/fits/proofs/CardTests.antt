@@ -72,7 +72,8 @@ module _ (row links : List ℕ) (r : KindsRise links) (at : ℕ) (n : NamedTo ro
 
   module _ (p : Part) (kinds : ℕ) (names : RowOf row kinds p) (u : KindsUnder links kinds) where
     -- a link's kind has no entry
-    pub named-not : at < length links → get_or row (get_or links at 0) 0 ≡ 0 → false ≡ others_zero kinds p (kinds_in links)
+    pub named-not : at < length links → get_or row (get_or links at 0) 0 ≡ 0 → false ≡ others_zero kinds p
+        (kinds_in links)
     named-not l none =
         let k = get_or links at 0 in
         let below : k < kinds = omega (arith, u.below n.link (omega (arith, n.place)), kind-here) in

@@ -286,7 +286,8 @@ module _ {words : List ℕ} {at : ℕ} {places : List ℕ} {size : ℕ} {after :
       absurd (s.some (s.sized ∙ none-taken))
 
   -- what the step gives, by its parts
-  moved : {end : ℕ} {p : Part} {qs : Parts} (needed taken : ℕ) (entries : List ℕ) → code_size (get_or words at 0) ≡ taken
+  moved : {end : ℕ} {p : Part} {qs : Parts} (needed taken : ℕ) (entries : List ℕ) → code_size (get_or words at 0) ≡
+      taken
       → entered words at places ≡ entries → Pending words end p (at + taken) entries (needed + must_at words at) qs
       → Pending words end p (at + size) after (needed + counted) qs
   moved needed taken entries e f h = rw (s.sized, s.entry, s.must, e, f) h

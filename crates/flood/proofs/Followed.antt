@@ -21,7 +21,8 @@ use Rattle.walks.proofs.Cards.{some-card, place-below}
 use Rattle.flood.specs.Follows.{LedCardAsked, Followed}
 
 module _ {script names : List ℕ} {shapes factor last q : ℕ} (ready : Ready script names shapes)
-    (on-board : q < get_or script 0 0 * shapes) (by : Reciprocal shapes factor) (below : last ≤ get_or script 0 0 - 1) where
+    (on-board : q < get_or script 0 0 * shapes) (by : Reciprocal shapes factor) (below : last ≤ get_or script 0 0 -
+    1) where
   pub led-asked : {starts : List ℕ} → Starts script starts → LedCardAsked script starts shapes factor last q
   led-asked st =
       let some = some-card ready on-board in

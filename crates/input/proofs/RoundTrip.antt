@@ -229,7 +229,8 @@ module _ (bytes : List ℕ) (i : Input) (read : read_input bytes ≡ accepted i)
 
   -- the words of the three sections, their counts among them
   abbrev words-in : ℕ
-  words-in = (1 + word_at bytes 0) + ((1 + word_at bytes (script_start bytes)) + (1 + word_at bytes (bookings_start bytes)))
+  words-in = (1 + word_at bytes 0) + ((1 + word_at bytes (script_start bytes)) + (1 + word_at bytes (bookings_start
+      bytes)))
 
   whole : length bytes ≡ 2 * words-in
   unfolding input_end bookings_start script_start section_end
@@ -252,7 +253,8 @@ module _ (bytes : List ℕ) (i : Input) (read : read_input bytes ≡ accepted i)
       ∙ ap₂ (λ (x : List ℕ) (y : ℕ). x ++ words_from bytes y (s + b)) (words-section bytes 0) script-from
       ∙ ap (λ (x : List ℕ). section (section_words bytes 0) ++ x)
       (words-split bytes (script_start bytes) s b
-      ∙ ap₂ (λ (x : List ℕ) (y : ℕ). x ++ words_from bytes y b) (words-section bytes (script_start bytes)) bookings-from
+      ∙ ap₂ (λ (x : List ℕ) (y : ℕ). x ++ words_from bytes y b) (words-section bytes (script_start bytes))
+      bookings-from
       ∙ ap (λ (x : List ℕ). section (section_words bytes (script_start bytes)) ++ x)
       (words-section bytes (bookings_start bytes)))
       ∙ ap input_words passed-all.2

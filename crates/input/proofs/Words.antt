@@ -30,7 +30,8 @@ module _ (bytes : List ℕ) where
       let more : a + suc k ≡ suc (a + k) = omega arith in
       let here : at + 2 * (a + k) ≡ at + 2 * a + 2 * k = omega arith in
       rw more (ap₂ ◌++◌ (words-split at a k) (ap (λ (p : ℕ). word_at bytes p ∷ []) here)
-      ∙ append_assoc (words_from bytes at a) (words_from bytes (at + 2 * a) k) (word_at bytes (at + 2 * a + 2 * k) ∷ []))
+      ∙ append_assoc (words_from bytes at a) (words_from bytes (at + 2 * a) k) (word_at bytes (at + 2 * a + 2 * k)
+      ∷ []))
 
   part-words : (a k rest : ℕ) (after : List ℕ)
       → take k (drop a (words_from bytes 0 (a + (k + rest)) ++ after)) ≡ words_from bytes (2 * a) k

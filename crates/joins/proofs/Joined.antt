@@ -54,11 +54,13 @@ abbrev join_by : Bool → Interval → Interval → Interval
 join_by choice I J = cond choice (add I J) (meet I J)
 
 module _ (w : ℕ → ℕ) where
-  none_right : (choice : Bool) (I : Interval) → Proper I → join_by choice I (interval (group_by choice Parts.none) w) ≡ I
+  none_right : (choice : Bool) (I : Interval) → Proper I → join_by choice I (interval (group_by choice Parts.none)
+      w) ≡ I
   none_right true I p = add_none I
   none_right false I p = meet-any I p
 
-  none_left : (choice : Bool) (I : Interval) → Proper I → join_by choice (interval (group_by choice Parts.none) w) I ≡ I
+  none_left : (choice : Bool) (I : Interval) → Proper I → join_by choice (interval (group_by choice Parts.none) w)
+      I ≡ I
   none_left true I p = none-add I
   none_left false I p = any-meet I p
 

@@ -5,14 +5,15 @@
 --   desk-refuted      one that judges for desk 0, whichever is asked for
 -- Assumes nothing.
 use Prim.Native.Nat.{ℕ}
-use mathlib.Core.Path.{◌≡◌, refl, ap, ◌∙◌, sym, subst}
+use mathlib.Core.Path.{◌≡◌, ap, ◌∙◌, sym, subst}
 use mathlib.Core.List.{List, [], ◌∷◌, ◌++◌}
 use native.Mathlib.Omega.{arith}
 use lib.ListN.{get_or}
 use Rattle.words.specs.Bytes.{write_words}
 use Rattle.words.specs.Said.{Said, values, refusal}
-use Rattle.words.specs.Reading.{Reading, accepted, turned_down}
-use Rattle.input.specs.Input.{Input, input_of, word_at, words_from, section_end, section_words, script_start, bookings_start}
+use Rattle.words.specs.Reading.{Reading, turned_down}
+use Rattle.input.specs.Input.{Input, input_of, word_at, words_from, section_end, section_words, script_start}
+use Rattle.input.specs.Input.{bookings_start}
 use Rattle.input.specs.Input.{input_end, read_front}
 use Rattle.input.specs.Writer.{input_words}
 use Rattle.text.specs.Verdict.{accepted_line, verdict_line}
@@ -22,7 +23,6 @@ use Rattle.script.specs.Link.{from_at, kind_at, to_at, above, greater}
 use Rattle.script.specs.Script.{read_links, read_script}
 use Rattle.sheet.specs.Sheet.{read_sheet}
 use Rattle.bookings.specs.Bookings.{desk_at, card_at, shape_at, read_each, read_list, repeated, booked_before}
-use Rattle.typing.specs.Judge.{JudgeSays}
 use Rattle.judge_line.specs.JudgeInput.{JudgeInput, read_grid, read_judge_input}
 use Rattle.judge_line.specs.JudgeLine.{InputJudged, Judges}
 
@@ -60,14 +60,18 @@ asked desk size grid = write_words (input_words files ++ (desk ∷ size ∷ []))
 
 -- five bytes in place of six: 40
 pub short-refuted : Judges (asked 0 5 (0 ∷ 0 ∷ 0 ∷ 0 ∷ 0 ∷ [])) accepted_line → ⊥
-unfolding read_judge_input read_grid read_front section_words section_end script_start bookings_start input_end words_from word_at
-    read_sheet read_template open_at part_at read_shape read_shapes read_part read_run read_link read_script read_links from_at
+unfolding read_judge_input read_grid read_front section_words section_end script_start bookings_start input_end
+    words_from word_at
+    read_sheet read_template open_at part_at read_shape read_shapes read_part read_run read_link read_script
+    read_links from_at
     kind_at to_at above greater desk_at card_at shape_at read_list read_each repeated booked_before
 short-refuted x = accepted-not-refused 40 _ (x.line ∙ ap verdict_line x.says)
 
 -- desk 2: 66
 pub desk-refuted : Judges (asked 2 6 (0 ∷ 0 ∷ 0 ∷ 0 ∷ 0 ∷ 1 ∷ [])) accepted_line → ⊥
-unfolding read_judge_input read_grid read_front section_words section_end script_start bookings_start input_end words_from word_at
-    read_sheet read_template open_at part_at read_shape read_shapes read_part read_run read_link read_script read_links from_at
+unfolding read_judge_input read_grid read_front section_words section_end script_start bookings_start input_end
+    words_from word_at
+    read_sheet read_template open_at part_at read_shape read_shapes read_part read_run read_link read_script
+    read_links from_at
     kind_at to_at above greater desk_at card_at shape_at read_list read_each repeated booked_before
 desk-refuted x = accepted-not-refused 66 _ (x.line ∙ ap verdict_line x.says)

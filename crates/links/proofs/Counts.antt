@@ -91,7 +91,8 @@ module _ (script : List ℕ) (c m kinds : ℕ) where
       length-append (way_counts outgoing script c m kinds) (way_counts incoming script c m kinds)
       ∙ omega (arith, way-counts-length outgoing script c m kinds, way-counts-length incoming script c m kinds)
 
-  pub card-counts-out : (k : ℕ) → k < kinds → get_or (card_counts script c m kinds) k 0 ≡ way_count outgoing script c k m
+  pub card-counts-out : (k : ℕ) → k < kinds → get_or (card_counts script c m kinds) k 0 ≡ way_count outgoing script
+      c k m
   card-counts-out k l =
       get_or-append (way_counts outgoing script c m kinds) (way_counts incoming script c m kinds) 0 k
       (omega (arith, way-counts-length outgoing script c m kinds))
@@ -100,7 +101,8 @@ module _ (script : List ℕ) (c m kinds : ℕ) where
   pub card-counts-in : (k : ℕ) → k < kinds
       → get_or (card_counts script c m kinds) (kinds + k) 0 ≡ way_count incoming script c k m
   card-counts-in k l =
-      ap (λ (j : ℕ). get_or (card_counts script c m kinds) (j + k) 0) (sym (way-counts-length outgoing script c m kinds))
+      ap (λ (j : ℕ). get_or (card_counts script c m kinds) (j + k) 0) (sym (way-counts-length outgoing script c m
+      kinds))
       ∙ get_or-append-add (way_counts outgoing script c m kinds) (way_counts incoming script c m kinds) k 0
       ∙ way-counts-at incoming script c m kinds k l
 

@@ -22,7 +22,8 @@ use Rattle.board.proofs.Tally.{tally-zero, tally-hit, tally-miss}
 use Rattle.script.specs.Link.{from_at, kind_at, card_words, below}
 use Rattle.script.specs.Steps.{Ascending, LinksIn}
 use Rattle.script.proofs.Order.{starts-rise, kinds-rise}
-use Rattle.script.proofs.Cards.{part, card-part, part-within, part-words, below-le, below-low, below-high, starts-exact}
+use Rattle.script.proofs.Cards.{part, card-part, part-within, part-words, below-le, below-low, below-high}
+use Rattle.script.proofs.Cards.{starts-exact}
 use Rattle.links.specs.Counts.{way_count}
 use Rattle.links.specs.Runs.{kind_in, kinds_in, KindsRise}
 use Rattle.links.specs.Index.{LeavingOf}

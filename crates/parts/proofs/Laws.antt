@@ -163,7 +163,8 @@ module _
         outcome (read_group (read_part (left - 1) words end sizes) words end at row)
         ≡ outcome (read_part left words end sizes at row)
     by-group =
-        mapped-outcome (gathered (get_or words at 0)) (read_group (read_part (left - 1) words end sizes) words end at row)
+        mapped-outcome (gathered (get_or words at 0)) (read_group (read_part (left - 1) words end sizes) words end
+        at row)
         ∙ by_code (group (gathered (get_or words at 0))) (code-group (get_or words at 0) a (omega arith))
 
     pub group-short : end - at < 2 → shown (Refused 4 end) row ≡ outcome (read_part left words end sizes at row)

@@ -58,7 +58,8 @@ module _ (words : List ℕ) (end : ℕ) (sizes : Sizes) where
       (tested 7 at (leb sizes.kinds kind) _ (omega arith) (omega arith)
       (tested 8 at (not (eqb (get_or row (first + kind) 0) 0)) _ (omega arith) (omega arith)
       (tested 9 (at + 1) (leb sizes.shapes (get_or words (at + 1) 0)) _ (omega arith) (omega arith)
-      (tested 10 (at + 2) (not (limits_ok (get_or words (at + 2) 0) (get_or words (at + 3) 0))) _ (omega arith) (omega arith)
+      (tested 10 (at + 2) (not (limits_ok (get_or words (at + 2) 0) (get_or words (at + 3) 0))) _ (omega arith)
+      (omega arith)
       tt))))
 
   code-numbers :

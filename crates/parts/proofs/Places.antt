@@ -54,7 +54,8 @@ module _ (left : ℕ) (words : List ℕ) (end : ℕ) (sizes : Sizes) (at : ℕ) 
       (m : ℕ) (row' : List ℕ) → shown (Next m) row' ≡ outcome (read_part left words end sizes at row) →
       (at + 1 ≤ m) × (m ≤ end)
   reads-above m row' e =
-      shown-within words end at m row' (read_part left words end sizes at row) (part-back words end sizes left at row) e
+      shown-within words end at m row' (read_part left words end sizes at row) (part-back words end sizes left at
+      row) e
 
   pub reads-within :
       (p : Part) (m : ℕ) (names : List ℕ) →

@@ -164,7 +164,8 @@ module _ (words : List ℕ) (end : ℕ) where
       (λ j.
       let room : 4 ≤ end - at = ltb-false _ _ e in (
         stands-four words at (256 + (first + kind)) (get_or words (at + 1) 0) (get_or words (at + 2) 0)
-            (write_limit (limit_of (get_or words (at + 3) 0))) here refl refl (sym (limit-word (get_or words (at + 3) 0))),
+            (write_limit (limit_of (get_or words (at + 3) 0))) here refl refl (sym (limit-word (get_or words (at +
+            3) 0))),
         refl,
         omega arith,
         limits-in (get_or words (at + 2) 0) (get_or words (at + 3) 0) (true_of_not j),

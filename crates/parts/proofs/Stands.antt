@@ -34,7 +34,8 @@ module _ (words : List ℕ) where
   pub stands-nil : (at : ℕ) → Stands words at []
   stands-nil at i l = absurd (omega arith)
 
-  pub stands-cons : (at x : ℕ) (xs : List ℕ) → get_or words at 0 ≡ x → Stands words (at + 1) xs → Stands words at (x ∷ xs)
+  pub stands-cons : (at x : ℕ) (xs : List ℕ) → get_or words at 0 ≡ x → Stands words (at + 1) xs → Stands words at
+      (x ∷ xs)
   stands-cons at x xs e h zero l = let f : at + 0 ≡ at = omega arith in moved f ∙ e
   stands-cons at x xs e h (suc i) l = let f : at + suc i ≡ at + 1 + i = omega arith in moved f ∙ h i (omega arith)
 
@@ -48,7 +49,8 @@ module _ (words : List ℕ) where
       (stands-cons (at + 1 + 1) c [] (moved two ∙ g)
       (stands-nil (at + 1 + 1 + 1))))
 
-  pub stands-four : (at a b c d : ℕ) → get_or words at 0 ≡ a → get_or words (at + 1) 0 ≡ b → get_or words (at + 2) 0 ≡ c
+  pub stands-four : (at a b c d : ℕ) → get_or words at 0 ≡ a → get_or words (at + 1) 0 ≡ b → get_or words (at + 2)
+      0 ≡ c
       → get_or words (at + 3) 0 ≡ d → Stands words at (a ∷ b ∷ c ∷ d ∷ [])
   stands-four at a b c d e f g h =
       let two : at + 1 + 1 ≡ at + 2 = omega arith in

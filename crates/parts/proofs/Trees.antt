@@ -247,8 +247,10 @@ module _ (sizes : Sizes) where
         (λ e. refuse-case 7 at P (leb sizes.kinds kind) _ (λ e₂. tt)
         (λ e₂. refuse-case 8 at P (not (eqb (get_or row (label_of way kind) 0) 0)) _ (λ e₃. tt)
         (λ e₃. refuse-case 9 (at + 1) P (leb sizes.shapes (get_or words (at + 1) 0)) _ (λ e₄. tt)
-        (λ e₄. refuse-case 10 (at + 2) P (not (limits_ok (get_or words (at + 2) 0) (get_or words (at + 3) 0))) _ (λ e₅. tt)
-        (λ e₅. link-read left row way kind (get_or words (at + 1) 0) (get_or words (at + 2) 0) (get_or words (at + 3) 0)
+        (λ e₄. refuse-case 10 (at + 2) P (not (limits_ok (get_or words (at + 2) 0) (get_or words (at + 3) 0))) _ (λ
+        e₅. tt)
+        (λ e₅. link-read left row way kind (get_or words (at + 1) 0) (get_or words (at + 2) 0) (get_or words (at +
+        3) 0)
         (leb-false _ _ e₂) b (eqb-true _ _ (true_of_not e₃)) (leb-false _ _ e₄))))))
 
     group_reads :
@@ -305,7 +307,8 @@ module _ (sizes : Sizes) where
     -- Read from a row that has no names, a part leaves its names there.
     pub reads-names :
         (left at : ℕ) (p : Part) (next : ℕ) (after : List ℕ) → sizes.kinds ≤ max_kinds →
-        read_part left words end sizes at no_names ≡ accepted (found p next after) → (k : ℕ) → get_or after k 0 ≡ named p k
+        read_part left words end sizes at no_names ≡ accepted (found p next after) → (k : ℕ) → get_or after k 0 ≡
+        named p k
     reads-names left at p next after b e k =
         let w = reads-part left at no_names p next after (omega arith) e in
         w.entries k ∙ ap (λ (n : ℕ). first_entry n (named p k)) (no-entry max_labels k)

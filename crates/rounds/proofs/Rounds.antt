@@ -131,7 +131,8 @@ module _ {script names : List ℕ} {shapes : ℕ} {grid₀ queue₀ grid queue :
 
 -- The card of the pair at the head, guessed by the last link to the card of the pair before.
 module _ {script names : List ℕ} {shapes factor last q : ℕ} (ready : Ready script names shapes)
-    (on-board : q < get_or script 0 0 * shapes) (by : Reciprocal shapes factor) (below : last ≤ get_or script 0 0 - 1) where
+    (on-board : q < get_or script 0 0 * shapes) (by : Reciprocal shapes factor) (below : last ≤ get_or script 0 0 -
+    1) where
   pub source-asked : {first next : List ℕ} → ArrivalsOf script first next (get_or script 0 0) (get_or script 1 0)
       → SourceCardAsked script first shapes factor last q
   source-asked {first = first} a =

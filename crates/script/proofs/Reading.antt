@@ -26,7 +26,8 @@ use Rattle.script.specs.Script.{ScriptCounts, counts_of, read_links, read_script
 
 -- One link's test.
 module _ (kinds cards : ℕ) (script : List ℕ) (n i : ℕ) (done : Reading ScriptCounts) where
-  pub link-from : cards ≤ from_at script i → read_links kinds cards script (suc n) i done ≡ turned_down 23 (from_index i)
+  pub link-from : cards ≤ from_at script i → read_links kinds cards script (suc n) i done ≡ turned_down 23
+      (from_index i)
   unfolding read_links
   link-from h = rw (le-leb cards (from_at script i) h) refl
 
@@ -46,12 +47,23 @@ module _ (kinds cards : ℕ) (script : List ℕ) (n i : ℕ) (done : Reading Scr
         → read_links kinds cards script (suc n) i done ≡ read_links kinds cards script n (suc i) done
     unfolding read_links
     link-passes e =
-        rw (lt-leb cards (from_at script i) f, lt-leb kinds (kind_at script i) k, lt-leb cards (to_at script i) t, e) refl
+        rw (
+          lt-leb cards (from_at script i) f,
+          lt-leb kinds (kind_at script i) k,
+          lt-leb cards (to_at script i) t,
+          e,
+        ) refl
 
-    pub link-order : above script i ≡ false → read_links kinds cards script (suc n) i done ≡ turned_down 25 (from_index i)
+    pub link-order : above script i ≡ false → read_links kinds cards script (suc n) i done ≡ turned_down 25
+        (from_index i)
     unfolding read_links
     link-order e =
-        rw (lt-leb cards (from_at script i) f, lt-leb kinds (kind_at script i) k, lt-leb cards (to_at script i) t, e) refl
+        rw (
+          lt-leb cards (from_at script i) f,
+          lt-leb kinds (kind_at script i) k,
+          lt-leb cards (to_at script i) t,
+          e,
+        ) refl
 
 -- The links from link i on, where some are left: what the code's test of link i makes of them.
 module _ (kinds cards : ℕ) (script : List ℕ) (count i : ℕ) (done : Reading ScriptCounts) (test : LinkTest)
@@ -65,7 +77,8 @@ module _ (kinds cards : ℕ) (script : List ℕ) (count i : ℕ) (done : Reading
         rw (e, add-one i) (tested (count - suc i) done)
 
     pub links-next : test ≡ LinkTest.Passed
-        → read_links kinds cards script (count - i) i done ≡ read_links kinds cards script (count - (i + 1)) (i + 1) done
+        → read_links kinds cards script (count - i) i done ≡ read_links kinds cards script (count - (i + 1)) (i +
+        1) done
     links-next e = rw e at links-tested
 
     pub links-refused : (number place : ℕ) → test ≡ LinkTest.Refused number place

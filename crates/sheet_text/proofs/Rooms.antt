@@ -28,7 +28,8 @@ line-ended rounds struck bare w = omega (arith, w.moved, line-end rounds struck 
 
 -- Where the lines of the largest typing end.
 pub large-end : (rounds struck bare : ℕ) (grid : List ℕ) (shapes cards : ℕ) {out after : List ℕ} {at : ℕ}
-    → Wrote out 0 (largest_text rounds struck bare grid shapes cards) after at → shapes ≤ max_shapes → cards ≤ max_cards
+    → Wrote out 0 (largest_text rounds struck bare grid shapes cards) after at → shapes ≤ max_shapes → cards ≤
+    max_cards
     → at ≤ 109639
 large-end rounds struck bare grid shapes cards w hs hc =
     omega (

@@ -37,7 +37,8 @@ module _ (cards shapes : ℕ) (bookings : List ℕ) (i : ℕ) (rest : Reading �
     stored-shape h = rw (lt-leb cards (stored_card_at bookings i) c, le-leb shapes (stored_shape_at bookings i) h) refl
 
     pub stored-passed : stored_shape_at bookings i < shapes → stored_rule cards shapes bookings i rest ≡ rest
-    stored-passed t = rw (lt-leb cards (stored_card_at bookings i) c, lt-leb shapes (stored_shape_at bookings i) t) refl
+    stored-passed t = rw (lt-leb cards (stored_card_at bookings i) c, lt-leb shapes (stored_shape_at bookings i) t)
+        refl
 
 -- ---- the list
 -- A stored list is in order: its count is not too great, it has as many bookings, and each is of a card and a shape

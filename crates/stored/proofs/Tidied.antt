@@ -120,7 +120,8 @@ module _ (x : ℕ) (words : List ℕ) (b : Booking) (count : ℕ) (full : length
 -- ---- the first bookings of each pair book what the list books
 module _ (nth : ℕ → Booking) where
   -- a repeat books nothing new
-  pub before-again : (b : Booking) (k : ℕ) → repeated nth k ≡ true → booked_before nth b (suc k) ≡ booked_before nth b k
+  pub before-again : (b : Booking) (k : ℕ) → repeated nth k ≡ true → booked_before nth b (suc k) ≡ booked_before
+      nth b k
   unfolding repeated
   before-again b k again = bools-equal
       (λ e. let (j, l, is) = (before-exact nth b (suc k)).0 e in

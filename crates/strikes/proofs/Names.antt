@@ -33,7 +33,8 @@ ready-table ready = record { few-shapes = ready.few-shapes; rows = ready.table; 
 pub names-asked : {script names : List ℕ} {shapes start : ℕ} → Ready script names shapes → start ≤ max_kinds
     → NamesAsked names start shapes (replicate name_keys 0) (replicate name_keys 0)
 names-asked ready half =
-    let zero-at : (i : ℕ) → i < length {A = ℕ} (replicate name_keys 0) → get_or {A = ℕ} (replicate name_keys 0) i 0 ≡ 0 =
+    let zero-at : (i : ℕ) → i < length {A = ℕ} (replicate name_keys 0) → get_or {A = ℕ} (replicate name_keys 0) i 0
+    ≡ 0 =
     λ i l. get_or-replicate {A = ℕ} name_keys i 0 0 (omega (arith, length-replicate {A = ℕ} name_keys 0)) in
     record {
       table = ready-table ready;

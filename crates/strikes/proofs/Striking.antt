@@ -55,7 +55,8 @@ module _ {script names : List ℕ} {shapes : ℕ} (ready : Ready script names sh
       (λ p d. by p d.way d.link d.below d.starts d.shape d.names-it d.leads) s
     where
       by : (p : ℕ) (way : Way) (i : ℕ) → i < get_or script 1 0 → near_at way script i ≡ p / shapes → (u : ℕ)
-          → entry_at names (p % shapes) (label_at way script i) ≡ suc u → q ≡ far_at way script i * shapes + u → Sources p
+          → entry_at names (p % shapes) (label_at way script i) ≡ suc u → q ≡ far_at way script i * shapes + u →
+          Sources p
       by p outgoing i l near u e at = need-sources p i u l near e at
       by p incoming i l near u e at =
           let none = only (p % shapes) (kind_at script i) (shape-in shapes ready.one-shape p) (kind-in ready i l) in

@@ -52,7 +52,8 @@ module _ (sizes : Sizes) (words : List ℕ) (b : sizes.kinds ≤ max_kinds) wher
       whole_part (at + 1 + get_or words at 0) f ≡ accepted p → ShapeAccepted sizes words at p.value p.next
   whole-accepted at (found q m after) p h i e f =
       let w = passed 12 m (ltb m (at + 1 + get_or words at 0)) _ p f in
-      let inside = reads-within max_depth words (at + 1 + get_or words at 0) sizes (part_at words at) no_names q m after e in
+      let inside = reads-within max_depth words (at + 1 + get_or words at 0) sizes (part_at words at) no_names q m
+      after e in
       let u : m ≡ at + 1 + get_or words at 0 = omega (arith, ltb-false m (at + 1 + get_or words at 0) w.0) in
       let v : read_part max_depth words (at + 1 + get_or words at 0) sizes (part_at words at) no_names
       ≡ accepted (found q (at + 1 + get_or words at 0) after) = rw u at e in
@@ -76,7 +77,8 @@ module _ (sizes : Sizes) (words : List ℕ) (b : sizes.kinds ≤ max_kinds) wher
       let (start, e₁) = passed 4 (length words) (leb (length words) at) _ p e in
       let (room, e₂) = passed 4 (length words) (ltb (length words - (at + 1)) (get_or words at 0)) _ p e₁ in
       let end = at + 1 + get_or words at 0 in
-      let (f, read, whole) = then-accepted (read_part max_depth words end sizes (part_at words at) no_names) (whole_part end)
+      let (f, read, whole) = then-accepted (read_part max_depth words end sizes (part_at words at) no_names)
+      (whole_part end)
       p e₂ in
       whole-accepted at f p (leb-false _ _ start) (ltb-false _ _ room) read whole
 

@@ -45,7 +45,8 @@ module _ (sizes : Sizes) (words : List ℕ) where
   shape-numbers at =
       tested 4 (length words) (leb (length words) at) _ (omega arith) (omega arith)
       (tested 4 (length words) (ltb (length words - (at + 1)) (get_or words at 0)) _ (omega arith) (omega arith)
-      (then-numbered TemplateNumber (read_part max_depth words (at + 1 + get_or words at 0) sizes (part_at words at) no_names)
+      (then-numbered TemplateNumber (read_part max_depth words (at + 1 + get_or words at 0) sizes (part_at words
+      at) no_names)
       (whole_part (at + 1 + get_or words at 0))
       (numbered-map PartNumber TemplateNumber
       (read_part max_depth words (at + 1 + get_or words at 0) sizes (part_at words at) no_names) of_part

@@ -82,7 +82,8 @@ template-back words t e =
     let (g, r₆) = passed 3 1 (ltb max_shapes (get_or words 1 0)) _ t r₅ in
     let kinds : ℕ = get_or words 0 0 in
     let shapes : ℕ = get_or words 1 0 in
-    let (read, q, same) = template-shapes-read kinds shapes (read_shapes (sizes_of kinds shapes) words shapes 2) t r₆ in
+    let (read, q, same) = template-shapes-read kinds shapes (read_shapes (sizes_of kinds shapes) words shapes 2) t
+    r₆ in
     let two : 2 ≤ length words = ltb-false (length words) 2 a in
     let found : ShapesBack words (sizes_of kinds shapes) shapes 2 read =
     subst (Holds (ShapesBack words (sizes_of kinds shapes) shapes 2)) q

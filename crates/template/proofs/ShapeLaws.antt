@@ -93,7 +93,8 @@ module _ (sizes : Sizes) (words : List ℕ) (at : ℕ) where
 
     module _ (i : count ≤ length words - (at + 1)) where
       shape-by :
-          then (read_part max_depth words (at + 1 + count) sizes (part_at words at) no_names) (whole_part (at + 1 + count))
+          then (read_part max_depth words (at + 1 + count) sizes (part_at words at) no_names) (whole_part (at + 1 +
+          count))
           ≡ read_shape sizes words at
       unfolding read_shape
       shape-by =
@@ -118,7 +119,8 @@ module _ (sizes : Sizes) (words : List ℕ) (at : ℕ) where
         shape-finished : finished (at + 1 + count) (shown r after) ≡ read_of (read_shape sizes words at)
         shape-finished =
             ap (finished (at + 1 + count)) (rw (b, f) at q)
-            ∙ finished-whole (at + 1 + count) (read_part max_depth words (at + 1 + count) sizes (part_at words at) no_names)
+            ∙ finished-whole (at + 1 + count) (read_part max_depth words (at + 1 + count) sizes (part_at words at)
+            no_names)
             ∙ ap read_of shape-by
 
         pub shape-left :
@@ -135,7 +137,8 @@ module _ (sizes : Sizes) (words : List ℕ) (at : ℕ) where
             (n : ℕ) → sizes.kinds ≤ max_kinds → r ≡ Next n → (p : Placed Part) →
             read_shape sizes words at ≡ accepted p → (k : ℕ) → get_or after k 0 ≡ named p.value k
         shape-names n l o p s =
-            whole-names (at + 1 + count) (read_part max_depth words (at + 1 + count) sizes (part_at words at) no_names) n
+            whole-names (at + 1 + count) (read_part max_depth words (at + 1 + count) sizes (part_at words at)
+            no_names) n
             after p (rw (b, f, o) at q) (shape-by ∙ s)
             (λ t m row' g. reads-names sizes words (at + 1 + count) max_depth (part_at words at) t m row' l g)
 

@@ -60,7 +60,8 @@ pub record Filling (sizes : Sizes) (words names : List ℕ) (at t : ℕ) : Type 
   -- and the rows before t have the names of their parts
   pub filled :
       (all : Placed (List Part)) → read_shapes sizes words sizes.shapes 2 ≡ accepted all →
-      (s k : ℕ) → s < t → k < max_labels → get_or names (s * max_labels + k) 0 ≡ named (get_or all.value s Part.nothing) k
+      (s k : ℕ) → s < t → k < max_labels → get_or names (s * max_labels + k) 0 ≡ named (get_or all.value s
+      Part.nothing) k
 
 -- What is left of a list starts with its next element.
 drop-first :
@@ -95,7 +96,8 @@ module _ {sizes : Sizes} {words names : List ℕ} {at t : ℕ} (f : Filling size
         = mid_len (row_start t) (row_end t) names row-bounds.0 in
         ext_get_or 0 _ no_names (l ∙ row-bounds.1)
         (λ j b.
-        get_or-take (row_span t) (drop (row_start t) names) j 0 (omega (arith, l)) ∙ get_or-drop (row_start t) names j 0
+        get_or-take (row_span t) (drop (row_start t) names) j 0 (omega (arith, l)) ∙ get_or-drop (row_start t)
+        names j 0
         ∙ f.rest (t * max_labels + j) (omega arith) ∙ sym (no-entry max_labels j))
 
     one_less : sizes.shapes - t ≡ suc (sizes.shapes - (t + 1))

@@ -97,7 +97,8 @@ module _ (words table : List ℕ) where
               abbrev shapes-read : Reading (Placed (List Part))
               shapes-read = read_shapes (sizes_of (get_or words 0 0) (get_or words 1 0)) words (get_or words 1 0) 2
 
-              template-by : mapped (template_of (get_or words 0 0) (get_or words 1 0)) shapes-read ≡ read_template words
+              template-by : mapped (template_of (get_or words 0 0) (get_or words 1 0)) shapes-read ≡ read_template
+                  words
               unfolding read_template
               template-by = simp (le-ltb _ _ h, le-ltb _ _ i, le-ltb _ _ j, le-ltb _ _ k, le-ltb _ _ l, le-ltb _ _ m)
 

@@ -122,7 +122,8 @@ module _ {before after : List ℕ} {next : ℕ} where
   input-wrote input e w =
       wrote-writes (wrote-same (sym (ap (λ (r : Reading Input). list_text (then r read-on)) e)) w)
 
-  pub faulty-wrote : (input : List ℕ) → read_input input ≡ turned_down 60 0 → Wrote before 0 (refused_line 60 0) after next
+  pub faulty-wrote : (input : List ℕ) → read_input input ≡ turned_down 60 0 → Wrote before 0 (refused_line 60 0)
+      after next
       → Writes (tidy_text input) before after (values (next ∷ []))
   faulty-wrote input e w =
       wrote-writes (refused-wrote (ap (λ (r : Reading Input). then r read-on) e) w)

@@ -5,9 +5,9 @@ use Prim.Native.Nat.{ℕ}
 use mathlib.Core.Path.{◌≡◌}
 use mathlib.Core.Logic.{◌⊎◌, inl, inr}
 use mathlib.Core.List.{List}
-use Rattle.words.specs.Reading.{Reading, then}
+use Rattle.words.specs.Reading.{then}
 use Rattle.words.proofs.Readings.{Numbered, then-numbered, mapped-numbered, numbered-map}
-use Rattle.input.specs.Input.{Input, read_input}
+use Rattle.input.specs.Input.{read_input}
 use Rattle.input.proofs.Inputs.{input-numbers}
 use Rattle.sheet.specs.Sheet.{Sheet, read_sheet}
 use Rattle.sheet.proofs.Accepted.{SheetNumber, sheet-numbers}

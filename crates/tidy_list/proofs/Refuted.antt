@@ -60,8 +60,10 @@ files = input_of (2 ∷ 2 ∷ 10 ∷ 17 ∷ 2 ∷ 256 ∷ 1 ∷ 1 ∷ 1 ∷ 257 
     (3 ∷ 3 ∷ 0 ∷ 0 ∷ 2 ∷ 0 ∷ 1 ∷ 1 ∷ 1 ∷ 0 ∷ 0 ∷ []) (2 ∷ 2 ∷ 1 ∷ 2 ∷ 1 ∷ [])
 
 files-tidied : tidied_words files.template files.script files.bookings ≡ accepted (1 ∷ 0 ∷ 2 ∷ 1 ∷ [])
-unfolding tidied_words read_sheet read_template open_at part_at read_shape read_shapes read_part read_run read_link read_script
-    read_links from_at kind_at to_at above greater read_list read_each repeated booked_before stored_card_at stored_shape_at
+unfolding tidied_words read_sheet read_template open_at part_at read_shape read_shapes read_part read_run read_link
+    read_script
+    read_links from_at kind_at to_at above greater read_list read_each repeated booked_before stored_card_at
+    stored_shape_at
     different firsts tidied
 files-tidied = refl
 
@@ -77,8 +79,10 @@ worked-size : (before after : List ℕ) (count : ℕ)
 worked-size before after count w = one_value w.says ∙ ap length worked-text
 
 -- The five words of the stored list, and the seven with both bookings.
-pub copied-refuted : (before after : List ℕ) → Writes (tidy_text (write_input files)) before after (values (10 ∷ [])) → ⊥
+pub copied-refuted : (before after : List ℕ) → Writes (tidy_text (write_input files)) before after (values (10 ∷
+    [])) → ⊥
 copied-refuted before after w = let z : ◌≡◌ {A = ℕ} 10 8 = worked-size before after 10 w in omega arith
 
-pub repeat-refuted : (before after : List ℕ) → Writes (tidy_text (write_input files)) before after (values (14 ∷ [])) → ⊥
+pub repeat-refuted : (before after : List ℕ) → Writes (tidy_text (write_input files)) before after (values (14 ∷
+    [])) → ⊥
 repeat-refuted before after w = let z : ◌≡◌ {A = ℕ} 14 8 = worked-size before after 14 w in omega arith

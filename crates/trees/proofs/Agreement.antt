@@ -16,7 +16,8 @@ use Rattle.words.specs.Limits.{max_depth, min_group, max_group}
 use Rattle.words.specs.Reading.{Reading, accepted, turned_down, then, mapped}
 use Rattle.words.proofs.Readings.{refuse-case}
 use Rattle.parts.specs.declared.Sizes.{Sizes}
-use Rattle.parts.specs.Reading.{Code, code_of, Found, found, into, after, limits_ok, read_link, read_run, read_part, no_names}
+use Rattle.parts.specs.Reading.{Code, code_of, Found, found, into, after, limits_ok, read_link, read_run, read_part}
+use Rattle.parts.specs.Reading.{no_names}
 use Rattle.parts.specs.Reading.{read_code, read_group}
 use Rattle.parts.specs.Placed.{Placed, placed, onto}
 use Rattle.template.specs.Template.{part_at, Template, read_template, sizes_of}
@@ -62,7 +63,8 @@ module _ (words : List ℕ) (end : ℕ) (sizes : Sizes) where
       (λ e. refuse-case 7 at P (leb sizes.kinds kind) _ (λ e₂. tt)
       (λ e₂. refuse-case 8 at P (not (eqb (get_or row (first + kind) 0) 0)) _ (λ e₃. tt)
       (λ e₃. refuse-case 9 (at + 1) P (leb sizes.shapes (get_or words (at + 1) 0)) _ (λ e₄. tt)
-      (λ e₄. refuse-case 10 (at + 2) P (not (limits_ok (get_or words (at + 2) 0) (get_or words (at + 3) 0))) _ (λ e₅. tt)
+      (λ e₄. refuse-case 10 (at + 2) P (not (limits_ok (get_or words (at + 2) 0) (get_or words (at + 3) 0))) _ (λ
+      e₅. tt)
       (λ e₅. refl)))))
 
   code-agrees :

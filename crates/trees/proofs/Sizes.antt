@@ -46,7 +46,8 @@ module _ (words : List ℕ) where
   next-bound zero at = omega arith
   next-bound (suc left) at =
       cond-case (Ends words at) (ltb at (length words)) _ _
-      (λ e. code-ends (tree_at left words) (λ next. next-bound left next) at (ltb-true _ _ e) (code_of (get_or words at 0)))
+      (λ e. code-ends (tree_at left words) (λ next. next-bound left next) at (ltb-true _ _ e) (code_of (get_or
+      words at 0)))
       (λ e. omega arith)
 
   -- Where a run of trees ends.

@@ -75,7 +75,8 @@ module _ (words : List ℕ) (start : ℕ) where
             ∙ ap (wrap_interval lowers frees) (single-wrapped code low high (tree_at left words (core + 1)).value w)
             ∙ wrap-twice lowers frees (not (eqb code 3)) (not (eqb code 2))
             (interval (tree_at left words (core + 1)).value w)
-            ∙ ap₂ (λ (x y : Bool). wrap_interval x y (interval (tree_at left words (core + 1)).value w)) (sym p) (sym q);
+            ∙ ap₂ (λ (x y : Bool). wrap_interval x y (interval (tree_at left words (core + 1)).value w)) (sym p)
+            (sym q);
       }
 
   -- ---- the wrappers from a place on
@@ -91,14 +92,16 @@ module _ (words : List ℕ) (start : ℕ) where
       record { order = omega arith; within = h; codes = λ k l b. absurd (omega arith); effect = effect-none }
 
   module _ (end core : ℕ) (lowers frees : Bool) (f : FrontTo end core lowers frees) where
-    pub front-more : (a b : Bool) → core < end → core < length words → 1 ≤ get_or words core 0 → get_or words core 0 ≤ 3 →
+    pub front-more : (a b : Bool) → core < end → core < length words → 1 ≤ get_or words core 0 → get_or words core
+        0 ≤ 3 →
         a ≡ (lowers || not (eqb (get_or words core 0) 3)) → b ≡ (frees || not (eqb (get_or words core 0) 2)) →
         FrontTo end (core + 1) a b
     front-more a b h l low high p q = record {
       order = omega (arith, f.order);
       within = omega arith;
       codes = λ k g i. ⊎_elim
-          (λ (e : k ≡ core). subst (λ (n : ℕ). (n < length words) × (1 ≤ get_or words n 0) × (get_or words n 0 ≤ 3)) (sym e)
+          (λ (e : k ≡ core). subst (λ (n : ℕ). (n < length words) × (1 ≤ get_or words n 0) × (get_or words n 0 ≤
+          3)) (sym e)
           (l, low, high))
           (λ below. f.codes k g below)
           (last-or-below (rw (add-one core) at i));

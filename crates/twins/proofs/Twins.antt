@@ -49,7 +49,8 @@ module _ (a b : List ℕ) where
   }
 
   -- Past the last link, each kind has as many of both.
-  pub same-done : (at : ℕ) → SameTo a b at → length a ≡ length b → length a ≤ at → (k : ℕ) → kinds_in a k ≡ kinds_in b k
+  pub same-done : (at : ℕ) → SameTo a b at → length a ≡ length b → length a ≤ at → (k : ℕ) → kinds_in a k ≡
+      kinds_in b k
   unfolding kinds_in
   same-done at s size end k =
       tally-ext (λ i. eqb (kind_in a i) k) (λ i. eqb (kind_in b i) k) (length a / 3)
@@ -122,7 +123,8 @@ module _ (script starts : List ℕ) (cards : ℕ) (before : List ℕ) where
         → TwinOf script links c (get_or (set twins n m) c 0)
     more-each links s c i = ⊎_elim
         (λ (q : c ≡ n).
-        rw (q, get_or-set_same twins n m 0 (omega (arith, t.size))) (twin links (leaving-fewer s (n + 1) (omega arith))))
+        rw (q, get_or-set_same twins n m 0 (omega (arith, t.size))) (twin links (leaving-fewer s (n + 1) (omega
+        arith))))
         (λ (ne : c ≡ n → ⊥). rw (get_or-set_other twins n c m 0 ne) (t.each links s c (omega (arith, ne))))
         (eq-or-ne c n)
 

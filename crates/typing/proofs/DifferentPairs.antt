@@ -35,7 +35,8 @@ module _ (cards shapes : ℕ) (one-shape : 0 < shapes) (bookings : List ℕ) whe
   abbrev place_at : ℕ → ℕ
   place_at k = stored_card_at bookings k * shapes + stored_shape_at bookings k
 
-  module _ (k : ℕ) (card-here : stored_card_at bookings k < cards) (shape-here : stored_shape_at bookings k < shapes) where
+  module _ (k : ℕ) (card-here : stored_card_at bookings k < cards) (shape-here : stored_shape_at bookings k <
+      shapes) where
     -- booking k is that of the pair at its place
     here : of (place_at k / shapes) (place_at k % shapes) ≡ stored_at bookings k
     here =
@@ -72,7 +73,8 @@ module _ (cards shapes : ℕ) (one-shape : 0 < shapes) (bookings : List ℕ) whe
       (true-or-false (repeated (stored_at bookings) k))
 
 pub different-pairs : (s : Sheet) (bookings : List ℕ) → 0 < s.shapes
-    → ((i : ℕ) → i < get_or bookings 0 0 → (stored_card_at bookings i < s.cards) × (stored_shape_at bookings i < s.shapes))
+    → ((i : ℕ) → i < get_or bookings 0 0 → (stored_card_at bookings i < s.cards) × (stored_shape_at bookings i <
+    s.shapes))
     → (X : Pairs) → ((n t : ℕ) → n < s.cards → t < s.shapes → Has s X n t ↔ StoredBooked bookings n t)
     → different (stored_at bookings) (get_or bookings 0 0) ≡ tally X (size s)
 different-pairs s bookings one-shape each X just =

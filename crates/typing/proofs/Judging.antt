@@ -48,7 +48,8 @@ module _ (template script bookings : List ℕ) (desk : ℕ) where
   judge-one-answer grid a b x y =
       told-unique (smallest_reading template script bookings desk grid) a b (λ s r. judge-found-unique) x y
 
-  pub judge-no-choice : (grid : List ℕ) (a b : JudgeAnswer) → JudgeSays template script bookings desk grid (judge_said a)
+  pub judge-no-choice : (grid : List ℕ) (a b : JudgeAnswer) → JudgeSays template script bookings desk grid
+      (judge_said a)
       → JudgeSays template script bookings desk grid (judge_said b) → a ≡ b
   judge-no-choice grid a b x y =
       judge-said-unique a b (judge-one-answer grid (judge_said a) (judge_said b) x y)
@@ -109,7 +110,8 @@ module _ (template script bookings : List ℕ) (desk : ℕ) where
           let read = (bookings-asked bookings desk (read_sheet template script) s files).0 in
           let again = grid-asked other (read_sheet template script) q large-asked in
           let same : q ≡ s = accepted-same (sym again.0 ∙ read) in
-          let large-asks = subst (λ (z : Sheet). largest_reading template script other ≡ accepted z) same large-asked in
+          let large-asks = subst (λ (z : Sheet). largest_reading template script other ≡ accepted z) same
+          large-asked in
           let d = (apart template script bookings desk other before s large-asks asked large small _ _ y x).demand in
           let (sound, holds) = d.large-sound (λ r. d.turned_down.0 r small p.sound p.holds) in
           record { sound = sound; holds = holds }
@@ -124,7 +126,8 @@ module _ (template script bookings : List ℕ) (desk : ℕ) where
       × (JudgeSays template script bookings desk after.large told → told ≡ values [])
   judge-takes-both before after said m x e told =
       let (s, both-asked, found) =
-      both_values (Booked bookings desk) (both_reading template script bookings desk before) before after said (m ∷ []) e
+      both_values (Booked bookings desk) (both_reading template script bookings desk before) before after said (m ∷
+      []) e
       x in
       let small-asks = smallest_reading template script bookings desk before.small in
       let asked = (grid-asked before.large small-asks s both-asked).0 in

@@ -115,7 +115,8 @@ module _ (template script : List ℕ) where
 abbrev pub JudgeRefusal : ℕ → List ℕ → Type 0
 JudgeRefusal number at = JudgeNumber number ⊎ ((number ≡ 62) × (length at ≡ 2))
 
-verdict-numbers : (v : Verdict) (number : ℕ) (at : List ℕ) → refusal number at ≡ verdict_said v → JudgeRefusal number at
+verdict-numbers : (v : Verdict) (number : ℕ) (at : List ℕ) → refusal number at ≡ verdict_said v → JudgeRefusal
+    number at
 verdict-numbers (over p) number at e = inl (inr (inl (refusal-number e)))
 verdict-numbers (unmet n t) number at e = inr (refusal-number e, ap length (refusal-place e))
 verdict-numbers (unheld i) number at e = inl (inr (inr (refusal-number e)))
@@ -125,7 +126,8 @@ judge-by : (r : Reading Sheet) (bookings : List ℕ) (desk : ℕ) (grid : List �
     → Numbered SmallestNumber r
     → Answered r (λ refused. refusal number at ≡ refused) (λ s. JudgeFound s bookings desk grid (refusal number at))
     → JudgeRefusal number at
-judge-by (turned_down n p) bookings desk grid number at h x = inl (inl (subst SmallestNumber (sym (refusal-number x)) h))
+judge-by (turned_down n p) bookings desk grid number at h x = inl (inl (subst SmallestNumber (sym (refusal-number
+    x)) h))
 judge-by (accepted s) bookings desk grid number at h x = verdict-numbers x.verdict number at x.says
 
 pub judge-numbers : (template script bookings : List ℕ) (desk : ℕ) (grid : List ℕ) (number : ℕ) (at : List ℕ)

@@ -55,7 +55,8 @@ typing-unique {s} {g} {h} x y e = ext_get_or 0 g h (x.full ∙ sym y.full) (λ p
     let here : p < size s = omega (arith, x.full) in
     same_byte p (x.bytes p here) (y.bytes p here) (e p here))
   where
-    same_byte : (p : ℕ) → (get_or g p 0 ≡ 0) ⊎ (get_or g p 0 ≡ 1) → (get_or h p 0 ≡ 0) ⊎ (get_or h p 0 ≡ 1) → on g p ≡ on h p
+    same_byte : (p : ℕ) → (get_or g p 0 ≡ 0) ⊎ (get_or g p 0 ≡ 1) → (get_or h p 0 ≡ 0) ⊎ (get_or h p 0 ≡ 1) → on g
+        p ≡ on h p
         → get_or g p 0 ≡ get_or h p 0
     same_byte p (inl a) (inl b) f = a ∙ sym b
     same_byte p (inl a) (inr b) f = on-byte g p (f ∙ on-yes h p b) ∙ sym b

@@ -12,7 +12,8 @@ use Rattle.typing.specs.Calls.{smallest_reading}
 use Rattle.typing.specs.Judge.{JudgeFound, JudgeSays}
 
 module _ (template script bookings : List ℕ) (desk : ℕ) (grid : List ℕ) where
-  pub judge-refused : (number place : ℕ) → smallest_reading template script bookings desk grid ≡ turned_down number place
+  pub judge-refused : (number place : ℕ) → smallest_reading template script bookings desk grid ≡ turned_down number
+      place
       → JudgeSays template script bookings desk grid (refusal number (place ∷ []))
   judge-refused number place h = rw h refl
 

@@ -59,7 +59,8 @@ module _ {script starts names : List ℕ} {shapes : ℕ} (ready : Ready script n
     needs-out q d = by d.way d.link d.below d.starts d.shape d.names-it d.leads
       where
         by : (way : Way) (i : ℕ) → i < get_or script 1 0 → near_at way script i ≡ p / shapes → (u : ℕ)
-            → entry_at names (p % shapes) (label_at way script i) ≡ suc u → q ≡ far_at way script i * shapes + u → Out q
+            → entry_at names (p % shapes) (label_at way script i) ≡ suc u → q ≡ far_at way script i * shapes + u →
+            Out q
         by outgoing i l near u e at = out-led i q u l near e at
         by incoming i l near u e at =
             let none = only (p % shapes) (kind_at script i) (shape-in shapes ready.one-shape p) (kind-in ready i l) in
@@ -86,7 +87,8 @@ module _ {script starts names : List ℕ} {shapes : ℕ} (ready : Ready script n
         by incoming i l near u e at =
             inr (record { link = i; below = l; leads = near; good = needs-led ready p other i q u l e at })
 
-    pub followed-both : {w v x : Work} → Swept Out w v → Swept (Back back) v x → Swept (Needs script names shapes p) w x
+    pub followed-both : {w v x : Work} → Swept Out w v → Swept (Back back) v x → Swept (Needs script names shapes
+        p) w x
     followed-both a b = swept-append out-needs back-needs needs-both a b
 
     pub had-both : {X : ℕ → Bool}

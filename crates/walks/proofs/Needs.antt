@@ -56,7 +56,8 @@ module _ {script names : List ℕ} {shapes : ℕ} (ready : Ready script names sh
 
   -- ---- by the halves of p's row
   module _ {t : ℕ} {way : Way} {row : List ℕ} (lt : t < shapes) (half : Half names t way row) where
-    half-entry : (i : ℕ) → i < get_or script 1 0 → get_or row (kind_at script i) 0 ≡ entry_at names t (label_at way script i)
+    half-entry : (i : ℕ) → i < get_or script 1 0 → get_or row (kind_at script i) 0 ≡ entry_at names t (label_at way
+        script i)
     half-entry i l = half.entries (kind_at script i) (kind-in i l)
 
     pub row-asked : {places : ℕ} → places ≡ get_or script 0 0 * shapes → RowAsked way script row shapes places
@@ -70,7 +71,12 @@ module _ {script names : List ℕ} {shapes : ℕ} (ready : Ready script names sh
         led-in ready way t i (far_at way script i) g.shape lt l refl (sym (half-entry i l) ∙ g.names-it),
         e,
       ));
-      cards = λ i l. omega (arith, card-room (get_or script 0 0) shapes (far_at way script i) (ready.far-in way i l), e);
+      cards = λ i l. omega (
+        arith,
+        card-room (get_or script 0 0) shapes (far_at way script i) (ready.far-in way i
+            l),
+        e,
+      );
     }
 
   module _ (p : ℕ) {way : Way} {row : List ℕ} (half : Half names (p % shapes) way row) where

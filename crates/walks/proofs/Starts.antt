@@ -16,7 +16,8 @@ use Rattle.walks.specs.Walks.{Starts}
 
 module _ {script names : List ℕ} {shapes : ℕ} (ready : Ready script names shapes) where
   pub starts-of : {starts : List ℕ} → Ascending script (get_or script 1 0) → get_or script 0 0 < length starts
-      → ((c : ℕ) → c ≤ get_or script 0 0 → get_or starts c 0 ≡ below script c (get_or script 1 0)) → Starts script starts
+      → ((c : ℕ) → c ≤ get_or script 0 0 → get_or starts c 0 ≡ below script c (get_or script 1 0)) → Starts script
+      starts
   starts-of ascending room exact =
       let m = get_or script 1 0 in
       let rise = starts-rise script m ascending in

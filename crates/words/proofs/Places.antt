@@ -43,7 +43,8 @@ module _ (shapes : ℕ) (one-shape : 0 < shapes) where
 module _ (shapes : ℕ) (one-shape : 0 < shapes) where
   pub card-below : (cards n t : ℕ) → t < shapes → n * shapes + t < cards * shapes → n < cards
   card-below cards n t lt l =
-      subst (λ (x : ℕ). x < cards) (card-of shapes one-shape n t lt) (card-in shapes one-shape cards (n * shapes + t) l)
+      subst (λ (x : ℕ). x < cards) (card-of shapes one-shape n t lt) (card-in shapes one-shape cards (n * shapes +
+      t) l)
 
   pub place-unique : (n t m u : ℕ) → t < shapes → u < shapes → n * shapes + t ≡ m * shapes + u → (n ≡ m) × (t ≡ u)
   place-unique n t m u lt lu e = (

@@ -24,7 +24,8 @@ accepted-same e = cc
 
 -- One test of a decision list.
 module _ {A : Type 0} (number place : ℕ) where
-  pub refused : (test : Bool) (rest : Reading A) → test ≡ true → refuse number place test rest ≡ turned_down number place
+  pub refused : (test : Bool) (rest : Reading A) → test ≡ true → refuse number place test rest ≡ turned_down number
+      place
   refused test rest e = rw e refl
 
   pub passed : (test : Bool) (rest : Reading A) (a : A) → refuse number place test rest ≡ accepted a

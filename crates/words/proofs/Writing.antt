@@ -72,7 +72,8 @@ pub wrote-same : {b c s t : List ℕ} {at next : ℕ} → s ≡ t → Wrote b at
 wrote-same {b} {c} {s} {t} {at} {next} e w = subst (λ (x : List ℕ). Wrote b at x c next) e w
 
 pub wrote-next : {b m c : List ℕ} {at next end : ℕ} (text : List ℕ) (i : ℕ) → i < length text
-    → Wrote b at (take i text) m next → Wrote m next (get_or text i 0 ∷ []) c end → Wrote b at (take (i + 1) text) c end
+    → Wrote b at (take i text) m next → Wrote m next (get_or text i 0 ∷ []) c end → Wrote b at (take (i + 1) text)
+    c end
 wrote-next text i l w v =
     wrote-same (sym (ap (λ (n : ℕ). take n text) (add-one i) ∙ take-suc text i 0 l)) (wrote-append w v)
 

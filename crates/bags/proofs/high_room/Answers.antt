@@ -3,7 +3,6 @@
 use mathlib.Core.Path.{◌≡◌}
 use Prim.Native.Nat.{min, ◌+◌, ◌-◌, ◌/◌}
 use native.Mathlib.Omega.{arith}
-use Rattle.bags.specs.Span.{top}
 use Rattle.bags.proofs.Spans.{high-none, high_zero, high-never, high-some}
 use Rattle.bags.proofs.high_room.Goals as goal
 

@@ -6,7 +6,11 @@ use Rattle.bags.proofs.low_room.Goals as goal
 
 pub returns-then-low-eq0 : goal.returns-then-low-eq0
 returns-then-low-eq0 c =
-    let a = c.args in record { view = low-none a.count a.low (omega arith); small =  small-up a.count 0 (omega arith); }
+    let a = c.args in record {
+      view = low-none a.count a.low (omega arith);
+      small = small-up a.count 0 (omega
+          arith);
+    }
 
 pub returns : goal.returns
 returns c =

@@ -5,6 +5,9 @@ use Rattle.bags.proofs.Spans.{meet-view, meet-small}
 use Rattle.bags.proofs.meet_span.Goals as goal
 
 pub returns : goal.returns
-returns c = record { view =
-  meet-view _ _ _ _ c.larger.ensures c.smaller.ensures (omega arith) (omega arith); small =
-  λ n h g. meet-small _ _ _ _ n c.larger.ensures c.smaller.ensures (omega arith) (omega arith) h g; }
+returns c = record {
+  view =
+      meet-view _ _ _ _ c.larger.ensures c.smaller.ensures (omega arith) (omega arith);
+  small =
+      λ n h g. meet-small _ _ _ _ n c.larger.ensures c.smaller.ensures (omega arith) (omega arith) h g;
+}

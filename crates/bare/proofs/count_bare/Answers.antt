@@ -2,7 +2,7 @@
 -- marked and have no shape. Assumes nothing.
 use mathlib.Core.Logic.{⊎_elim}
 use mathlib.Core.Path.{◌∙◌, ◌≡◌, ap, sym}
-use Prim.Native.Nat.{◌*◌, ◌+◌, ◌-◌, ◌≤◌, ℕ}
+use Prim.Native.Nat.{◌*◌, ◌+◌, ◌≤◌, ℕ}
 use native.Mathlib.Omega.{arith}
 use lib.ListN.{length}
 use Rattle.board.proofs.Tally.{tally-zero}
@@ -58,7 +58,8 @@ loop-n-preserved c =
       omega arith,
       omega (arith, w.bare-is),
       w.bare-is ∙ ap (λ (x : ℕ). x + 1) c.loop-n.invariant.2
-          ∙ sym (bare-hit marks grid shapes n w.if-linked-n-eq1.true (sym (w.all_off.ensures ∙ row) ∙ w.if-all_off.true)),
+          ∙ sym (bare-hit marks grid shapes n w.if-linked-n-eq1.true (sym (w.all_off.ensures ∙ row) ∙
+          w.if-all_off.true)),
     ))
     (λ w. (
       omega arith,

@@ -1,7 +1,6 @@
 -- `board::all_off` tells whether no place is on. The invariant: none below `place` is. Assumes nothing.
 use mathlib.Core.Path.{◌≡◌, sym}
 use mathlib.Core.Bool.{false}
-use Prim.Native.Nat.{◌-◌}
 use native.Mathlib.Omega.{arith}
 use lib.ListN.{length}
 use borrow.Author.Count.{below_more}
@@ -24,8 +23,11 @@ returns-then-grid-place-eq1 c =
 pub loop-place-preserved : goal.loop-place-preserved
 loop-place-preserved c =
     let grid = c.args.grid.now in
-    let place = c.loop-place.place in
-    (omega arith, below_more (λ p. on grid p ≡ false) place c.loop-place.invariant.1 (on-no grid place c.if-grid-place-eq1.false))
+    let place = c.loop-place.place in (
+      omega arith,
+      below_more (λ p. on grid p ≡ false) place c.loop-place.invariant.1 (on-no grid place
+          c.if-grid-place-eq1.false),
+    )
 
 pub returns : goal.returns
 returns c =

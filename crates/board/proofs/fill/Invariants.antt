@@ -8,7 +8,8 @@ use Rattle.board.proofs.fill.Given as goal
 
 abbrev pub invariant-loop-place : goal.invariant-loop-place
 invariant-loop-place l =
-    (l.place ≤ length l.initial.grid) × (length l.grid ≡ length l.initial.grid) × (l.grid ≡ replicate l.place l.value ++ drop l.place l.initial.grid)
+    (l.place ≤ length l.initial.grid) × (length l.grid ≡ length l.initial.grid) × (l.grid ≡ replicate l.place
+    l.value ++ drop l.place l.initial.grid)
 
 abbrev pub decreases-loop-place : goal.decreases-loop-place
 decreases-loop-place l = length l.initial.grid - l.place

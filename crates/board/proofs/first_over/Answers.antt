@@ -1,5 +1,5 @@
 -- `board::first_over` finds the first byte that is over 1. The invariant: none below `place` is. Assumes nothing.
-use Prim.Native.Nat.{◌-◌, ◌<◌}
+use Prim.Native.Nat.{◌<◌}
 use native.Mathlib.Omega.{arith}
 use lib.ListN.{get_or}
 use borrow.Author.Count.{below_more}
@@ -14,9 +14,16 @@ returns-then-grid-place-gt1 c =
 
 pub loop-place-preserved : goal.loop-place-preserved
 loop-place-preserved c =
-    let grid = c.args.grid.now in
-    (below_more (λ q. 1 < get_or grid q 0 → ⊥) c.loop-place.place c.loop-place.invariant.0 (λ more. omega arith), omega arith)
+    let grid = c.args.grid.now in (
+      below_more (λ q. 1 < get_or grid q 0 → ⊥) c.loop-place.place c.loop-place.invariant.0 (λ more. omega arith),
+      omega arith,
+    )
 
 pub returns : goal.returns
 returns c =
-    record { within = c.loop-place.invariant.1; before = c.loop-place.invariant.0; here = λ below. absurd (omega arith) }
+    record {
+      within = c.loop-place.invariant.1;
+      before = c.loop-place.invariant.0;
+      here = λ below. absurd (omega
+          arith);
+    }

@@ -1,7 +1,6 @@
 -- `board::flip` turns every place round. The invariant: those below `place` are, the others are as they were.
 -- Assumes nothing.
 use mathlib.Core.Logic.{⊎_elim}
-use Prim.Native.Nat.{◌-◌}
 use native.Mathlib.Omega.{arith}
 use Rattle.board.proofs.Flips.{flip-none, flip-hit, flip-miss, flip-done}
 use Rattle.board.proofs.flip.Goals as goal

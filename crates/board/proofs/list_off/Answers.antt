@@ -1,7 +1,7 @@
 -- `board::list_off` lists what is not on. The invariant: the queue lists what is not on below `place`. Assumes nothing.
 use mathlib.Core.Path.{◌≡◌, refl, ap, ◌∙◌, subst}
 use mathlib.Core.Logic.{⊎_elim}
-use Prim.Native.Nat.{ℕ, ◌-◌}
+use Prim.Native.Nat.{ℕ}
 use native.Mathlib.Omega.{arith}
 use lib.ListN.{length, length-set}
 use Rattle.board.specs.Listing.{Listed}
@@ -22,7 +22,8 @@ loop-place-preserved c =
       omega arith,
       omega (arith, w.listed-is),
       ap length w.queue-is ∙ length-set queue c.loop-place.listed place ∙ c.loop-place.invariant.2,
-      rw (w.queue-is, w.listed-is) (listed-add grid queue so_far (on-no grid place w.if-grid-place-ne1.true) (omega arith)),
+      rw (w.queue-is, w.listed-is) (listed-add grid queue so_far (on-no grid place w.if-grid-place-ne1.true) (omega
+          arith)),
     ))
     (λ w. (
       omega arith,

@@ -7,7 +7,8 @@ use Rattle.board.proofs.list_off.Given as goal
 
 abbrev pub invariant-loop-place : goal.invariant-loop-place
 invariant-loop-place l =
-    (l.place ≤ length l.grid) × (l.listed ≤ l.place) × (length l.queue ≡ length l.initial.queue) × Listed l.grid l.queue l.listed l.place
+    (l.place ≤ length l.grid) × (l.listed ≤ l.place) × (length l.queue ≡ length l.initial.queue) × Listed l.grid
+    l.queue l.listed l.place
 
 abbrev pub decreases-loop-place : goal.decreases-loop-place
 decreases-loop-place l = length l.grid - l.place

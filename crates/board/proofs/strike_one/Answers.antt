@@ -17,8 +17,10 @@ bounds-queue-tail c =
 
 pub returns-then-grid-place-eq1 : goal.returns-then-grid-place-eq1
 returns-then-grid-place-eq1 c =
-    sym (strike-hit (entered (goal.at.returns-then-grid-place-eq1 c).Start) c.args.place (on-yes c.args.grid.now c.args.place c.if-grid-place-eq1.true))
+    sym (strike-hit (entered (goal.at.returns-then-grid-place-eq1 c).Start) c.args.place (on-yes c.args.grid.now
+    c.args.place c.if-grid-place-eq1.true))
 
 pub returns : goal.returns
 returns c =
-    sym (strike-miss (entered (goal.at.returns c).Start) c.args.place (on-no c.args.grid.now c.args.place c.if-grid-place-eq1.false))
+    sym (strike-miss (entered (goal.at.returns c).Start) c.args.place (on-no c.args.grid.now c.args.place
+    c.if-grid-place-eq1.false))

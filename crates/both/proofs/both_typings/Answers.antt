@@ -15,7 +15,8 @@ pub returns-then-large-grid_size : goal.returns-then-large-grid_size
 returns-then-large-grid_size c =
     let s = c.args in
     let l = lent-read _ _ _ _ _ _ c.read_lent-read.ensures c.in-Sheet.is in
-    both-large s.template.now s.script.now s.bookings.now s.desk (grids (goal.at.returns-then-large-grid_size c).After-read_lent-read)
+    both-large s.template.now s.script.now s.bookings.now s.desk (grids (goal.at.returns-then-large-grid_size
+    c).After-read_lent-read)
     (sheet l.booked.known) (lent-asked l) (λ e. omega (arith, c.grid_size.ensures))
 
 pub both_of-requires : goal.both_of-requires
@@ -26,7 +27,8 @@ both_of-requires c =
 pub returns-in-Refused : goal.returns-in-Refused
 returns-in-Refused c =
     let s = c.args in
-    both-refused s.template.now s.script.now s.bookings.now s.desk (grids (goal.at.returns-in-Refused c).After-read_lent-read) _ _
+    both-refused s.template.now s.script.now s.bookings.now s.desk (grids (goal.at.returns-in-Refused
+    c).After-read_lent-read) _ _
     (lent-refused _ _ _ _ _ _ c.read_lent-read.ensures c.in-Refused.is)
 
 pub returns-else-large-grid_size : goal.returns-else-large-grid_size
@@ -34,5 +36,6 @@ returns-else-large-grid_size c =
     let s = c.args in
     let l = lent-read _ _ _ _ _ _ c.read_lent-read.ensures c.in-Sheet.is in
     let k = l.booked.known in
-    both-done s.template.now s.script.now s.bookings.now s.desk (grids (goal.at.returns-else-large-grid_size c).After-read_lent-read) (sheet k)
+    both-done s.template.now s.script.now s.bookings.now s.desk (grids (goal.at.returns-else-large-grid_size
+    c).After-read_lent-read) (sheet k)
     (lent-asked l) _ _ (omega (arith, c.grid_size.ensures)) (c.both_of.ensures (sheet k) (asked k))

@@ -1,6 +1,6 @@
 -- `capi::copy` copies words from the start, as many as both slices have. Assumes nothing.
 use native.Mathlib.Omega.{arith}
-use Prim.Native.Nat.{◌-◌, ◌<◌}
+use Prim.Native.Nat.{◌<◌}
 use mathlib.Core.Path.{◌≡◌, ◌∙◌}
 use lib.ListN.{length, get_or, length-set}
 use Rattle.capi.proofs.Copies.{copied_next, words_copied, room-filled}

@@ -29,21 +29,26 @@ abbrev saying : In-Typed → Settled → BothSaid
 saying c small = record { largest = struck_said c.in-Typed.found.largest; smallest = settled_said small }
 
 found : (c : In-Typed) → Allowed (goal.at.In-Typed c).After-both_typings-answer (saying c c.in-Typed.found.smallest)
-found c = said-by (Allowed (goal.at.In-Typed c).After-both_typings-answer) both_said c.in-Typed.is c.both_typings-answer.ensures
+found c = said-by (Allowed (goal.at.In-Typed c).After-both_typings-answer) both_said c.in-Typed.is
+    c.both_typings-answer.ensures
 
 pub returns-in-Pairs : goal.returns-in-Pairs
 returns-in-Pairs c =
-    let says = said-by (Allowed (goal.at.returns-in-Pairs c).After-both_typings-answer) (saying (goal.at.returns-in-Pairs c).In-Typed) c.in-Pairs.is (found (goal.at.returns-in-Pairs c).In-Typed) in
+    let says = said-by (Allowed (goal.at.returns-in-Pairs c).After-both_typings-answer) (saying
+    (goal.at.returns-in-Pairs c).In-Typed) c.in-Pairs.is (found (goal.at.returns-in-Pairs c).In-Typed) in
     (says, (refl, (refl, (refl, tt))), (refl, (refl, (refl, tt))))
 
 pub returns-in-NotMet : goal.returns-in-NotMet
 returns-in-NotMet c =
-    let says = said-by (Allowed (goal.at.returns-in-NotMet c).After-both_typings-answer) (saying (goal.at.returns-in-NotMet c).In-Typed) c.in-NotMet.is (found (goal.at.returns-in-NotMet c).In-Typed) in
+    let says = said-by (Allowed (goal.at.returns-in-NotMet c).After-both_typings-answer) (saying
+    (goal.at.returns-in-NotMet c).In-Typed) c.in-NotMet.is (found (goal.at.returns-in-NotMet c).In-Typed) in
     (says, (refl, (refl, (refl, tt))), (refl, (refl, tt)))
 
 pub returns-in-Refused : goal.returns-in-Refused
 returns-in-Refused c =
-    let says = said-by (Allowed (goal.at.returns-in-Refused c).After-both_typings-answer) both_said c.in-Refused.is c.both_typings-answer.ensures in
+    let says = said-by (Allowed (goal.at.returns-in-Refused c).After-both_typings-answer) both_said c.in-Refused.is
+    c.both_typings-answer.ensures in
     let number = c.in-Refused.number in
     let place = c.in-Refused.place in
-    both-refused (Allowed (goal.at.returns-in-Refused c).After-both_typings-answer) number place (plain (goal.at.returns-in-Refused c).After-both_typings-answer number place says) says
+    both-refused (Allowed (goal.at.returns-in-Refused c).After-both_typings-answer) number place (plain
+    (goal.at.returns-in-Refused c).After-both_typings-answer number place says) says

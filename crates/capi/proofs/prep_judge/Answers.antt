@@ -23,17 +23,21 @@ plain a number place =
 
 pub returns-in-Accepted : goal.returns-in-Accepted
 returns-in-Accepted c =
-    let says = said-by (Allowed (goal.at.returns-in-Accepted c).After-judge-answer) judge_said c.in-Accepted.is c.judge-answer.ensures in
+    let says = said-by (Allowed (goal.at.returns-in-Accepted c).After-judge-answer) judge_said c.in-Accepted.is
+    c.judge-answer.ensures in
     tells-found (Allowed (goal.at.returns-in-Accepted c).After-judge-answer) _ says
 
 pub returns-in-NotMet : goal.returns-in-NotMet
 returns-in-NotMet c =
-    let says = said-by (Allowed (goal.at.returns-in-NotMet c).After-judge-answer) judge_said c.in-NotMet.is c.judge-answer.ensures in
+    let says = said-by (Allowed (goal.at.returns-in-NotMet c).After-judge-answer) judge_said c.in-NotMet.is
+    c.judge-answer.ensures in
     tells-paired (Allowed (goal.at.returns-in-NotMet c).After-judge-answer) 0 62 _ _ refl refl says
 
 pub returns-in-Refused : goal.returns-in-Refused
 returns-in-Refused c =
-    let says = said-by (Allowed (goal.at.returns-in-Refused c).After-judge-answer) judge_said c.in-Refused.is c.judge-answer.ensures in
+    let says = said-by (Allowed (goal.at.returns-in-Refused c).After-judge-answer) judge_said c.in-Refused.is
+    c.judge-answer.ensures in
     let number = c.in-Refused.number in
     let place = c.in-Refused.place in
-    tells-refused (Allowed (goal.at.returns-in-Refused c).After-judge-answer) 0 number place (plain (goal.at.returns-in-Refused c).After-judge-answer number place says) says
+    tells-refused (Allowed (goal.at.returns-in-Refused c).After-judge-answer) 0 number place (plain
+    (goal.at.returns-in-Refused c).After-judge-answer number place says) says

@@ -21,12 +21,15 @@ plain a number place =
 
 pub returns-in-Typed : goal.returns-in-Typed
 returns-in-Typed c =
-    let says = said-by (Allowed (goal.at.returns-in-Typed c).After-largest-answer) largest_said c.in-Typed.is c.largest-answer.ensures in
+    let says = said-by (Allowed (goal.at.returns-in-Typed c).After-largest-answer) largest_said c.in-Typed.is
+    c.largest-answer.ensures in
     tells-found (Allowed (goal.at.returns-in-Typed c).After-largest-answer) _ says
 
 pub returns-in-Refused : goal.returns-in-Refused
 returns-in-Refused c =
-    let says = said-by (Allowed (goal.at.returns-in-Refused c).After-largest-answer) largest_said c.in-Refused.is c.largest-answer.ensures in
+    let says = said-by (Allowed (goal.at.returns-in-Refused c).After-largest-answer) largest_said c.in-Refused.is
+    c.largest-answer.ensures in
     let number = c.in-Refused.number in
     let place = c.in-Refused.place in
-    tells-refused (Allowed (goal.at.returns-in-Refused c).After-largest-answer) 3 number place (plain (goal.at.returns-in-Refused c).After-largest-answer number place says) says
+    tells-refused (Allowed (goal.at.returns-in-Refused c).After-largest-answer) 3 number place (plain
+    (goal.at.returns-in-Refused c).After-largest-answer number place says) says

@@ -9,4 +9,4 @@ use Rattle.capi.proofs.prep_links_of_card.Goals as goal
 pub returns : goal.returns
 returns c =
     let words = c.links_of_card-part.ensures.list in
-    record { count = ap length words; words =  c.copy.ensures ∙ ap (λ (l : List ℕ). copied l c.args.links.now) words; }
+    record { count = ap length words; words = c.copy.ensures ∙ ap (λ (l : List ℕ). copied l c.args.links.now) words }

@@ -22,20 +22,26 @@ plain a number place =
     a.args.desk a.args.grid.now a.smallest-answer.new.grid
 
 found : (c : In-Settled) → Allowed (goal.at.In-Settled c).After-smallest-answer (settled_said c.in-Settled.found)
-found c = said-by (Allowed (goal.at.In-Settled c).After-smallest-answer) smallest_said c.in-Settled.is c.smallest-answer.ensures
+found c = said-by (Allowed (goal.at.In-Settled c).After-smallest-answer) smallest_said c.in-Settled.is
+    c.smallest-answer.ensures
 
 pub returns-in-Pairs : goal.returns-in-Pairs
 returns-in-Pairs c =
-    tells-found (Allowed (goal.at.returns-in-Pairs c).After-smallest-answer) _ (said-by (Allowed (goal.at.returns-in-Pairs c).After-smallest-answer) settled_said c.in-Pairs.is (found (goal.at.returns-in-Pairs c).In-Settled))
+    tells-found (Allowed (goal.at.returns-in-Pairs c).After-smallest-answer) _ (said-by (Allowed
+    (goal.at.returns-in-Pairs c).After-smallest-answer) settled_said c.in-Pairs.is (found
+    (goal.at.returns-in-Pairs c).In-Settled))
 
 pub returns-in-NotMet : goal.returns-in-NotMet
 returns-in-NotMet c =
     tells-paired (Allowed (goal.at.returns-in-NotMet c).After-smallest-answer) 1 50 _ _ refl refl
-    (said-by (Allowed (goal.at.returns-in-NotMet c).After-smallest-answer) settled_said c.in-NotMet.is (found (goal.at.returns-in-NotMet c).In-Settled))
+    (said-by (Allowed (goal.at.returns-in-NotMet c).After-smallest-answer) settled_said c.in-NotMet.is (found
+    (goal.at.returns-in-NotMet c).In-Settled))
 
 pub returns-in-Refused : goal.returns-in-Refused
 returns-in-Refused c =
-    let says = said-by (Allowed (goal.at.returns-in-Refused c).After-smallest-answer) smallest_said c.in-Refused.is c.smallest-answer.ensures in
+    let says = said-by (Allowed (goal.at.returns-in-Refused c).After-smallest-answer) smallest_said c.in-Refused.is
+    c.smallest-answer.ensures in
     let number = c.in-Refused.number in
     let place = c.in-Refused.place in
-    tells-refused (Allowed (goal.at.returns-in-Refused c).After-smallest-answer) 1 number place (plain (goal.at.returns-in-Refused c).After-smallest-answer number place says) says
+    tells-refused (Allowed (goal.at.returns-in-Refused c).After-smallest-answer) 1 number place (plain
+    (goal.at.returns-in-Refused c).After-smallest-answer number place says) says

@@ -22,12 +22,15 @@ plain a number place =
 
 pub returns-in-Written : goal.returns-in-Written
 returns-in-Written c =
-    let says = said-by (Allowed (goal.at.returns-in-Written c).After-tidy_bookings-answer) write_said c.in-Written.is c.tidy_bookings-answer.ensures in
+    let says = said-by (Allowed (goal.at.returns-in-Written c).After-tidy_bookings-answer) write_said
+    c.in-Written.is c.tidy_bookings-answer.ensures in
     tells-found (Allowed (goal.at.returns-in-Written c).After-tidy_bookings-answer) _ says
 
 pub returns-in-Refused : goal.returns-in-Refused
 returns-in-Refused c =
-    let says = said-by (Allowed (goal.at.returns-in-Refused c).After-tidy_bookings-answer) write_said c.in-Refused.is c.tidy_bookings-answer.ensures in
+    let says = said-by (Allowed (goal.at.returns-in-Refused c).After-tidy_bookings-answer) write_said
+    c.in-Refused.is c.tidy_bookings-answer.ensures in
     let number = c.in-Refused.number in
     let place = c.in-Refused.place in
-    tells-refused (Allowed (goal.at.returns-in-Refused c).After-tidy_bookings-answer) 1 number place (plain (goal.at.returns-in-Refused c).After-tidy_bookings-answer number place says) says
+    tells-refused (Allowed (goal.at.returns-in-Refused c).After-tidy_bookings-answer) 1 number place (plain
+    (goal.at.returns-in-Refused c).After-tidy_bookings-answer number place says) says

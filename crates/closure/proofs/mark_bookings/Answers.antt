@@ -2,7 +2,7 @@
 -- off, and no others. Assumes nothing.
 use mathlib.Core.Path.{◌∙◌, ◌≡◌, ap, refl, subst}
 use mathlib.Core.Logic.{⊎_elim}
-use Prim.Native.Nat.{◌*◌, ◌+◌, ◌-◌, ◌<◌, ℕ}
+use Prim.Native.Nat.{◌*◌, ◌+◌, ◌<◌, ℕ}
 use native.Mathlib.Omega.{arith}
 use lib.ListN.{length, set, length-set}
 use Rattle.words.proofs.Places.{place_in}
@@ -71,8 +71,13 @@ marked-here a place ours is =
     let bookings = a.args.bookings.now in
     let (card, shape) = a.requires.booked-in i (omega arith) in
     let low : place < length a.loop-i.grid =
-        omega (arith, is, place_in a.args.cards a.args.shapes (card_at bookings i) (shape_at bookings i) card shape,
-        a.loop-i.invariant.1, a.requires.full) in (
+    omega (
+      arith,
+      is,
+      place_in a.args.cards a.args.shapes (card_at bookings i) (shape_at bookings i) card shape,
+      a.loop-i.invariant.1,
+      a.requires.full,
+    ) in (
       length-set a.loop-i.grid place 0 ∙ a.loop-i.invariant.1,
       marked_more place a.loop-i.invariant.2 ours is low,
     )
@@ -85,8 +90,8 @@ loop-i-preserved c =
     (λ w.
     let ours : desk_at bookings c.loop-i.i ≡ c.args.desk = omega (arith, c.desk_at.ensures, w.if-desk_at-desk.true) in
     let is = w.pair_place.ensures
-        ∙ ap (λ (n : ℕ). n * c.args.shapes + w.shape_at-shape.result.0) w.card_at-card.ensures
-        ∙ ap (λ (t : ℕ). card_at bookings c.loop-i.i * c.args.shapes + t) w.shape_at-shape.ensures in
+    ∙ ap (λ (n : ℕ). n * c.args.shapes + w.shape_at-shape.result.0) w.card_at-card.ensures
+    ∙ ap (λ (t : ℕ). card_at bookings c.loop-i.i * c.args.shapes + t) w.shape_at-shape.ensures in
     let (long, marked) = marked-here a w.pair_place.result ours is in
     rw w.grid-is (omega arith, long, marked))
     (λ w. rw w.grid-is (

@@ -1,7 +1,6 @@
 -- `first_over` meets its contract. The invariant: the first count over 8,192 is where it is from here on. The measure
 -- is the counts left. Assumes nothing.
 use native.Mathlib.Omega.{arith}
-use Prim.Native.Nat.{◌-◌}
 use Rattle.counts.proofs.Counts.{over-here, over-next, over-end}
 use Rattle.counts.proofs.first_over.Goals as goal
 

@@ -42,7 +42,8 @@ pub returns-then-others_zero : goal.returns-then-others_zero
 returns-then-others_zero c =
     fits-closed (count c.args.counts.now) c.args.kinds _ _ _
     (sym c.open_at.ensures ∙ c.if-open_at.false) (c.others_zero.ensures _ c.requires.row_of) _
-    c.if-others_zero.true (c.part_fits-then-others_zero.ensures ∙ by-list (goal.at.returns-then-others_zero c).Start (c.args.at + 1))
+    c.if-others_zero.true (c.part_fits-then-others_zero.ensures ∙ by-list (goal.at.returns-then-others_zero
+    c).Start (c.args.at + 1))
 
 pub returns : goal.returns
 returns c =

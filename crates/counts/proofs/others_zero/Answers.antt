@@ -1,6 +1,6 @@
 -- `others_zero` meets its contract. The invariant: the kinds passed, the last first, are named or count 0. The measure
 -- is the kinds left. Assumes nothing.
-use borrow.Author.Tests.{eqb-true, eqb-false}
+use borrow.Author.Tests.{eqb-true}
 use lib.ListN.{get_or}
 use native.Mathlib.Omega.{arith}
 use native.Mathlib.Nat.{eq-or-lt_of_le}

@@ -1,6 +1,6 @@
 -- `others_zero` meets its contract. The invariant: the kinds passed, the last first, are named or count 0. The measure
 -- is the kinds left. Assumes nothing.
-use Prim.Native.Nat.{ℕ, ◌-◌, ◌≤◌, ◌<◌}
+use Prim.Native.Nat.{ℕ, ◌≤◌, ◌<◌}
 use mathlib.Core.List.{List}
 use Rattle.bags.specs.Part.{Part}
 use Rattle.bags.specs.Bag.{count}

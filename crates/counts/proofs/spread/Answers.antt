@@ -1,7 +1,6 @@
 -- `spread` meets its contract. The invariant is `Spreading` of proofs/Spreading, the measure the kinds left.
 -- Assumes nothing.
 use native.Mathlib.Omega.{arith}
-use Prim.Native.Nat.{◌-◌}
 use lib.ListN.{length-set}
 use Rattle.counts.proofs.Spreading.{spreading-start, spreading-next, spreading-end}
 use Rattle.counts.proofs.spread.Goals as goal

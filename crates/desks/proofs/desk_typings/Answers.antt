@@ -32,14 +32,18 @@ returns-then-television-size c =
     let s = c.args in
     let l = booked (goal.at.returns-then-television-size c).In-Sheet in
     desks-television s.template.now s.script.now s.bookings.now (sheet l.known) (listed-asked l)
-    (grids (goal.at.returns-then-television-size c).After-read_booked-read) (omega (arith, c.grid_size-size.ensures)) (λ e. omega (arith, c.grid_size-size.ensures))
+    (grids (goal.at.returns-then-television-size c).After-read_booked-read) (omega (
+      arith,
+      c.grid_size-size.ensures,
+    )) (λ e. omega (arith, c.grid_size-size.ensures))
 
 pub returns-then-large-size : goal.returns-then-large-size
 returns-then-large-size c =
     let s = c.args in
     let l = booked (goal.at.returns-then-large-size c).In-Sheet in
     desks-large s.template.now s.script.now s.bookings.now (sheet l.known) (listed-asked l)
-    (grids (goal.at.returns-then-large-size c).After-read_booked-read) (omega (arith, c.grid_size-size.ensures)) (omega (arith, c.grid_size-size.ensures))
+    (grids (goal.at.returns-then-large-size c).After-read_booked-read) (omega (arith, c.grid_size-size.ensures))
+    (omega (arith, c.grid_size-size.ensures))
     (λ e. omega (arith, c.grid_size-size.ensures))
 
 pub desks_of-requires : goal.desks_of-requires
@@ -54,7 +58,8 @@ desks_of-requires c =
 pub returns-in-Refused : goal.returns-in-Refused
 returns-in-Refused c =
     let s = c.args in
-    desks-refused s.template.now s.script.now s.bookings.now (grids (goal.at.returns-in-Refused c).After-read_booked-read) _ _
+    desks-refused s.template.now s.script.now s.bookings.now (grids (goal.at.returns-in-Refused
+    c).After-read_booked-read) _ _
     (booked-refused _ _ _ _ c.read_booked-read.ensures c.in-Refused.is)
 
 pub returns-else-large-size : goal.returns-else-large-size
@@ -63,5 +68,9 @@ returns-else-large-size c =
     let l = booked (goal.at.returns-else-large-size c).In-Sheet in
     let whole = c.grid_size-size.ensures in
     desks-done s.template.now s.script.now s.bookings.now (sheet l.known) (listed-asked l)
-    (grids (goal.at.returns-else-large-size c).After-read_booked-read) (omega (arith, whole, c.if-radio-size.false)) (omega (arith, whole, c.if-television-size.false)) _ _
+    (grids (goal.at.returns-else-large-size c).After-read_booked-read) (omega (
+      arith,
+      whole,
+      c.if-radio-size.false,
+    )) (omega (arith, whole, c.if-television-size.false)) _ _
     (omega (arith, whole, c.if-large-size.false)) (c.desks_of.ensures (sheet l.known) (asked l.known))

@@ -1,17 +1,14 @@
 -- The proof of the cycle of calls {part, run}. The measure is the words left, times more than a count of parts can be,
 -- and the count of a run. The invariant of `run`: so many first parts of it are evaluated.
 -- Assumes nothing.
-use Prim.Native.Nat.{ℕ, ◌≤◌, ◌-◌}
+use Prim.Native.Nat.{ℕ}
 use mathlib.Core.Path.{refl}
-use mathlib.Core.Logic.{⊎_elim}
-use mathlib.Core.List.{List}
 use native.Mathlib.Omega.{arith}
 use Rattle.links.specs.Runs.{amount}
-use Rattle.joins.specs.declared.Eval.{Eval}
 use Rattle.joins.specs.Evaluation.{Begins}
 use Rattle.evaluator.proofs.Steps.{part-deep, part-past, part_low, part-middle, part-high, part-group, part-link}
 use Rattle.evaluator.proofs.Steps.{wrapped-part}
-use Prim.Native.Nat.{ℕ, ◌-◌}
+use Prim.Native.Nat.{ℕ}
 use mathlib.Core.Path.{◌≡◌, subst}
 use Rattle.joins.proofs.Beginnings.{begins-none, begins-more, begins-all, begins-small}
 use Rattle.evaluator.proofs.Evaluations.{part_small}
@@ -33,7 +30,8 @@ part-returns-then-levels-eq0 t c =
 pub part-returns-then-words-core : goal.part-returns-then-words-core
 part-returns-then-words-core t c =
     wrapped-part _ _ _ _ _ _ _ _ c.front_of-front.ensures refl
-    (part-past _ _ _ _ _ (omega arith) c.if-words-core.true (c.nothing-then-words-core.ensures _ _)) c.wrapped-then-words-core.ensures
+    (part-past _ _ _ _ _ (omega arith) c.if-words-core.true (c.nothing-then-words-core.ensures _ _))
+    c.wrapped-then-words-core.ensures
 
 pub part-run-inner-requires : goal.part-run-inner-requires
 part-run-inner-requires t c =
@@ -63,12 +61,13 @@ part-returns-in-0-to-15 t c =
     let v = c.nothing-in-0-to-15.ensures _ _ in
     wrapped-part _ _ _ _ _ _ _ _ front refl
     (elim c.in-0-to-15-1.branch [
-      part-then-code-lt16 w ↦ part_low _ _ _ _ _ (omega arith) (omega arith)
+      | part-then-code-lt16 w ↦ part_low _ _ _ _ _ (omega arith) (omega arith)
           (front.ends (omega (arith, front.order, front.few)) (omega arith)) (omega arith) v
       | part-else-code-lt16+else-code-lt18+then-code-lt256 w ↦
           part-middle _ _ _ _ _ (omega arith) (omega arith) (omega arith) (omega arith) v
       | part-else-code-lt16+else-code-lt18+else-code-lt256+else-code-lt384 w ↦
-          part-high _ _ _ _ _ (omega arith) (omega arith) (omega arith) v ])
+          part-high _ _ _ _ _ (omega arith) (omega arith) (omega arith) v
+    ])
     c.wrapped-in-0-to-15.ensures
 
 pub run-loop-done-init : goal.run-loop-done-init
@@ -130,4 +129,3 @@ run-returns t c =
     begins-all _ _ _ _ _ _ _
     (subst (λ (n : ℕ). Begins (amount a.links.now a.listed.now) a.words.now a.left a.at a.code n
     c.loop-done.whole) all c.loop-done.invariant.begun)
-

@@ -1,6 +1,6 @@
 -- `fits::all_named` meets its contract. The invariant: the kinds of the links so far have entries. The measure is the
 -- count of words left. Assumes nothing.
-use Prim.Native.Nat.{ℕ, ◌-◌}
+use Prim.Native.Nat.{ℕ}
 use mathlib.Core.Path.{◌∙◌, ap, sym}
 use native.Mathlib.Omega.{arith}
 use lib.ListN.{get_or}

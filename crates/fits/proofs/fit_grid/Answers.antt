@@ -1,6 +1,6 @@
 -- `fits::fit_grid` meets its contract. The invariant: the loop is at the shape's place, and the shapes before it have
 -- their columns. The measure is the count of shapes left. Assumes nothing.
-use Prim.Native.Nat.{◌-◌, ◌<◌}
+use Prim.Native.Nat.{◌<◌}
 use mathlib.Core.Path.{refl}
 use native.Mathlib.Omega.{arith}
 use Rattle.sheet.specs.Opened.{template_as}
@@ -58,7 +58,8 @@ fit_shape-requires c =
       leaving = ready.leaving;
       arriving = ready.arriving;
       alike = twins-found _ _ _ c.args.e opened ready.leaving _ cards _ c.find_twins.ensures.each;
-      named = row_named _ _ _ c.args.e ready.known _ (below (goal.at.fit_shape-requires c).In-loop-t) _ c.loop-t.invariant.place;
+      named = row_named _ _ _ c.args.e ready.known _ (below (goal.at.fit_shape-requires c).In-loop-t) _
+          c.loop-t.invariant.place;
       size = c.loop-t.invariant.size;
     }
 
@@ -76,7 +77,8 @@ overflow_add-at-in-loop-t c = let i = shape_of (goal.at.overflow_add-at-in-loop-
 
 pub loop-t-preserved : goal.loop-t-preserved
 loop-t-preserved c =
-    shapes-next _ _ c.args.e _ _ _ _ c.loop-t.invariant (below (goal.at.loop-t-preserved c).In-loop-t) c.wide-in-loop-t.ensures.same _
+    shapes-next _ _ c.args.e _ _ _ _ c.loop-t.invariant (below (goal.at.loop-t-preserved c).In-loop-t)
+    c.wide-in-loop-t.ensures.same _
     c.fit_shape.ensures
 
 pub returns : goal.returns

@@ -1,13 +1,12 @@
 -- `fits::fit_shape` meets its contract. The invariant: the cards before the loop's have their bytes under the shape,
 -- a twin's among them. The measure is the count of cards left. Assumes nothing.
-use Prim.Native.Nat.{ℕ, ◌+◌, ◌-◌, ◌*◌, ◌≤◌, ◌<◌}
+use Prim.Native.Nat.{ℕ, ◌+◌, ◌*◌, ◌≤◌, ◌<◌}
 use mathlib.Core.Path.{refl, sym, ap, subst, ◌∙◌}
 use mathlib.Core.Logic.{⊎_elim}
 use lib.ListN.{length, get_or}
 use Rattle.words.specs.Limits.{max_shapes}
 use Rattle.words.specs.Sizes.{max_grid}
 use native.Mathlib.Omega.{arith}
-use Rattle.words.proofs.Bools.{false_of_not}
 use Rattle.twins.specs.Twins.{TwinOf}
 use Rattle.sheet.specs.Opened.{template_as}
 use Rattle.fits.proofs.CardCounts.{pair-byte}
@@ -119,13 +118,16 @@ pub loop-n-preserved : goal.loop-n-preserved
 loop-n-preserved c =
     let place = ap (λ (x : ℕ). c.loop-n.n * x + c.args.t) c.wide-shapes.ensures.same in
     ⊎_elim
-    (λ w. rw w.grid-is (cards-next _ _ c.args.e _ _ _ _ _ _ c.loop-n.invariant (below (goal.at.loop-n-preserved c).In-loop-n) c.requires.named.below place
+    (λ w. rw w.grid-is (cards-next _ _ c.args.e _ _ _ _ _ _ c.loop-n.invariant (below (goal.at.loop-n-preserved
+    c).In-loop-n) c.requires.named.below place
     (λ parts r.
     ap (λ (x : ℕ). get_or c.loop-n.grid (c.wide-twin.result * x + c.args.t) 0) c.wide-shapes.ensures.same
     ∙ c.loop-n.invariant.each parts r _ w.if-twin-n.true
-    ∙ twin-byte _ _ c.args.e c.requires.opened _ _ (twin (goal.at.loop-n-preserved c).After-wide-twin) _ _ _ c.requires.named _
+    ∙ twin-byte _ _ c.args.e c.requires.opened _ _ (twin (goal.at.loop-n-preserved c).After-wide-twin) _ _ _
+    c.requires.named _
     c.looks_back-back.ensures w.if-not-back.true parts r)))
-    (λ w. rw w.grid-is (cards-next _ _ c.args.e _ _ _ _ _ _ c.loop-n.invariant (below (goal.at.loop-n-preserved c).In-loop-n) c.requires.named.below place
+    (λ w. rw w.grid-is (cards-next _ _ c.args.e _ _ _ _ _ _ c.loop-n.invariant (below (goal.at.loop-n-preserved
+    c).In-loop-n) c.requires.named.below place
     (λ parts r. pair-byte _ _ c.args.e _ _ _ _ _ c.plan_shape-plan.ensures
     c.requires.named.place c.requires.named.below _ w.pair_fits-fit.ensures _ w.bit.ensures parts r)))
     c.if-twin-n.branch-raw

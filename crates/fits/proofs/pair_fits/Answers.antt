@@ -20,7 +20,10 @@ use Rattle.fits.proofs.pair_fits.Goals.{After-leaving_links-own, Start}
 leaving : (s : Start) →
     LeavingOf s.args.script.now s.args.starts.now (s.args.n + 1) s.args.e.links
 leaving s =
-    leaving-fewer (leaving-read _ _ s.args.e s.requires.opened _ s.requires.leaving) _ (omega (arith, s.requires.below))
+    leaving-fewer (leaving-read _ _ s.args.e s.requires.opened _ s.requires.leaving) _ (omega (
+      arith,
+      s.requires.below,
+    ))
 
 own-words : (a : After-leaving_links-own) → let s = a.args in
     a.leaving_links-own.result.now ≡ card_words s.script.now s.n s.e.links

@@ -58,9 +58,11 @@ core_place-core-requires c = (omega (arith, (part-core c).standing.ends), end-in
 pub survey_part-found-requires : goal.survey_part-found-requires
 survey_part-found-requires c =
     let found = c.core_place-core.ensures in
-    let (left, level, core) = core-below _ _ (end-in (goal.at.survey_part-found-requires c).After-part_at-start) _ _ (part-core (goal.at.survey_part-found-requires c).After-part_at-start) found in
+    let (left, level, core) = core-below _ _ (end-in (goal.at.survey_part-found-requires c).After-part_at-start) _
+    _ (part-core (goal.at.survey_part-found-requires c).After-part_at-start) found in
     let near = part-near c.args.template.now c.args.at in
-    survey-asked _ _ (end-in (goal.at.survey_part-found-requires c).After-part_at-start) left _ _ core (omega (arith, near, found.wrap.order, c.part_at-start.ensures))
+    survey-asked _ _ (end-in (goal.at.survey_part-found-requires c).After-part_at-start) left _ _ core (omega
+    (arith, near, found.wrap.order, c.part_at-start.ensures))
     (shape_of (goal.at.survey_part-found-requires c).Start).short c.requires.blank
 
 pub returns-in-Flat : goal.returns-in-Flat
@@ -69,7 +71,8 @@ returns-in-Flat c =
     record {
       is_open = c.open_at-opened.ensures;
       start = c.part_at-start.ensures;
-      flat = λ y. flat-plan _ _ (end-in (goal.at.returns-in-Flat c).After-part_at-start) _ _ (part-core (goal.at.returns-in-Flat c).After-part_at-start) c.core_place-core.ensures
+      flat = λ y. flat-plan _ _ (end-in (goal.at.returns-in-Flat c).After-part_at-start) _ _ (part-core
+          (goal.at.returns-in-Flat c).After-part_at-start) c.core_place-core.ensures
           (λ p standing. subst (SurveyedAs c.args.template.now p _) c.in-Flat.is
           (surveyed p standing));
     }

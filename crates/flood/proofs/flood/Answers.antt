@@ -1,6 +1,6 @@
 -- `flood::flood` leaves the closure of what was queued. Assumes nothing.
 use mathlib.Core.Path.{subst, sym, ◌∙◌}
-use Prim.Native.Nat.{ℕ, ◌<◌, ◌≤◌, ◌*◌, ◌-◌}
+use Prim.Native.Nat.{ℕ, ◌<◌, ◌≤◌, ◌*◌}
 use native.Mathlib.Omega.{arith}
 use lib.ListN.{length, get_or}
 use Rattle.words.specs.Sizes.{max_grid}
@@ -35,24 +35,42 @@ pub reciprocal-factor-requires : goal.reciprocal-factor-requires
 reciprocal-factor-requires c = let ready = c.requires.links.ready in (ready.one-shape, ready.few-shapes)
 
 pub loop-head-init : goal.loop-head-init
-loop-head-init c =
-    (
-      c.requires.room,
-      omega arith,
-      λ fits.
-          flood-start c.args.grid.now c.args.queue.now c.args.booked c.requires.full c.requires.listed,
-    )
+loop-head-init c = (
+  c.requires.room,
+  omega arith,
+  λ fits.
+      flood-start c.args.grid.now c.args.queue.now c.args.booked c.requires.full c.requires.listed,
+)
 
 pub offset_bounds-queue-head : goal.offset_bounds-queue-head
-offset_bounds-queue-head c = omega (arith, c.loop-head-test.true, flood-tail (Now (goal.at.offset_bounds-queue-head c).At-loop-head), few-pairs (goal.at.offset_bounds-queue-head c).At-loop-head)
+offset_bounds-queue-head c = omega (
+  arith,
+  c.loop-head-test.true,
+  flood-tail (Now (goal.at.offset_bounds-queue-head
+      c).At-loop-head),
+  few-pairs (goal.at.offset_bounds-queue-head c).At-loop-head,
+)
 
 pub bounds-queue-head : goal.bounds-queue-head
 bounds-queue-head c =
-    omega (arith, c.loop-head-test.true, flood-tail (Now (goal.at.bounds-queue-head c).At-loop-head), (Now (goal.at.bounds-queue-head c).At-loop-head).space, room_of (goal.at.bounds-queue-head c).At-loop-head)
+    omega (
+      arith,
+      c.loop-head-test.true,
+      flood-tail (Now (goal.at.bounds-queue-head c).At-loop-head),
+      (Now
+          (goal.at.bounds-queue-head c).At-loop-head).space,
+      room_of (goal.at.bounds-queue-head c).At-loop-head,
+    )
 
 pub overflow_add-head : goal.overflow_add-head
 overflow_add-head c =
-    omega (arith, c.loop-head-test.true, flood-tail (Now (goal.at.overflow_add-head c).At-loop-head), few-pairs (goal.at.overflow_add-head c).At-loop-head)
+    omega (
+      arith,
+      c.loop-head-test.true,
+      flood-tail (Now (goal.at.overflow_add-head c).At-loop-head),
+      few-pairs
+          (goal.at.overflow_add-head c).At-loop-head,
+    )
 
 pub led_card-n-requires : goal.led_card-n-requires
 led_card-n-requires c =
@@ -64,14 +82,25 @@ follow_pair-tail-requires c =
     record {
       links = c.requires.links;
       card = c.led_card-n.ensures;
-      on-board = omega (arith, read-in (goal.at.follow_pair-tail-requires c).After-wide-q, (Now (goal.at.follow_pair-tail-requires c).At-loop-head).full);
+      on-board = omega (
+        arith,
+        read-in (goal.at.follow_pair-tail-requires c).After-wide-q,
+        (Now
+            (goal.at.follow_pair-tail-requires c).At-loop-head).full,
+      );
       full = (Now (goal.at.follow_pair-tail-requires c).At-loop-head).full;
-      room = flood-room (Now (goal.at.follow_pair-tail-requires c).At-loop-head) (room_of (goal.at.follow_pair-tail-requires c).At-loop-head);
+      room = flood-room (Now (goal.at.follow_pair-tail-requires c).At-loop-head) (room_of
+          (goal.at.follow_pair-tail-requires c).At-loop-head);
     }
 
 pub overflow_add-head-in-loop-head : goal.overflow_add-head-in-loop-head
 overflow_add-head-in-loop-head c =
-    omega (arith, c.loop-head-test.true, flood-tail (Now (goal.at.overflow_add-head-in-loop-head c).At-loop-head), few-pairs (goal.at.overflow_add-head-in-loop-head c).At-loop-head)
+    omega (
+      arith,
+      c.loop-head-test.true,
+      flood-tail (Now (goal.at.overflow_add-head-in-loop-head c).At-loop-head),
+      few-pairs (goal.at.overflow_add-head-in-loop-head c).At-loop-head,
+    )
 
 pub loop-head-smaller : goal.loop-head-smaller
 loop-head-smaller c =
@@ -86,7 +115,8 @@ loop-head-preserved c =
     let NeededBy = Needs c.args.script.now c.args.names.now c.args.shapes in (
       c.loop-head.invariant.0,
       card-last ready (read-in (goal.at.loop-head-preserved c).After-wide-q) c.led_card-n.ensures,
-      λ fits. flood-turn (c.loop-head.invariant.2 fits) (room_of (goal.at.loop-head-preserved c).At-loop-head) c.loop-head-test.true
+      λ fits. flood-turn (c.loop-head.invariant.2 fits) (room_of (goal.at.loop-head-preserved c).At-loop-head)
+          c.loop-head-test.true
           (λ p d. (needs-in ready q p d, d)) (λ p d. d)
           (subst (λ (x : ℕ). Swept (NeededBy x) w v) c.wide-q.ensures.same c.follow_pair-tail.ensures),
     )

@@ -11,7 +11,8 @@ abbrev pub invariant-loop-head : goal.invariant-loop-head
 invariant-loop-head l =
     (length l.initial.grid ≤ length l.initial.queue) × (l.last ≤ get_or l.script 0 0 - 1)
     × ((fits : List ℕ)
-    → Flooding (board_of l.script l.names l.shapes fits) (Queued (entry l.initial.queue) l.booked) (length l.initial.queue)
+    → Flooding (board_of l.script l.names l.shapes fits) (Queued (entry l.initial.queue) l.booked) (length
+    l.initial.queue)
     (work l.grid l.queue l.tail) l.head)
 
 abbrev pub decreases-loop-head : goal.decreases-loop-head

@@ -13,7 +13,8 @@ use Rattle.walks.specs.Entries.{EntryGood, LedGood}
 use Rattle.walks.proofs.Needs.{from-word, kind-word}
 use Rattle.walks.proofs.Walks.{walk_start, walk-in, walk-less, walk-next, walk-done, arriving-swept}
 use Rattle.flood.proofs.follow_arriving.Goals as goal
-use Rattle.flood.proofs.follow_arriving.Goals.{After-wide-at-in-loop-at, After-wide-from, After-wide-kind, In-loop-at, Start}
+use Rattle.flood.proofs.follow_arriving.Goals.{After-wide-at-in-loop-at, After-wide-from, After-wide-kind, In-loop-at}
+use Rattle.flood.proofs.follow_arriving.Goals.{Start}
 
 -- what a link makes good
 abbrev Good : Start → ℕ → ℕ → Type 0
@@ -37,7 +38,8 @@ kind-is a =
     a.wide-kind.ensures.same ∙ kind-word a.args.script.now (a.loop-at.at - 1)
 
 -- so what the entry read names is what the link leads back to
-led : (a : After-wide-kind) → (p : ℕ) → EntryGood (get_or a.args.row.now a.wide-kind.result 0) (a.wide-from.result * a.args.shapes) p
+led : (a : After-wide-kind) → (p : ℕ) → EntryGood (get_or a.args.row.now a.wide-kind.result 0) (a.wide-from.result
+    * a.args.shapes) p
     → Good (goal.at.After-wide-kind a).Start (a.loop-at.at - 1) p
 led a p g =
     subst₂ (λ (k base : ℕ). EntryGood (get_or a.args.row.now k 0) base p) (kind-is a)
@@ -47,7 +49,8 @@ led a p g =
 next-is : (c : After-wide-at-in-loop-at) → let to = to_at c.args.script.now in
     c.wide-at-in-loop-at.result ≡ last_at to (to (c.loop-at.at - 1)) (c.loop-at.at - 1)
 next-is c =
-    c.wide-at-in-loop-at.ensures.same ∙ c.requires.arrivals.chained.nexts (c.loop-at.at - 1) (link-in (goal.at.After-wide-at-in-loop-at c).In-loop-at)
+    c.wide-at-in-loop-at.ensures.same ∙ c.requires.arrivals.chained.nexts (c.loop-at.at - 1) (link-in
+    (goal.at.After-wide-at-in-loop-at c).In-loop-at)
 
 pub loop-at-init : goal.loop-at-init
 loop-at-init c =
@@ -67,25 +70,48 @@ pub bounds-script-i : goal.bounds-script-i
 bounds-script-i c = omega (arith, words-in (goal.at.bounds-script-i c).In-loop-at)
 
 pub overflow_mul-i-in-loop-at : goal.overflow_mul-i-in-loop-at
-overflow_mul-i-in-loop-at c = omega (arith, link-in (goal.at.overflow_mul-i-in-loop-at c).In-loop-at, c.requires.row_in.few-links)
+overflow_mul-i-in-loop-at c = omega (
+  arith,
+  link-in (goal.at.overflow_mul-i-in-loop-at c).In-loop-at,
+  c.requires.row_in.few-links,
+)
 
 pub overflow_add-i-in-loop-at : goal.overflow_add-i-in-loop-at
-overflow_add-i-in-loop-at c = omega (arith, link-in (goal.at.overflow_add-i-in-loop-at c).In-loop-at, c.requires.row_in.few-links)
+overflow_add-i-in-loop-at c = omega (
+  arith,
+  link-in (goal.at.overflow_add-i-in-loop-at c).In-loop-at,
+  c.requires.row_in.few-links,
+)
 
 pub offset_bounds-script-i-in-loop-at : goal.offset_bounds-script-i-in-loop-at
-offset_bounds-script-i-in-loop-at c = omega (arith, link-in (goal.at.offset_bounds-script-i-in-loop-at c).In-loop-at, c.requires.row_in.few-links)
+offset_bounds-script-i-in-loop-at c = omega (
+  arith,
+  link-in (goal.at.offset_bounds-script-i-in-loop-at
+      c).In-loop-at,
+  c.requires.row_in.few-links,
+)
 
 pub bounds-script-i-in-loop-at : goal.bounds-script-i-in-loop-at
 bounds-script-i-in-loop-at c = omega (arith, words-in (goal.at.bounds-script-i-in-loop-at c).In-loop-at)
 
 pub bounds-row-kind : goal.bounds-row-kind
 bounds-row-kind c =
-    omega (arith, kind-is (goal.at.bounds-row-kind c).After-wide-kind, c.requires.row_in.kinds (c.loop-at.at - 1) (link-in (goal.at.bounds-row-kind c).In-loop-at))
+    omega (
+      arith,
+      kind-is (goal.at.bounds-row-kind c).After-wide-kind,
+      c.requires.row_in.kinds (c.loop-at.at - 1)
+          (link-in (goal.at.bounds-row-kind c).In-loop-at),
+    )
 
 pub overflow_mul-from : goal.overflow_mul-from
 overflow_mul-from c =
     let base = c.requires.row_in.cards (c.loop-at.at - 1) (link-in (goal.at.overflow_mul-from c).In-loop-at) in
-    omega (arith, ap (λ (x : ℕ). x * c.args.shapes) (from_is (goal.at.overflow_mul-from c).After-wide-from), base, c.requires.row_in.few-places)
+    omega (
+      arith,
+      ap (λ (x : ℕ). x * c.args.shapes) (from_is (goal.at.overflow_mul-from c).After-wide-from),
+      base,
+      c.requires.row_in.few-places,
+    )
 
 pub strike_entry-end-requires : goal.strike_entry-end-requires
 strike_entry-end-requires c =
@@ -93,7 +119,12 @@ strike_entry-end-requires c =
     let row = c.requires.row_in in
     record {
       few-places = omega (arith, swept-grid so_far, row.few-places);
-      on-board = λ p g. omega (arith, row.led (c.loop-at.at - 1) p (link-in (goal.at.strike_entry-end-requires c).In-loop-at) (led (goal.at.strike_entry-end-requires c).After-wide-kind p g), swept-grid so_far);
+      on-board = λ p g. omega (
+        arith,
+        row.led (c.loop-at.at - 1) p (link-in (goal.at.strike_entry-end-requires
+            c).In-loop-at) (led (goal.at.strike_entry-end-requires c).After-wide-kind p g),
+        swept-grid so_far,
+      );
       room = swept-room so_far (λ p g. row.led g.number p g.below g.good) c.requires.room;
     }
 
@@ -114,8 +145,10 @@ loop-at-preserved c =
     let w = work c.loop-at.grid c.loop-at.queue c.loop-at.end in
     let v = work c.strike_entry-end.new.grid c.strike_entry-end.new.queue c.strike_entry-end.result in
     walk-next c.loop-at.invariant c.loop-at-test.true (next-is c)
-    (subst₂ (λ (k base : ℕ). Swept (EntryGood (get_or c.args.row.now k 0) base) w v) (kind-is (goal.at.loop-at-preserved c).After-wide-kind)
-    (ap (λ (x : ℕ). x * c.args.shapes) (from_is (goal.at.loop-at-preserved c).After-wide-from)) c.strike_entry-end.ensures)
+    (subst₂ (λ (k base : ℕ). Swept (EntryGood (get_or c.args.row.now k 0) base) w v) (kind-is
+    (goal.at.loop-at-preserved c).After-wide-kind)
+    (ap (λ (x : ℕ). x * c.args.shapes) (from_is (goal.at.loop-at-preserved c).After-wide-from))
+    c.strike_entry-end.ensures)
 
 pub shape_of-grid : goal.shape_of-grid
 shape_of-grid c = swept-grid c.loop-at.invariant.swept

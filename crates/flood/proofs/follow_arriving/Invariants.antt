@@ -1,6 +1,5 @@
 -- `flood::follow_arriving` walks the chain of the links to a card, and strikes what they lead back to.
 -- Assumes nothing.
-use Prim.Native.Nat.{◌-◌}
 use lib.ListN.{get_or}
 use Rattle.bags.specs.Label.{incoming}
 use Rattle.script.specs.Link.{to_at}

@@ -1,7 +1,7 @@
 -- `flood::follow_leaving` strikes what the links from a card lead to. The invariant: that of those below i is.
 -- Assumes nothing.
 use mathlib.Core.Path.{subst, subst₂, ◌≡◌, ◌∙◌, ap}
-use Prim.Native.Nat.{ℕ, ◌<◌, ◌≤◌, ◌*◌, ◌-◌}
+use Prim.Native.Nat.{ℕ, ◌<◌, ◌≤◌, ◌*◌}
 use native.Mathlib.Omega.{arith}
 use lib.ListN.{length, get_or}
 use Rattle.bags.specs.Label.{outgoing}
@@ -33,10 +33,12 @@ to_is a =
     a.wide-to.ensures.same ∙ to_word a.args.script.now a.loop-i.i
 
 -- so what the entry read names is what the link leads to
-led : (a : After-wide-to) → (p : ℕ) → EntryGood (get_or a.args.row.now a.wide-kind.result 0) (a.wide-to.result * a.args.shapes) p
+led : (a : After-wide-to) → (p : ℕ) → EntryGood (get_or a.args.row.now a.wide-kind.result 0) (a.wide-to.result *
+    a.args.shapes) p
     → Good (goal.at.After-wide-to a).Start a.loop-i.i p
 led a p g =
-    subst₂ (λ (k base : ℕ). EntryGood (get_or a.args.row.now k 0) base p) (kind-is (goal.at.After-wide-to a).After-wide-kind)
+    subst₂ (λ (k base : ℕ). EntryGood (get_or a.args.row.now k 0) base p) (kind-is (goal.at.After-wide-to
+    a).After-wide-kind)
     (ap (λ (x : ℕ). x * a.args.shapes) (to_is a)) g
 
 -- what links below hi make good is on the board
@@ -50,12 +52,22 @@ loop-i-init c = (omega arith, c.requires.rising, leaving-none)
 
 pub bounds-row-kind : goal.bounds-row-kind
 bounds-row-kind c =
-    omega (arith, kind-is (goal.at.bounds-row-kind c).After-wide-kind, c.requires.row_in.kinds c.loop-i.i (link-in (goal.at.bounds-row-kind c).In-loop-i))
+    omega (
+      arith,
+      kind-is (goal.at.bounds-row-kind c).After-wide-kind,
+      c.requires.row_in.kinds c.loop-i.i (link-in
+          (goal.at.bounds-row-kind c).In-loop-i),
+    )
 
 pub overflow_mul-to : goal.overflow_mul-to
 overflow_mul-to c =
     let base = c.requires.row_in.cards c.loop-i.i (link-in (goal.at.overflow_mul-to c).In-loop-i) in
-    omega (arith, ap (λ (x : ℕ). x * c.args.shapes) (to_is (goal.at.overflow_mul-to c).After-wide-to), base, c.requires.row_in.few-places)
+    omega (
+      arith,
+      ap (λ (x : ℕ). x * c.args.shapes) (to_is (goal.at.overflow_mul-to c).After-wide-to),
+      base,
+      c.requires.row_in.few-places,
+    )
 
 pub strike_entry-end-requires : goal.strike_entry-end-requires
 strike_entry-end-requires c =
@@ -63,8 +75,14 @@ strike_entry-end-requires c =
     let row = c.requires.row_in in
     record {
       few-places = omega (arith, swept-grid so_far, row.few-places);
-      on-board = λ p g. omega (arith, row.led c.loop-i.i p (link-in (goal.at.strike_entry-end-requires c).In-loop-i) (led (goal.at.strike_entry-end-requires c).After-wide-to p g), swept-grid so_far);
-      room = swept-room so_far (good-in (goal.at.strike_entry-end-requires c).At-loop-i c.loop-i.i c.loop-i.invariant.1) c.requires.room;
+      on-board = λ p g. omega (
+        arith,
+        row.led c.loop-i.i p (link-in (goal.at.strike_entry-end-requires
+            c).In-loop-i) (led (goal.at.strike_entry-end-requires c).After-wide-to p g),
+        swept-grid so_far,
+      );
+      room = swept-room so_far (good-in (goal.at.strike_entry-end-requires c).At-loop-i c.loop-i.i
+          c.loop-i.invariant.1) c.requires.room;
     }
 
 pub loop-i-preserved : goal.loop-i-preserved
@@ -74,8 +92,10 @@ loop-i-preserved c =
       omega arith,
       omega (arith, c.loop-i-test.true),
       leaving-more c.loop-i.invariant.0 c.loop-i.invariant.2
-          (subst₂ (λ (k base : ℕ). Swept (EntryGood (get_or c.args.row.now k 0) base) w v) (kind-is (goal.at.loop-i-preserved c).After-wide-kind)
-          (ap (λ (x : ℕ). x * c.args.shapes) (to_is (goal.at.loop-i-preserved c).After-wide-to)) c.strike_entry-end.ensures),
+          (subst₂ (λ (k base : ℕ). Swept (EntryGood (get_or c.args.row.now k 0) base) w v) (kind-is
+          (goal.at.loop-i-preserved c).After-wide-kind)
+          (ap (λ (x : ℕ). x * c.args.shapes) (to_is (goal.at.loop-i-preserved c).After-wide-to))
+          c.strike_entry-end.ensures),
     )
 
 pub shape_of-grid : goal.shape_of-grid
@@ -89,4 +109,5 @@ returns c =
     let before = work c.args.grid.now c.args.queue.now c.args.tail in
     let after = work c.loop-i.grid c.loop-i.queue c.loop-i.end in
     let all-links : c.loop-i.i ≡ c.args.hi = omega arith in
-    subst (λ (hi : ℕ). Swept (Leaving (Good (goal.at.returns c).Start) c.args.lo hi) before after) all-links c.loop-i.invariant.2
+    subst (λ (hi : ℕ). Swept (Leaving (Good (goal.at.returns c).Start) c.args.lo hi) before after) all-links
+    c.loop-i.invariant.2

@@ -76,25 +76,55 @@ out-in : (a : After-follow_leaving-end) → let base = (a.args.q - a.args.n * a.
     a.wide-lo.result a.wide-hi.result p → p < length a.args.grid.now
 out-in a p g =
     let links = a.requires.links in
-    (row-asked links.ready (shape_is (goal.at.After-follow_leaving-end a).Start) (out-half (goal.at.After-follow_leaving-end a).Start _ (base-is (goal.at.After-follow_leaving-end a).Start)) a.requires.full).led g.link p
-    (omega (arith, g.high, range-in links.leaving (card-is (goal.at.After-follow_leaving-end a).Start) (low (goal.at.After-follow_leaving-end a).After-wide-hi) (high (goal.at.After-follow_leaving-end a).After-wide-hi))) g.good
+    (row-asked links.ready (shape_is (goal.at.After-follow_leaving-end a).Start) (out-half
+    (goal.at.After-follow_leaving-end a).Start _ (base-is (goal.at.After-follow_leaving-end a).Start))
+    a.requires.full).led g.link p
+    (omega (
+      arith,
+      g.high,
+      range-in links.leaving (card-is (goal.at.After-follow_leaving-end a).Start) (low
+          (goal.at.After-follow_leaving-end a).After-wide-hi) (high (goal.at.After-follow_leaving-end
+          a).After-wide-hi),
+    )) g.good
 
 pub overflow_mul-base : goal.overflow_mul-base
-overflow_mul-base c = omega (arith, given-room (goal.at.overflow_mul-base c).Start, pair_is (goal.at.overflow_mul-base c).Start, pairs-bound c.requires.links.ready)
+overflow_mul-base c = omega (
+  arith,
+  given-room (goal.at.overflow_mul-base c).Start,
+  pair_is
+      (goal.at.overflow_mul-base c).Start,
+  pairs-bound c.requires.links.ready,
+)
 
 pub overflow_sub-base : goal.overflow_sub-base
 overflow_sub-base c = omega (arith, given-room (goal.at.overflow_sub-base c).Start)
 
 pub overflow_mul-base-2 : goal.overflow_mul-base-2
 overflow_mul-base-2 c =
-    omega (arith, base-is (goal.at.overflow_mul-base-2 c).Start, c.requires.links.ready.few-shapes, shape_is (goal.at.overflow_mul-base-2 c).Start)
+    omega (
+      arith,
+      base-is (goal.at.overflow_mul-base-2 c).Start,
+      c.requires.links.ready.few-shapes,
+      shape_is
+          (goal.at.overflow_mul-base-2 c).Start,
+    )
 
 pub overflow_add-half : goal.overflow_add-half
 overflow_add-half c =
-    omega (arith, base-is (goal.at.overflow_add-half c).Start, c.requires.links.ready.few-shapes, shape_is (goal.at.overflow_add-half c).Start)
+    omega (
+      arith,
+      base-is (goal.at.overflow_add-half c).Start,
+      c.requires.links.ready.few-shapes,
+      shape_is
+          (goal.at.overflow_add-half c).Start,
+    )
 
 pub offset_bounds-starts-n : goal.offset_bounds-starts-n
-offset_bounds-starts-n c = omega (arith, given-in (goal.at.offset_bounds-starts-n c).Start, c.requires.links.ready.few-cards)
+offset_bounds-starts-n c = omega (
+  arith,
+  given-in (goal.at.offset_bounds-starts-n c).Start,
+  c.requires.links.ready.few-cards,
+)
 
 pub bounds-starts-n : goal.bounds-starts-n
 bounds-starts-n c =
@@ -104,28 +134,49 @@ pub overflow_add-n : goal.overflow_add-n
 overflow_add-n c = omega (arith, given-in (goal.at.overflow_add-n c).Start, c.requires.links.ready.few-cards)
 
 pub offset_bounds-starts-n-2 : goal.offset_bounds-starts-n-2
-offset_bounds-starts-n-2 c = omega (arith, given-in (goal.at.offset_bounds-starts-n-2 c).Start, c.requires.links.ready.few-cards)
+offset_bounds-starts-n-2 c = omega (
+  arith,
+  given-in (goal.at.offset_bounds-starts-n-2 c).Start,
+  c.requires.links.ready.few-cards,
+)
 
 pub bounds-starts-n-2 : goal.bounds-starts-n-2
 bounds-starts-n-2 c =
     omega (arith, given-in (goal.at.bounds-starts-n-2 c).Start, c.requires.links.leaving.cards)
 
 pub slice_bounds-follow_leaving-end : goal.slice_bounds-follow_leaving-end
-slice_bounds-follow_leaving-end c = omega (arith, row_in (goal.at.slice_bounds-follow_leaving-end c).Start, base-is (goal.at.slice_bounds-follow_leaving-end c).Start)
+slice_bounds-follow_leaving-end c = omega (
+  arith,
+  row_in (goal.at.slice_bounds-follow_leaving-end c).Start,
+  base-is
+      (goal.at.slice_bounds-follow_leaving-end c).Start,
+)
 
 pub follow_leaving-end-requires : goal.follow_leaving-end-requires
 follow_leaving-end-requires c =
     let links = c.requires.links in
     record {
-      row_in = row-asked links.ready (shape_is (goal.at.follow_leaving-end-requires c).Start) (out-half (goal.at.follow_leaving-end-requires c).Start _ (base-is (goal.at.follow_leaving-end-requires c).Start)) c.requires.full;
-      rising = range-rising links.leaving (card-is (goal.at.follow_leaving-end-requires c).Start) (low (goal.at.follow_leaving-end-requires c).After-wide-hi) (high (goal.at.follow_leaving-end-requires c).After-wide-hi);
-      links-in = range-in links.leaving (card-is (goal.at.follow_leaving-end-requires c).Start) (low (goal.at.follow_leaving-end-requires c).After-wide-hi) (high (goal.at.follow_leaving-end-requires c).After-wide-hi);
+      row_in = row-asked links.ready (shape_is (goal.at.follow_leaving-end-requires c).Start) (out-half
+          (goal.at.follow_leaving-end-requires c).Start _ (base-is (goal.at.follow_leaving-end-requires c).Start))
+          c.requires.full;
+      rising = range-rising links.leaving (card-is (goal.at.follow_leaving-end-requires c).Start) (low
+          (goal.at.follow_leaving-end-requires c).After-wide-hi) (high (goal.at.follow_leaving-end-requires
+          c).After-wide-hi);
+      links-in = range-in links.leaving (card-is (goal.at.follow_leaving-end-requires c).Start) (low
+          (goal.at.follow_leaving-end-requires c).After-wide-hi) (high (goal.at.follow_leaving-end-requires
+          c).After-wide-hi);
       room = c.requires.room;
     }
 
 pub overflow_add-row : goal.overflow_add-row
 overflow_add-row c =
-    omega (arith, base-is (goal.at.overflow_add-row c).Start, c.requires.links.ready.few-shapes, shape_is (goal.at.overflow_add-row c).Start)
+    omega (
+      arith,
+      base-is (goal.at.overflow_add-row c).Start,
+      c.requires.links.ready.few-shapes,
+      shape_is
+          (goal.at.overflow_add-row c).Start,
+    )
 
 pub slice_bounds-row-end : goal.slice_bounds-row-end
 slice_bounds-row-end c =
@@ -136,18 +187,26 @@ follow_arriving-requires c =
     let links = c.requires.links in
     let full = swept-grid c.follow_leaving-end.ensures ∙ c.requires.full in
     record {
-      row_in = row-asked links.ready (shape_is (goal.at.follow_arriving-requires c).Start) (back-half (goal.at.follow_arriving-requires c).Start _ (ap (λ (x : ℕ). x + max_kinds) (base-is (goal.at.follow_arriving-requires c).Start))) full;
+      row_in = row-asked links.ready (shape_is (goal.at.follow_arriving-requires c).Start) (back-half
+          (goal.at.follow_arriving-requires c).Start _ (ap (λ (x : ℕ). x + max_kinds) (base-is
+          (goal.at.follow_arriving-requires c).Start))) full;
       arrivals = arrivals-at (links.arriving c.if-incoming.true) (given-in (goal.at.follow_arriving-requires c).Start);
-      room = swept-room c.follow_leaving-end.ensures (out-in (goal.at.follow_arriving-requires c).After-follow_leaving-end) c.requires.room;
+      room = swept-room c.follow_leaving-end.ensures (out-in (goal.at.follow_arriving-requires
+          c).After-follow_leaving-end) c.requires.room;
     }
 
 pub returns-then-incoming : goal.returns-then-incoming
 returns-then-incoming c =
-    followed-both c.requires.links.ready c.requires.links.leaving (pair_is (goal.at.returns-then-incoming c).Start) (low (goal.at.returns-then-incoming c).After-wide-hi) (high (goal.at.returns-then-incoming c).After-wide-hi)
-    (out-half (goal.at.returns-then-incoming c).Start _ (base-is (goal.at.returns-then-incoming c).Start)) (back-half (goal.at.returns-then-incoming c).Start _ (ap (λ (x : ℕ). x + max_kinds) (base-is (goal.at.returns-then-incoming c).Start))) c.follow_leaving-end.ensures
+    followed-both c.requires.links.ready c.requires.links.leaving (pair_is (goal.at.returns-then-incoming c).Start)
+    (low (goal.at.returns-then-incoming c).After-wide-hi) (high (goal.at.returns-then-incoming c).After-wide-hi)
+    (out-half (goal.at.returns-then-incoming c).Start _ (base-is (goal.at.returns-then-incoming c).Start))
+    (back-half (goal.at.returns-then-incoming c).Start _ (ap (λ (x : ℕ). x + max_kinds) (base-is
+    (goal.at.returns-then-incoming c).Start))) c.follow_leaving-end.ensures
     (arriving-same c.requires.card c.follow_arriving.ensures)
 
 pub returns : goal.returns
 returns c =
-    followed-out c.requires.links.ready c.requires.links.leaving (pair_is (goal.at.returns c).Start) (low (goal.at.returns c).After-wide-hi) (high (goal.at.returns c).After-wide-hi) (out-half (goal.at.returns c).Start _ (base-is (goal.at.returns c).Start))
+    followed-out c.requires.links.ready c.requires.links.leaving (pair_is (goal.at.returns c).Start) (low
+    (goal.at.returns c).After-wide-hi) (high (goal.at.returns c).After-wide-hi) (out-half (goal.at.returns
+    c).Start _ (base-is (goal.at.returns c).Start))
     (c.requires.links.ways c.if-incoming.false) c.follow_leaving-end.ensures

@@ -25,7 +25,12 @@ overflow_add-base c =
 
 pub strike_one-requires : goal.strike_one-requires
 strike_one-requires c =
-    record { few-places = c.requires.few-places; on-board = place_in (goal.at.strike_one-requires c).Else-number-eq0; room = c.requires.room }
+    record {
+      few-places = c.requires.few-places;
+      on-board = place_in (goal.at.strike_one-requires
+          c).Else-number-eq0;
+      room = c.requires.room;
+    }
 
 pub returns : goal.returns
 returns c =
@@ -34,5 +39,6 @@ returns c =
     let p = c.args.base + (c.byte-number.result - 1) in
     let Good = EntryGood c.args.entry c.args.base in
     subst (λ (v : Work). Swept Good w v) (sym c.strike_one.ensures)
-    (swept_same (λ q at. subst Good (sym at) (one-named is c.if-number-eq0.false)) (only-named is c.if-number-eq0.false)
+    (swept_same (λ q at. subst Good (sym at) (one-named is c.if-number-eq0.false)) (only-named is
+    c.if-number-eq0.false)
     (swept-strike w p (place_in (goal.at.returns c).Else-number-eq0)))

@@ -26,7 +26,12 @@ front_read : (k : In-Found) → read_front max_input (bytes_of k) ≡ sections_r
 front_read k = k.find_front-front.ensures.reads ∙ ap (sections_read (bytes_of k)) k.in-Found.is
 
 pub overflow_mul-third : goal.overflow_mul-third
-overflow_mul-third c = omega (arith, (laid (goal.at.overflow_mul-third c).In-Found).few, (laid (goal.at.overflow_mul-third c).In-Found).bookings.ends)
+overflow_mul-third c = omega (
+  arith,
+  (laid (goal.at.overflow_mul-third c).In-Found).few,
+  (laid
+      (goal.at.overflow_mul-third c).In-Found).bookings.ends,
+)
 
 pub overflow_add-third : goal.overflow_add-third
 overflow_add-third c =
@@ -35,14 +40,27 @@ overflow_add-third c =
 
 pub returns-then-third-bytes : goal.returns-then-third-bytes
 returns-then-third-bytes c =
-    record { reads = reads-going-on _ (front_read (goal.at.returns-then-third-bytes c).In-Found) (omega (arith, (laid (goal.at.returns-then-third-bytes c).In-Found).end)); inside =  tt; }
+    record {
+      reads = reads-going-on _ (front_read (goal.at.returns-then-third-bytes c).In-Found) (omega (
+        arith,
+        (laid (goal.at.returns-then-third-bytes c).In-Found).end,
+      ));
+      inside = tt;
+    }
 
 pub returns-in-Faulty : goal.returns-in-Faulty
 returns-in-Faulty c =
-    let bytes = c.args.bytes.now in record { reads = reads-faulty bytes (c.find_front-front.ensures.reads ∙ ap (sections_read bytes) c.in-Faulty.is); inside =  tt; }
+    let bytes = c.args.bytes.now in record {
+      reads = reads-faulty bytes (c.find_front-front.ensures.reads ∙ ap
+          (sections_read bytes) c.in-Faulty.is);
+      inside = tt;
+    }
 
 pub returns-else-third-bytes : goal.returns-else-third-bytes
 returns-else-third-bytes c =
-    let f = laid (goal.at.returns-else-third-bytes c).In-Found in record { reads =
-      reads-front _ (front_read (goal.at.returns-else-third-bytes c).In-Found) (omega (arith, f.end)); inside =
-      record { few = f.few; template = f.template; script = f.script; bookings = f.bookings }; }
+    let f = laid (goal.at.returns-else-third-bytes c).In-Found in record {
+      reads =
+          reads-front _ (front_read (goal.at.returns-else-third-bytes c).In-Found) (omega (arith, f.end));
+      inside =
+          record { few = f.few; template = f.template; script = f.script; bookings = f.bookings };
+    }

@@ -1,6 +1,6 @@
 -- `take_links` meets its contract. The invariant: the parts before, with the links taken, are first parts of a run. The
 -- measure is the count of parts left. Assumes nothing.
-use Prim.Native.Nat.{◌-◌, ◌<◌}
+use Prim.Native.Nat.{◌<◌}
 use mathlib.Core.Path.{refl}
 use native.Mathlib.Omega.{arith}
 use Rattle.words.proofs.Bools.{true_of_not}

@@ -16,7 +16,8 @@ pub record Taking (words links listed : List ℕ) (left parts code : ℕ) (befor
 
 abbrev pub invariant-loop-count : goal.invariant-loop-count
 invariant-loop-count l =
-    Taking l.words l.links l.listed l.left l.parts l.code (eval l.initial.next l.initial.span) (eval l.next l.span) l.count l.counted.kind l.counted.next
+    Taking l.words l.links l.listed l.left l.parts l.code (eval l.initial.next l.initial.span) (eval l.next l.span)
+    l.count l.counted.kind l.counted.next
 
 abbrev pub decreases-loop-count : goal.decreases-loop-count
 decreases-loop-count l = l.parts - l.count

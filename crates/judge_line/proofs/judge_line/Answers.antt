@@ -23,13 +23,19 @@ judge_front-requires c =
 pub returns-in-Faulty : goal.returns-in-Faulty
 returns-in-Faulty c =
     let input = c.args.input.now in
-    let line = c.put_refused.ensures in record { writes =
-      faulty-judged (c.find_front-found.ensures.reads ∙ ap (sections_read input) c.in-Faulty.is) line; inside =
-      wrote-counted line; }
+    let line = c.put_refused.ensures in record {
+      writes =
+          faulty-judged (c.find_front-found.ensures.reads ∙ ap (sections_read input) c.in-Faulty.is) line;
+      inside =
+          wrote-counted line;
+    }
 
 pub returns-in-Found : goal.returns-in-Found
 returns-in-Found c =
     let input = c.args.input.now in
-    let line = c.judge_front.ensures in record { writes =
-      front-judged (c.find_front-found.ensures.reads ∙ ap (sections_read input) c.in-Found.is) line; inside =
-      wrote-counted line.wrote; }
+    let line = c.judge_front.ensures in record {
+      writes =
+          front-judged (c.find_front-found.ensures.reads ∙ ap (sections_read input) c.in-Found.is) line;
+      inside =
+          wrote-counted line.wrote;
+    }

@@ -16,7 +16,8 @@ use Rattle.walks.specs.Entries.{EntryGood, LedGood}
 use Rattle.walks.proofs.Needs.{from-word, kind-word}
 use Rattle.walks.proofs.Walks.{test-start, test_in, test-less, test-next, test-one, test-done}
 use Rattle.judging.proofs.arriving_had.Goals as goal
-use Rattle.judging.proofs.arriving_had.Goals.{After-wide-at-in-loop-at, After-wide-from, After-wide-kind, In-loop-at, Start}
+use Rattle.judging.proofs.arriving_had.Goals.{After-wide-at-in-loop-at, After-wide-from, After-wide-kind, In-loop-at}
+use Rattle.judging.proofs.arriving_had.Goals.{Start}
 
 -- the set of the grid, and what a link makes good
 abbrev On : Start → ℕ → Bool
@@ -42,7 +43,8 @@ kind-is : (a : After-wide-kind) → a.wide-kind.result ≡ kind_at a.args.script
 kind-is a =
     a.wide-kind.ensures.same ∙ kind-word a.args.script.now (a.loop-at.at - 1)
 
-base-is : (a : After-wide-kind) → a.wide-from.result * a.args.shapes ≡ from_at a.args.script.now (a.loop-at.at - 1) * a.args.shapes
+base-is : (a : After-wide-kind) → a.wide-from.result * a.args.shapes ≡ from_at a.args.script.now (a.loop-at.at - 1)
+    * a.args.shapes
 base-is a = ap (λ (x : ℕ). x * a.args.shapes) (from_is (goal.at.After-wide-kind a).After-wide-from)
 
 -- so what the entry read names is what the link leads back to
@@ -64,7 +66,8 @@ led-read P a h =
 next-is : (c : After-wide-at-in-loop-at) → let to = to_at c.args.script.now in
     c.wide-at-in-loop-at.result ≡ last_at to (to (c.loop-at.at - 1)) (c.loop-at.at - 1)
 next-is c =
-    c.wide-at-in-loop-at.ensures.same ∙ c.requires.arrivals.chained.nexts (c.loop-at.at - 1) (link-in (goal.at.After-wide-at-in-loop-at c).In-loop-at)
+    c.wide-at-in-loop-at.ensures.same ∙ c.requires.arrivals.chained.nexts (c.loop-at.at - 1) (link-in
+    (goal.at.After-wide-at-in-loop-at c).In-loop-at)
 
 pub loop-at-init : goal.loop-at-init
 loop-at-init c =
@@ -84,20 +87,38 @@ pub bounds-script-i : goal.bounds-script-i
 bounds-script-i c = omega (arith, words-in (goal.at.bounds-script-i c).In-loop-at)
 
 pub overflow_mul-i-in-loop-at : goal.overflow_mul-i-in-loop-at
-overflow_mul-i-in-loop-at c = omega (arith, link-in (goal.at.overflow_mul-i-in-loop-at c).In-loop-at, c.requires.row_in.few-links)
+overflow_mul-i-in-loop-at c = omega (
+  arith,
+  link-in (goal.at.overflow_mul-i-in-loop-at c).In-loop-at,
+  c.requires.row_in.few-links,
+)
 
 pub overflow_add-i-in-loop-at : goal.overflow_add-i-in-loop-at
-overflow_add-i-in-loop-at c = omega (arith, link-in (goal.at.overflow_add-i-in-loop-at c).In-loop-at, c.requires.row_in.few-links)
+overflow_add-i-in-loop-at c = omega (
+  arith,
+  link-in (goal.at.overflow_add-i-in-loop-at c).In-loop-at,
+  c.requires.row_in.few-links,
+)
 
 pub offset_bounds-script-i-in-loop-at : goal.offset_bounds-script-i-in-loop-at
-offset_bounds-script-i-in-loop-at c = omega (arith, link-in (goal.at.offset_bounds-script-i-in-loop-at c).In-loop-at, c.requires.row_in.few-links)
+offset_bounds-script-i-in-loop-at c = omega (
+  arith,
+  link-in (goal.at.offset_bounds-script-i-in-loop-at
+      c).In-loop-at,
+  c.requires.row_in.few-links,
+)
 
 pub bounds-script-i-in-loop-at : goal.bounds-script-i-in-loop-at
 bounds-script-i-in-loop-at c = omega (arith, words-in (goal.at.bounds-script-i-in-loop-at c).In-loop-at)
 
 pub bounds-row-kind : goal.bounds-row-kind
 bounds-row-kind c =
-    omega (arith, kind-is (goal.at.bounds-row-kind c).After-wide-kind, c.requires.row_in.kinds (c.loop-at.at - 1) (link-in (goal.at.bounds-row-kind c).In-loop-at))
+    omega (
+      arith,
+      kind-is (goal.at.bounds-row-kind c).After-wide-kind,
+      c.requires.row_in.kinds (c.loop-at.at - 1)
+          (link-in (goal.at.bounds-row-kind c).In-loop-at),
+    )
 
 pub overflow_mul-from : goal.overflow_mul-from
 overflow_mul-from c =
@@ -106,18 +127,24 @@ overflow_mul-from c =
 
 pub entry_had-requires : goal.entry_had-requires
 entry_had-requires c p g =
-    c.requires.row_in.led (c.loop-at.at - 1) p (link-in (goal.at.entry_had-requires c).In-loop-at) (read-led (λ G. G p) (goal.at.entry_had-requires c).After-wide-kind g)
+    c.requires.row_in.led (c.loop-at.at - 1) p (link-in (goal.at.entry_had-requires c).In-loop-at) (read-led (λ G.
+    G p) (goal.at.entry_had-requires c).After-wide-kind g)
 
 pub returns-then-not-entry_had : goal.returns-then-not-entry_had
-returns-then-not-entry_had c =
-    (
-      false-true,
-      λ had. absurd (never_both (c.entry_had.ensures.1 (led-read (HasAll (On (goal.at.returns-then-not-entry_had c).Start)) (goal.at.returns-then-not-entry_had c).After-wide-kind
-          (test-one c.loop-at.invariant c.loop-at-test.true had))) (not-true c.entry_had.result c.if-not-entry_had.true-raw)),
-    )
+returns-then-not-entry_had c = (
+  false-true,
+  λ had. absurd (never_both (c.entry_had.ensures.1 (led-read (HasAll (On (goal.at.returns-then-not-entry_had
+      c).Start)) (goal.at.returns-then-not-entry_had c).After-wide-kind
+      (test-one c.loop-at.invariant c.loop-at-test.true had))) (not-true c.entry_had.result
+      c.if-not-entry_had.true-raw)),
+)
 
 pub offset_bounds-next-i : goal.offset_bounds-next-i
-offset_bounds-next-i c = omega (arith, link-in (goal.at.offset_bounds-next-i c).In-loop-at, c.requires.row_in.few-links)
+offset_bounds-next-i c = omega (
+  arith,
+  link-in (goal.at.offset_bounds-next-i c).In-loop-at,
+  c.requires.row_in.few-links,
+)
 
 pub bounds-next-i : goal.bounds-next-i
 bounds-next-i c =
@@ -130,7 +157,8 @@ loop-at-smaller c =
 pub loop-at-preserved : goal.loop-at-preserved
 loop-at-preserved c =
     test-next c.loop-at.invariant c.loop-at-test.true (next-is c)
-    (read-led (HasAll (On (goal.at.loop-at-preserved c).Start)) (goal.at.loop-at-preserved c).After-wide-kind (c.entry_had.ensures.0 (not-false c.entry_had.result c.if-not-entry_had.false-raw)))
+    (read-led (HasAll (On (goal.at.loop-at-preserved c).Start)) (goal.at.loop-at-preserved c).After-wide-kind
+    (c.entry_had.ensures.0 (not-false c.entry_had.result c.if-not-entry_had.false-raw)))
 
 pub returns : goal.returns
 returns c =

@@ -1,6 +1,5 @@
 -- `judging::arriving_had` walks the chain of the links to a card, and tests whether the grid has what they lead to.
 -- Assumes nothing.
-use Prim.Native.Nat.{◌-◌}
 use lib.ListN.{get_or}
 use Rattle.bags.specs.Label.{incoming}
 use Rattle.script.specs.Link.{to_at}

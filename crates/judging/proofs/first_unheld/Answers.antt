@@ -1,6 +1,5 @@
 -- `judging::first_unheld` finds the first booking of a desk that the grid does not hold. The invariant: none of the
 -- first `i` is such a booking. Assumes nothing.
-use Prim.Native.Nat.{◌-◌}
 use mathlib.Core.Path.{sym, ◌∙◌}
 use mathlib.Core.Logic.{⊎_elim}
 use native.Mathlib.Omega.{arith}

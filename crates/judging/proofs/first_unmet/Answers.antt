@@ -1,7 +1,6 @@
 -- `judging::first_unmet` finds the lowest pair of the grid that is not met. The invariant: below `place` there is none.
 -- Assumes nothing.
 use mathlib.Core.Logic.{⊎_elim}
-use Prim.Native.Nat.{◌-◌}
 use native.Mathlib.Omega.{arith}
 use borrow.Author.Count.{below_more}
 use borrow.Author.Tests.{not-true, not-false}
@@ -38,4 +37,9 @@ loop-place-preserved c =
 
 pub returns : goal.returns
 returns c =
-    record { within = c.loop-place.invariant.1; before = c.loop-place.invariant.0; here = λ below. absurd (omega arith) }
+    record {
+      within = c.loop-place.invariant.1;
+      before = c.loop-place.invariant.0;
+      here = λ below. absurd (omega
+          arith);
+    }

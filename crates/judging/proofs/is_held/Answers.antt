@@ -22,7 +22,11 @@ pub pair_place-requires : goal.pair_place-requires
 pair_place-requires c = c.requires.few-shapes
 
 pub bounds-grid-pair_place : goal.bounds-grid-pair_place
-bounds-grid-pair_place c = omega (arith, place_is (goal.at.bounds-grid-pair_place c).After-pair_place, c.requires.inside)
+bounds-grid-pair_place c = omega (
+  arith,
+  place_is (goal.at.bounds-grid-pair_place c).After-pair_place,
+  c.requires.inside,
+)
 
 pub returns : goal.returns
 unfolding on

@@ -64,10 +64,18 @@ returns-then-fitting-place-ne1 c =
     sym (unfit-unmet c.requires (on-no c.args.fitting.now c.args.place c.if-fitting-place-ne1.true))
 
 pub overflow_mul-base : goal.overflow_mul-base
-overflow_mul-base c = omega (arith, shape_is (goal.at.overflow_mul-base c).Start, c.requires.lent.links.ready.few-shapes)
+overflow_mul-base c = omega (
+  arith,
+  shape_is (goal.at.overflow_mul-base c).Start,
+  c.requires.lent.links.ready.few-shapes,
+)
 
 pub overflow_add-half : goal.overflow_add-half
-overflow_add-half c = omega (arith, shape_is (goal.at.overflow_add-half c).Start, c.requires.lent.links.ready.few-shapes)
+overflow_add-half c = omega (
+  arith,
+  shape_is (goal.at.overflow_add-half c).Start,
+  c.requires.lent.links.ready.few-shapes,
+)
 
 pub offset_bounds-starts-n : goal.offset_bounds-starts-n
 offset_bounds-starts-n c = omega (arith, card-here c.requires, c.requires.lent.links.ready.few-cards)
@@ -93,9 +101,12 @@ pub leaving_had-requires : goal.leaving_had-requires
 leaving_had-requires c =
     let links = c.requires.lent.links in
     record {
-      row_in = row-asked links.ready (shape_is (goal.at.leaving_had-requires c).Start) (out-half (goal.at.leaving_had-requires c).Start _ refl) c.requires.lent.full;
-      rising = range-rising links.leaving (card-here c.requires) (low (goal.at.leaving_had-requires c).After-wide-hi) (high (goal.at.leaving_had-requires c).After-wide-hi);
-      links-in = range-in links.leaving (card-here c.requires) (low (goal.at.leaving_had-requires c).After-wide-hi) (high (goal.at.leaving_had-requires c).After-wide-hi);
+      row_in = row-asked links.ready (shape_is (goal.at.leaving_had-requires c).Start) (out-half
+          (goal.at.leaving_had-requires c).Start _ refl) c.requires.lent.full;
+      rising = range-rising links.leaving (card-here c.requires) (low (goal.at.leaving_had-requires
+          c).After-wide-hi) (high (goal.at.leaving_had-requires c).After-wide-hi);
+      links-in = range-in links.leaving (card-here c.requires) (low (goal.at.leaving_had-requires c).After-wide-hi)
+          (high (goal.at.leaving_had-requires c).After-wide-hi);
     }
 
 pub returns-then-not-leaving_had : goal.returns-then-not-leaving_had
@@ -104,8 +115,11 @@ returns-then-not-leaving_had c =
     met-by-needs c.requires (fits (goal.at.returns-then-not-leaving_had c).After-wide-hi) (
       false-true,
       λ had. absurd (never_both
-          (c.leaving_had.ensures.1 (had-first links.ready links.leaving (pair-in c.requires) (low (goal.at.returns-then-not-leaving_had c).After-wide-hi)
-          (high (goal.at.returns-then-not-leaving_had c).After-wide-hi) (out-half (goal.at.returns-then-not-leaving_had c).Start _ refl) had)) (not-true c.leaving_had.result c.if-not-leaving_had.true-raw)),
+          (c.leaving_had.ensures.1 (had-first links.ready links.leaving (pair-in c.requires) (low
+          (goal.at.returns-then-not-leaving_had c).After-wide-hi)
+          (high (goal.at.returns-then-not-leaving_had c).After-wide-hi) (out-half
+          (goal.at.returns-then-not-leaving_had c).Start _ refl) had)) (not-true c.leaving_had.result
+          c.if-not-leaving_had.true-raw)),
     )
 
 pub overflow_add-row : goal.overflow_add-row
@@ -119,14 +133,17 @@ pub arriving_had-requires : goal.arriving_had-requires
 arriving_had-requires c =
     let links = c.requires.lent.links in
     record {
-      row_in = row-asked links.ready (shape_is (goal.at.arriving_had-requires c).Start) (back-half (goal.at.arriving_had-requires c).Start _ refl) c.requires.lent.full;
+      row_in = row-asked links.ready (shape_is (goal.at.arriving_had-requires c).Start) (back-half
+          (goal.at.arriving_had-requires c).Start _ refl) c.requires.lent.full;
       arrivals = arrivals-at (links.arriving c.if-incoming.true) (card-here c.requires);
     }
 
 pub returns-then-incoming : goal.returns-then-incoming
 returns-then-incoming c =
     let links = c.requires.lent.links in
-    let both = had-both links.ready links.leaving (pair-in c.requires) (low (goal.at.returns-then-incoming c).After-wide-hi) (high (goal.at.returns-then-incoming c).After-wide-hi) (out-half (goal.at.returns-then-incoming c).Start _ refl)
+    let both = had-both links.ready links.leaving (pair-in c.requires) (low (goal.at.returns-then-incoming
+    c).After-wide-hi) (high (goal.at.returns-then-incoming c).After-wide-hi) (out-half
+    (goal.at.returns-then-incoming c).Start _ refl)
     (back-half (goal.at.returns-then-incoming c).Start _ refl) in
     met-by-needs c.requires (fits (goal.at.returns-then-incoming c).After-wide-hi) (
       λ r. both.0 (leaving-yes (goal.at.returns-then-incoming c).Else-not-leaving_had, c.arriving_had.ensures.0 r),
@@ -136,6 +153,11 @@ returns-then-incoming c =
 pub returns : goal.returns
 returns c =
     let links = c.requires.lent.links in
-    let only = had-out links.ready links.leaving (pair-in c.requires) (low (goal.at.returns c).After-wide-hi) (high (goal.at.returns c).After-wide-hi) (out-half (goal.at.returns c).Start _ refl)
+    let only = had-out links.ready links.leaving (pair-in c.requires) (low (goal.at.returns c).After-wide-hi) (high
+    (goal.at.returns c).After-wide-hi) (out-half (goal.at.returns c).Start _ refl)
     (links.ways c.if-incoming.false) in
-    met-by-needs c.requires (fits (goal.at.returns c).After-wide-hi) (λ _. only.0 (leaving-yes (goal.at.returns c).Else-not-leaving_had), λ _. refl)
+    met-by-needs c.requires (fits (goal.at.returns c).After-wide-hi) (
+      λ _. only.0 (leaving-yes (goal.at.returns
+          c).Else-not-leaving_had),
+      λ _. refl,
+    )

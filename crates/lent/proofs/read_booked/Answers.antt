@@ -27,7 +27,8 @@ returns-in-Refused c =
 
 pub returns-in-Refused-list : goal.returns-in-Refused-list
 returns-in-Refused-list c =
-    list-refused (reading (goal.at.returns-in-Refused-list c).After-read_sheet-read) (known (goal.at.returns-in-Refused-list c).In-Sheet) c.read_bookings-list.ensures
+    list-refused (reading (goal.at.returns-in-Refused-list c).After-read_sheet-read) (known
+    (goal.at.returns-in-Refused-list c).In-Sheet) c.read_bookings-list.ensures
     c.in-Refused-list.is
 
 pub returns-in-Count : goal.returns-in-Count
@@ -35,5 +36,6 @@ returns-in-Count c =
     let k = known (goal.at.returns-in-Count c).In-Sheet in
     record {
       known = k;
-      list = list_read (reading (goal.at.returns-in-Count c).After-read_sheet-read) k c.read_bookings-list.ensures c.in-Count.is;
+      list = list_read (reading (goal.at.returns-in-Count c).After-read_sheet-read) k c.read_bookings-list.ensures
+          c.in-Count.is;
     }

@@ -15,13 +15,15 @@ booked c = booked-read _ _ _ _ c.read_booked-read.ensures c.in-Sheet.is
 pub returns-then-desk-gt1 : goal.returns-then-desk-gt1
 returns-then-desk-gt1 c =
     let s = c.args in
-    desk-refused s.template.now s.script.now s.bookings.now (listed-asked (booked (goal.at.returns-then-desk-gt1 c).In-Sheet)) s.grid.now
+    desk-refused s.template.now s.script.now s.bookings.now (listed-asked (booked (goal.at.returns-then-desk-gt1
+    c).In-Sheet)) s.grid.now
     c.if-desk-gt1.true
 
 pub returns-then-grid-grid_size : goal.returns-then-grid-grid_size
 returns-then-grid-grid_size c =
     let s = c.args in
-    size-refused s.template.now s.script.now s.bookings.now (listed-asked (booked (goal.at.returns-then-grid-grid_size c).In-Sheet)) s.grid.now
+    size-refused s.template.now s.script.now s.bookings.now (listed-asked (booked
+    (goal.at.returns-then-grid-grid_size c).In-Sheet)) s.grid.now
     c.if-desk-gt1.false (λ e. omega (arith, e, c.grid_size.ensures))
 
 pub returns-in-Refused : goal.returns-in-Refused

@@ -2,7 +2,7 @@
 -- starts with a part at its own place. A law of proofs/Laws answers each return of `part`. The invariant of `run` is
 -- `Remaining` of proofs/Remaining, its measure the parts left.
 -- Assumes nothing.
-use Prim.Native.Nat.{ℕ, ◌-◌}
+use Prim.Native.Nat.{ℕ}
 use native.Mathlib.Omega.{arith}
 use Rattle.parts.proofs.Laws.{part-missing, part-deep, Coded, part-nothing, part-single, part_low, part-open}
 use Rattle.parts.proofs.Laws.{part-middle, part-outgoing, part-incoming, part-high, group-short, group-few}
@@ -14,7 +14,8 @@ use Rattle.parts.proofs.+part_run.Goals as goal
 use Rattle.parts.proofs.+part_run.Goals.{part-After-shared_slice_known-2-1}
 
 -- there it has its code, and may stand at this depth
-coded : (t : ℕ) (c : part-After-shared_slice_known-2-1 t) → Coded c.args.left c.args.words.now c.args.end c.args.sizes c.args.at c.args.row.now
+coded : (t : ℕ) (c : part-After-shared_slice_known-2-1 t) → Coded c.args.left c.args.words.now c.args.end
+    c.args.sizes c.args.at c.args.row.now
 coded t c = record { code_in = c.if-end-at.false; level = omega arith }
 
 pub part-returns-then-end-at : goal.part-returns-then-end-at
@@ -29,15 +30,18 @@ part-returns-then-left-eq0 t c =
 
 pub part-returns-then-end-at-lt2 : goal.part-returns-then-end-at-lt2
 part-returns-then-end-at-lt2 t c =
-    group-short (coded t (goal.at.part-returns-then-end-at-lt2 t c).After-shared_slice_known-2-1) (omega arith) (omega arith) c.if-end-at-lt2.true
+    group-short (coded t (goal.at.part-returns-then-end-at-lt2 t c).After-shared_slice_known-2-1) (omega arith)
+    (omega arith) c.if-end-at-lt2.true
 
 pub part-returns-then-count-lt-MIN_GROUP : goal.part-returns-then-count-lt-MIN_GROUP
 part-returns-then-count-lt-MIN_GROUP t c =
-    group-few (coded t (goal.at.part-returns-then-count-lt-MIN_GROUP t c).After-shared_slice_known-2-1) (omega arith) (omega arith) c.if-end-at-lt2.false c.if-count-lt-MIN_GROUP.true
+    group-few (coded t (goal.at.part-returns-then-count-lt-MIN_GROUP t c).After-shared_slice_known-2-1) (omega
+    arith) (omega arith) c.if-end-at-lt2.false c.if-count-lt-MIN_GROUP.true
 
 pub part-returns-then-count-gt-MAX_GROUP : goal.part-returns-then-count-gt-MAX_GROUP
 part-returns-then-count-gt-MAX_GROUP t c =
-    group-many (coded t (goal.at.part-returns-then-count-gt-MAX_GROUP t c).After-shared_slice_known-2-1) (omega arith) (omega arith) c.if-end-at-lt2.false
+    group-many (coded t (goal.at.part-returns-then-count-gt-MAX_GROUP t c).After-shared_slice_known-2-1) (omega
+    arith) (omega arith) c.if-end-at-lt2.false
     c.if-count-gt-MAX_GROUP.true
 
 pub part-returns-in-0 : goal.part-returns-in-0
@@ -52,28 +56,34 @@ part-returns-in-1-to-3 t c =
     c.part.ensures
 
 pub part-returns-in-4-to-15 : goal.part-returns-in-4-to-15
-part-returns-in-4-to-15 t c = part_low (coded t (goal.at.part-returns-in-4-to-15 t c).After-shared_slice_known-2-1) (omega arith) (omega arith)
+part-returns-in-4-to-15 t c = part_low (coded t (goal.at.part-returns-in-4-to-15 t c).After-shared_slice_known-2-1)
+    (omega arith) (omega arith)
 
 pub part-returns-else-count-gt-MAX_GROUP : goal.part-returns-else-count-gt-MAX_GROUP
 part-returns-else-count-gt-MAX_GROUP t c =
-    group-run (coded t (goal.at.part-returns-else-count-gt-MAX_GROUP t c).After-shared_slice_known-2-1) (omega arith) (omega arith) c.if-end-at-lt2.false
+    group-run (coded t (goal.at.part-returns-else-count-gt-MAX_GROUP t c).After-shared_slice_known-2-1) (omega
+    arith) (omega arith) c.if-end-at-lt2.false
     c.if-count-lt-MIN_GROUP.false c.if-count-gt-MAX_GROUP.false c.run.ensures
 
 pub part-returns-in-19-to-255 : goal.part-returns-in-19-to-255
 part-returns-in-19-to-255 t c =
-    part-middle (coded t (goal.at.part-returns-in-19-to-255 t c).After-shared_slice_known-2-1) (omega arith) (omega arith) (omega arith)
+    part-middle (coded t (goal.at.part-returns-in-19-to-255 t c).After-shared_slice_known-2-1) (omega arith) (omega
+    arith) (omega arith)
 
 pub part-returns-in-256-to-319 : goal.part-returns-in-256-to-319
 part-returns-in-256-to-319 t c =
-    part-outgoing (coded t (goal.at.part-returns-in-256-to-319 t c).After-shared_slice_known-2-1) (omega arith) (omega arith) c.link.ensures
+    part-outgoing (coded t (goal.at.part-returns-in-256-to-319 t c).After-shared_slice_known-2-1) (omega arith)
+    (omega arith) c.link.ensures
 
 pub part-returns-in-320-to-383 : goal.part-returns-in-320-to-383
 part-returns-in-320-to-383 t c =
-    part-incoming (coded t (goal.at.part-returns-in-320-to-383 t c).After-shared_slice_known-2-1) (omega arith) (omega arith)
+    part-incoming (coded t (goal.at.part-returns-in-320-to-383 t c).After-shared_slice_known-2-1) (omega arith)
+    (omega arith)
     c.link-in-320-to-383.ensures
 
 pub part-returns-in_default : goal.part-returns-in_default
-part-returns-in_default t c = part-high (coded t (goal.at.part-returns-in_default t c).After-shared_slice_known-2-1) (omega arith)
+part-returns-in_default t c = part-high (coded t (goal.at.part-returns-in_default t
+    c).After-shared_slice_known-2-1) (omega arith)
 
 pub run-loop-more-init : goal.run-loop-more-init
 run-loop-more-init t c =
@@ -100,4 +110,3 @@ run-shape_of-row t c = c.loop-more.invariant.size
 
 pub run-returns : goal.run-returns
 run-returns t c = remaining-end c.loop-more.invariant (omega arith)
-

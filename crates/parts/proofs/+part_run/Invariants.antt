@@ -1,7 +1,7 @@
 -- The cycle of calls {part, run}. The measure is twice the words left, and one more for a run, which starts with a part
 -- at its own place. The invariant of `run` is `Remaining` of proofs/Remaining, its measure the parts left.
 -- Assumes nothing.
-use Prim.Native.Nat.{ℕ, ◌+◌, ◌-◌, ◌*◌}
+use Prim.Native.Nat.{◌+◌, ◌-◌, ◌*◌}
 use Rattle.parts.proofs.Remaining.{Remaining}
 use Rattle.parts.proofs.+part_run.Given as goal
 

@@ -11,8 +11,18 @@ returns-then-high-eq-NO_LIMIT c = simp (le-ltb _ _ c.if-low-gt-MAX_COUNT.false, 
 
 pub returns-then-high-low : goal.returns-then-high-low
 returns-then-high-low c =
-    simp (le-ltb _ _ c.if-low-gt-MAX_COUNT.false, ne_eqb _ _ c.if-high-eq-NO_LIMIT.false, lt-ltb _ _ c.if-high-low.true)
+    simp (
+      le-ltb _ _ c.if-low-gt-MAX_COUNT.false,
+      ne_eqb _ _ c.if-high-eq-NO_LIMIT.false,
+      lt-ltb _ _
+          c.if-high-low.true,
+    )
 
 pub returns : goal.returns
 returns c =
-    simp (le-ltb _ _ c.if-low-gt-MAX_COUNT.false, ne_eqb _ _ c.if-high-eq-NO_LIMIT.false, le-ltb _ _ c.if-high-low.false)
+    simp (
+      le-ltb _ _ c.if-low-gt-MAX_COUNT.false,
+      ne_eqb _ _ c.if-high-eq-NO_LIMIT.false,
+      le-ltb _ _
+          c.if-high-low.false,
+    )

@@ -22,7 +22,8 @@ returns-then-row-label-ne0 c =
 pub returns-then-sizes-shape : goal.returns-then-sizes-shape
 returns-then-sizes-shape c =
     link-shape c.args.words.now c.args.end c.args.sizes c.args.at c.args.row.now
-    c.args.first c.args.kind.0 c.if-end-at-lt4.false c.if-sizes-kind.false c.if-row-label-ne0.false c.if-sizes-shape.true
+    c.args.first c.args.kind.0 c.if-end-at-lt4.false c.if-sizes-kind.false c.if-row-label-ne0.false
+    c.if-sizes-shape.true
 
 pub returns-then-limits_ok : goal.returns-then-limits_ok
 returns-then-limits_ok c =

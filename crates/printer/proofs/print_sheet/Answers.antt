@@ -23,11 +23,15 @@ pub returns-in-Faulty : goal.returns-in-Faulty
 returns-in-Faulty c =
     let input = c.args.input.now in
     let faulty = c.find_sections-found.ensures.reads ∙ ap (sections_read input) c.in-Faulty.is in let told =
-    written-by input (turned_down 60 0) faulty refl c.put_refused.ensures in record { writes = told.0; inside = told.1; }
+    written-by input (turned_down 60 0) faulty refl c.put_refused.ensures in record {
+      writes = told.0;
+      inside =
+          told.1;
+    }
 
 pub returns-in-Found : goal.returns-in-Found
 returns-in-Found c =
     let input = c.args.input.now in
     let sections = c.find_sections-found.ensures.reads ∙ ap (sections_read input) c.in-Found.is in
     let sheet = c.print_sections.ensures in let told =
-    written-by input _ sections sheet.prints sheet.wrote in record { writes = told.0; inside = told.1; }
+    written-by input _ sections sheet.prints sheet.wrote in record { writes = told.0; inside = told.1 }

@@ -21,8 +21,18 @@ index_names-requires c = names-asked c.requires.links.ready (omega arith)
 
 pub strike_both-requires : goal.strike_both-requires
 strike_both-requires c =
-    record { out = out-ready (goal.at.strike_both-requires c).After-index_names; leaving = c.requires.links.leaving; lent = c.requires.lent }
+    record {
+      out = out-ready (goal.at.strike_both-requires c).After-index_names;
+      leaving =
+          c.requires.links.leaving;
+      lent = c.requires.lent;
+    }
 
 pub strike_rounds-requires : goal.strike_rounds-requires
 strike_rounds-requires c =
-    record { out = out-ready (goal.at.strike_rounds-requires c).After-index_names; only = c.requires.links.ways c.if-incoming.false; lent = c.requires.lent }
+    record {
+      out = out-ready (goal.at.strike_rounds-requires c).After-index_names;
+      only = c.requires.links.ways
+          c.if-incoming.false;
+      lent = c.requires.lent;
+    }

@@ -37,13 +37,19 @@ list_off-tail-requires c =
     }
 
 pub loop-head-init : goal.loop-head-init
-loop-head-init c =
-    (
-      rounds-start c.requires.out.ready
-          (record { full = c.requires.lent.full; room = omega (arith, c.list_off-tail.auto.queue, c.requires.lent.room) })
-          c.list_off-tail.ensures,
-      omega arith,
-    )
+loop-head-init c = (
+  rounds-start c.requires.out.ready
+      (record {
+        full = c.requires.lent.full;
+        room = omega (
+          arith,
+          c.list_off-tail.auto.queue,
+          c.requires.lent.room,
+        );
+      })
+      c.list_off-tail.ensures,
+  omega arith,
+)
 
 pub at_head-tally-requires : goal.at_head-tally-requires
 at_head-tally-requires c = rounds-few c.loop-head.invariant.0
@@ -70,7 +76,8 @@ found-room : (a : After-source_card-m) → a.source_card-m.result * a.args.shape
 found-room a =
     card-low a.args.shapes a.wide-q.result a.requires.out.ready.one-shape a.source_card-m.ensures
 
-left_is : (a : After-source_card-m) → a.wide-q.result - a.source_card-m.result * a.args.shapes ≡ a.wide-q.result % a.args.shapes
+left_is : (a : After-source_card-m) → a.wide-q.result - a.source_card-m.result * a.args.shapes ≡ a.wide-q.result %
+    a.args.shapes
 left_is a =
     shape-left a.args.shapes a.wide-q.result a.requires.out.ready.one-shape a.source_card-m.ensures
 
@@ -90,12 +97,18 @@ strike_sources-tail-requires c =
     let out = c.requires.out in
     let q = c.wide-q.result in
     let cards = get_or c.args.script.now 0 0 in
-    let here = card-in c.args.shapes out.ready.one-shape cards q (read-in (goal.at.strike_sources-tail-requires c).After-wide-q) in
+    let here = card-in c.args.shapes out.ready.one-shape cards q (read-in (goal.at.strike_sources-tail-requires
+    c).After-wide-q) in
     record {
       need = record {
         ready = out.ready;
         places = out.places;
-        shape-in = omega (arith, left_is (goal.at.strike_sources-tail-requires c).After-source_card-m, shape-in c.args.shapes out.ready.one-shape q);
+        shape-in = omega (
+          arith,
+          left_is (goal.at.strike_sources-tail-requires c).After-source_card-m,
+          shape-in
+              c.args.shapes out.ready.one-shape q,
+        );
         full = r.search.full;
         room = rounds-room r;
       };
@@ -115,7 +128,8 @@ loop-head-preserved c =
     let v = work c.strike_sources-tail.new.grid c.strike_sources-tail.new.queue c.strike_sources-tail.result in
     let (r, inside) = levelled (goal.at.loop-head-preserved c).After-at_head-tally in
     let ready = c.requires.out.ready in
-    let swept = sources-same ready c.wide-q.result c.source_card-m.ensures (left_is (goal.at.loop-head-preserved c).After-source_card-m) c.strike_sources-tail.ensures in (
+    let swept = sources-same ready c.wide-q.result c.source_card-m.ensures (left_is (goal.at.loop-head-preserved
+    c).After-source_card-m) c.strike_sources-tail.ensures in (
       rounds-turn r inside
           (subst (λ (q : ℕ). Swept (λ p. Good p q) w v) c.wide-q.ensures.same
           (struck-sources ready c.wide-q.result c.requires.only swept)),

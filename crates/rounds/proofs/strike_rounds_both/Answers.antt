@@ -1,7 +1,7 @@
 -- `rounds::strike_rounds_both` strikes as the rounds of "Largest" do, level by level, by links seen from both ends.
 -- Assumes nothing.
 use mathlib.Core.Path.{subst, sym, ◌∙◌}
-use Prim.Native.Nat.{ℕ, ◌<◌, ◌*◌, ◌-◌}
+use Prim.Native.Nat.{ℕ, ◌<◌, ◌*◌}
 use native.Mathlib.Omega.{arith}
 use lib.ListN.{get_or}
 use Rattle.board.specs.Work.{work, Swept}
@@ -34,13 +34,19 @@ list_off-tail-requires c =
     }
 
 pub loop-head-init : goal.loop-head-init
-loop-head-init c =
-    (
-      rounds-start c.requires.both.out.ready
-          (record { full = c.requires.lent.full; room = omega (arith, c.list_off-tail.auto.queue, c.requires.lent.room) })
-          c.list_off-tail.ensures,
-      omega arith,
-    )
+loop-head-init c = (
+  rounds-start c.requires.both.out.ready
+      (record {
+        full = c.requires.lent.full;
+        room = omega (
+          arith,
+          c.list_off-tail.auto.queue,
+          c.requires.lent.room,
+        );
+      })
+      c.list_off-tail.ensures,
+  omega arith,
+)
 
 pub at_head-tally-requires : goal.at_head-tally-requires
 at_head-tally-requires c = rounds-few c.loop-head.invariant.0
@@ -87,7 +93,8 @@ loop-head-preserved c =
     let (r, inside) = levelled (goal.at.loop-head-preserved c).After-at_head-tally in (
       rounds-turn r inside
           (subst (λ (q : ℕ). Swept (λ p. Good p q) w v) c.wide-q.ensures.same c.strike_needing-tail.ensures),
-      card-last c.requires.both.out.ready (read-in (goal.at.loop-head-preserved c).After-wide-q) c.source_card-m.ensures,
+      card-last c.requires.both.out.ready (read-in (goal.at.loop-head-preserved c).After-wide-q)
+          c.source_card-m.ensures,
     )
 
 pub after_round-requires : goal.after_round-requires

@@ -7,7 +7,8 @@ use Rattle.rounds.proofs.strike_rounds_both.Given as goal
 
 abbrev pub invariant-loop-head : goal.invariant-loop-head
 invariant-loop-head l =
-    Rounding l.script l.names l.shapes l.initial.grid l.initial.queue l.grid l.queue l.tail l.head l.tally × (l.last ≤ get_or l.script 0 0 - 1)
+    Rounding l.script l.names l.shapes l.initial.grid l.initial.queue l.grid l.queue l.tail l.head l.tally ×
+    (l.last ≤ get_or l.script 0 0 - 1)
 
 abbrev pub decreases-loop-head : goal.decreases-loop-head
 decreases-loop-head l =

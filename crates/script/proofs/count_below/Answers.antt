@@ -13,26 +13,25 @@ loop-lo-init c = (omega arith, omega arith, (λ k l. absurd (omega arith)), (λ 
 
 pub loop-lo-preserved-then-wide-card : goal.loop-lo-preserved-then-wide-card
 unfolding from_at
-loop-lo-preserved-then-wide-card c =
-    (
-      omega arith,
-      omega arith,
-      λ k h.
-          lt_of_le_of_lt
-          (starts-rise _ _ c.requires k (c.loop-lo.lo + (c.loop-lo.hi - c.loop-lo.lo) / 2) (omega arith) (omega arith))
-          (omega arith),
-      c.loop-lo.invariant.3,
-    )
+loop-lo-preserved-then-wide-card c = (
+  omega arith,
+  omega arith,
+  λ k h.
+      lt_of_le_of_lt
+      (starts-rise _ _ c.requires k (c.loop-lo.lo + (c.loop-lo.hi - c.loop-lo.lo) / 2) (omega arith) (omega arith))
+      (omega arith),
+  c.loop-lo.invariant.3,
+)
 
 pub loop-lo-preserved : goal.loop-lo-preserved
 unfolding from_at
-loop-lo-preserved c =
-    (
-      omega arith,
-      omega arith,
-      c.loop-lo.invariant.2,
-      λ k a b. le_trans (omega arith) (starts-rise _ _ c.requires (c.loop-lo.lo + (c.loop-lo.hi - c.loop-lo.lo) / 2) k a b),
-    )
+loop-lo-preserved c = (
+  omega arith,
+  omega arith,
+  c.loop-lo.invariant.2,
+  λ k a b. le_trans (omega arith) (starts-rise _ _ c.requires (c.loop-lo.lo + (c.loop-lo.hi - c.loop-lo.lo) /
+      2) k a b),
+)
 
 pub returns : goal.returns
 returns c =

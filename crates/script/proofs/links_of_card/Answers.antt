@@ -15,7 +15,11 @@ at-word base e = ap (λ (x : ℕ). x * 2 + base) e
 pub returns-then-cards-number : goal.returns-then-cards-number
 returns-then-cards-number c =
     let both = both_read _ _ _ _ (sym (ap script_said c.in-Counts.is) ∙ c.read_script-read.ensures) in
-    let outside = c.if-cards-number.true in record { list = card-links-outside _ _ _ _ _ both outside; lent = refl; place =  at-word _ (links-start-outside _ _ _ _ _ both outside); }
+    let outside = c.if-cards-number.true in record {
+      list = card-links-outside _ _ _ _ _ both outside;
+      lent = refl;
+      place = at-word _ (links-start-outside _ _ _ _ _ both outside);
+    }
 
 pub card_part-requires : goal.card_part-requires
 card_part-requires c =
@@ -31,9 +35,19 @@ returns-else-cards-number c =
     let inside = c.if-cards-number.false in
     let words = card-links-part _ _ _ _ _ both inside in
     let start = at-word _ (links-start-part _ _ _ _ _ both inside) in
-    let part = c.card_part.ensures in record { list =
-      part.list ∙ rw (c.wide-in-Counts.ensures.same, c.wide.ensures.same) words; lent = part.lent; place =  part.place ∙ rw (c.wide-in-Counts.ensures.same, c.wide.ensures.same) start; }
+    let part = c.card_part.ensures in record {
+      list =
+          part.list ∙ rw (c.wide-in-Counts.ensures.same, c.wide.ensures.same) words;
+      lent = part.lent;
+      place =
+          part.place ∙ rw (c.wide-in-Counts.ensures.same, c.wide.ensures.same) start;
+    }
 
 pub returns-in-Refused : goal.returns-in-Refused
 returns-in-Refused c =
-    let said = sym (ap script_said c.in-Refused.is) ∙ c.read_script-read.ensures in record { list = card-links-none _ _ _ _ _ said; lent = refl; place =  at-word _ (links-start-none _ _ _ _ _ said); }
+    let said = sym (ap script_said c.in-Refused.is) ∙ c.read_script-read.ensures in record {
+      list = card-links-none
+          _ _ _ _ _ said;
+      lent = refl;
+      place = at-word _ (links-start-none _ _ _ _ _ said);
+    }

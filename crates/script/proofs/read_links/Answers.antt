@@ -14,12 +14,11 @@ loop-i-init c =
     (omega arith, rw e refl)
 
 pub loop-i-preserved : goal.loop-i-preserved
-loop-i-preserved c =
-    (
-      omega arith,
-      c.loop-i.invariant.1
-          ∙ links-next _ _ _ _ _ _ _ (omega arith) c.test_link-test.ensures c.in-Passed.is,
-    )
+loop-i-preserved c = (
+  omega arith,
+  c.loop-i.invariant.1
+      ∙ links-next _ _ _ _ _ _ _ (omega arith) c.test_link-test.ensures c.in-Passed.is,
+)
 
 pub returns-in-Refused : goal.returns-in-Refused
 returns-in-Refused c =

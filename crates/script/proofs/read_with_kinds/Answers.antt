@@ -14,7 +14,8 @@ pub returns-then-wide-gt-MAX_CARDS : goal.returns-then-wide-gt-MAX_CARDS
 returns-then-wide-gt-MAX_CARDS c = sym (ap (said_of script_values) (script-cards _ _ (omega arith) (omega arith)))
 
 pub returns-then-wide-gt-MAX_LINKS : goal.returns-then-wide-gt-MAX_LINKS
-returns-then-wide-gt-MAX_LINKS c = sym (ap (said_of script_values) (script-links _ _ (omega arith) (omega arith) (omega arith)))
+returns-then-wide-gt-MAX_LINKS c = sym (ap (said_of script_values) (script-links _ _ (omega arith) (omega arith)
+    (omega arith)))
 
 pub returns-then-script-wide : goal.returns-then-script-wide
 returns-then-script-wide c =

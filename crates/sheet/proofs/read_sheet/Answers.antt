@@ -26,7 +26,9 @@ full w =
 
 pub names_incoming-incoming-requires : goal.names_incoming-incoming-requires
 names_incoming-incoming-requires c =
-    ways-asked _ _ _ _ (said (goal.at.names_incoming-incoming-requires c).After-read_with_kinds-second) _ _ (full (goal.at.names_incoming-incoming-requires c).After-read_with_kinds-second) c.wide.ensures.same c.wide-in-Counts-second.ensures.same
+    ways-asked _ _ _ _ (said (goal.at.names_incoming-incoming-requires c).After-read_with_kinds-second) _ _ (full
+    (goal.at.names_incoming-incoming-requires c).After-read_with_kinds-second) c.wide.ensures.same
+    c.wide-in-Counts-second.ensures.same
 
 pub returns-in-Refused : goal.returns-in-Refused
 returns-in-Refused c =
@@ -34,16 +36,19 @@ returns-in-Refused c =
 
 pub returns-in-Refused-second : goal.returns-in-Refused-second
 returns-in-Refused-second c =
-    sheet-script _ _ _ _ _ _ (said (goal.at.returns-in-Refused-second c).After-read_with_kinds-second) (sym (ap script_said c.in-Refused-second.is) ∙ c.read_with_kinds-second.ensures)
+    sheet-script _ _ _ _ _ _ (said (goal.at.returns-in-Refused-second c).After-read_with_kinds-second) (sym (ap
+    script_said c.in-Refused-second.is) ∙ c.read_with_kinds-second.ensures)
 
 pub returns-in-Counts-second : goal.returns-in-Counts-second
 returns-in-Counts-second c =
     let counts = sym (ap script_said c.in-Counts-second.is) in
     let table = c.read_names-first.ensures.table in
     record {
-      opened = sheet-opened _ _ _ (said (goal.at.returns-in-Counts-second c).After-read_with_kinds-second) (counts ∙ c.read_with_kinds-second.ensures);
+      opened = sheet-opened _ _ _ (said (goal.at.returns-in-Counts-second c).After-read_with_kinds-second) (counts
+          ∙ c.read_with_kinds-second.ensures);
       table = table;
       room = full (goal.at.returns-in-Counts-second c).After-read_with_kinds-second;
-      ways = λ e. all-outgoing _ c.read_names-first.new.names _ _ (said (goal.at.returns-in-Counts-second c).After-read_with_kinds-second) _ _ table
+      ways = λ e. all-outgoing _ c.read_names-first.new.names _ _ (said (goal.at.returns-in-Counts-second
+          c).After-read_with_kinds-second) _ _ table
           c.wide.ensures.same c.wide-in-Counts-second.ensures.same (c.names_incoming-incoming.ensures e);
     }

@@ -1,5 +1,4 @@
 -- `sheet::some_named` meets its contract. The invariant: the entries before k are 0. Assumes nothing.
-use Prim.Native.Nat.{◌-◌}
 use mathlib.Core.Path.{◌≡◌, refl}
 use native.Mathlib.Omega.{arith}
 use lib.ListN.{get_or}
@@ -15,8 +14,13 @@ returns-then-entries-k-ne0 c e = never_both refl e
 
 pub loop-k-preserved : goal.loop-k-preserved
 loop-k-preserved c =
-    let entries = c.args.entries.now in
-    (omega arith, below_more (λ j. get_or entries j 0 ≡ 0) c.loop-k.k c.loop-k.invariant.1 (omega (arith, c.if-entries-k-ne0.false)))
+    let entries = c.args.entries.now in (
+      omega arith,
+      below_more (λ j. get_or entries j 0 ≡ 0) c.loop-k.k c.loop-k.invariant.1 (omega (
+        arith,
+        c.if-entries-k-ne0.false,
+      )),
+    )
 
 pub returns : goal.returns
 returns c e j h = c.loop-k.invariant.1 j (omega arith)

@@ -1,6 +1,6 @@
 -- `template::all_shapes` meets its contract. The invariant is `Filling` of proofs/Table, the measure the shapes left.
 -- Assumes nothing.
-use Prim.Native.Nat.{◌-◌, ◌<◌}
+use Prim.Native.Nat.{◌<◌}
 use mathlib.Core.Path.{ap}
 use native.Mathlib.Omega.{arith}
 use lib.ListN.{length}
@@ -23,7 +23,8 @@ shape_from-first-requires c =
     record {
       kinds-high = c.requires.kinds-high;
       shapes-high = c.requires.shapes-high;
-      unnamed = filling-row c.loop-t.invariant (below (goal.at.shape_from-first-requires c).In-loop-t) c.requires.shapes-high;
+      unnamed = filling-row c.loop-t.invariant (below (goal.at.shape_from-first-requires c).In-loop-t)
+          c.requires.shapes-high;
     }
 
 pub loop-t-preserved : goal.loop-t-preserved

@@ -23,12 +23,14 @@ returns-then-words-at c =
 
 pub returns-then-words-start : goal.returns-then-words-start
 returns-then-words-start c =
-    shape-long c.args.sizes c.args.words.now c.args.at c.wide-count.result (inside (goal.at.returns-then-words-start c).After-wide-count)
+    shape-long c.args.sizes c.args.words.now c.args.at c.wide-count.result (inside
+    (goal.at.returns-then-words-start c).After-wide-count)
     c.wide-count.ensures.same c.args.row.now c.if-words-start.true
 
 pub returns-then-count-eq0 : goal.returns-then-count-eq0
 returns-then-count-eq0 c =
-    shape-empty c.args.sizes c.args.words.now c.args.at c.wide-count.result (inside (goal.at.returns-then-count-eq0 c).After-wide-count)
+    shape-empty c.args.sizes c.args.words.now c.args.at c.wide-count.result (inside (goal.at.returns-then-count-eq0
+    c).After-wide-count)
     c.wide-count.ensures.same c.if-words-start.false c.args.row.now c.if-count-eq0.true
 
 pub part-whole-requires : goal.part-whole-requires
@@ -38,20 +40,26 @@ part-whole-requires c =
 
 pub returns-then-next-end : goal.returns-then-next-end
 returns-then-next-end c =
-    shape-left c.args.sizes c.args.words.now c.args.at c.wide-count.result (inside (goal.at.returns-then-next-end c).After-wide-count)
-    c.wide-count.ensures.same (follow (goal.at.returns-then-next-end c).After-part-whole) c.args.row.now c.part_at-first.result c.part-whole.result _
+    shape-left c.args.sizes c.args.words.now c.args.at c.wide-count.result (inside (goal.at.returns-then-next-end
+    c).After-wide-count)
+    c.wide-count.ensures.same (follow (goal.at.returns-then-next-end c).After-part-whole) c.args.row.now
+    c.part_at-first.result c.part-whole.result _
     c.requires.unnamed c.part_at-first.ensures c.part-whole.ensures _ c.in-Next.is
     c.if-next-end.true
 
 pub returns-else-next-end : goal.returns-else-next-end
 returns-else-next-end c =
-    shape-done c.args.sizes c.args.words.now c.args.at c.wide-count.result (inside (goal.at.returns-else-next-end c).After-wide-count)
-    c.wide-count.ensures.same (follow (goal.at.returns-else-next-end c).After-part-whole) c.args.row.now c.part_at-first.result c.part-whole.result _
+    shape-done c.args.sizes c.args.words.now c.args.at c.wide-count.result (inside (goal.at.returns-else-next-end
+    c).After-wide-count)
+    c.wide-count.ensures.same (follow (goal.at.returns-else-next-end c).After-part-whole) c.args.row.now
+    c.part_at-first.result c.part-whole.result _
     c.requires.unnamed c.part_at-first.ensures c.part-whole.ensures _ c.requires.kinds-high
     c.in-Next.is c.if-next-end.false
 
 pub returns-in-Refused : goal.returns-in-Refused
 returns-in-Refused c =
-    shape-refused c.args.sizes c.args.words.now c.args.at c.wide-count.result (inside (goal.at.returns-in-Refused c).After-wide-count)
-    c.wide-count.ensures.same (follow (goal.at.returns-in-Refused c).After-part-whole) c.args.row.now c.part_at-first.result c.part-whole.result _
+    shape-refused c.args.sizes c.args.words.now c.args.at c.wide-count.result (inside (goal.at.returns-in-Refused
+    c).After-wide-count)
+    c.wide-count.ensures.same (follow (goal.at.returns-in-Refused c).After-part-whole) c.args.row.now
+    c.part_at-first.result c.part-whole.result _
     c.requires.unnamed c.part_at-first.ensures c.part-whole.ensures _ _ c.in-Refused.is

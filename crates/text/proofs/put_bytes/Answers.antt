@@ -1,6 +1,6 @@
 -- `text::put_bytes` writes bytes. The invariant: those below `i` are written. Assumes nothing.
 use mathlib.Core.Path.{◌≡◌, refl, ◌∙◌, ap}
-use Prim.Native.Nat.{ℕ, ◌-◌}
+use Prim.Native.Nat.{ℕ}
 use native.Mathlib.Omega.{arith}
 use lib.Seq.{length-take-le, take-length}
 use lib.ListN.{length, take}
@@ -18,13 +18,12 @@ put_byte-next-requires c =
     omega (arith, length-take-le c.loop-i.i text (omega arith))
 
 pub loop-i-preserved : goal.loop-i-preserved
-loop-i-preserved c =
-    (
-      omega arith,
-      omega arith,
-      wrote-next c.args.text.now c.loop-i.i (omega arith)
-          c.loop-i.invariant.2 c.put_byte-next.ensures,
-    )
+loop-i-preserved c = (
+  omega arith,
+  omega arith,
+  wrote-next c.args.text.now c.loop-i.i (omega arith)
+      c.loop-i.invariant.2 c.put_byte-next.ensures,
+)
 
 pub returns : goal.returns
 returns c =

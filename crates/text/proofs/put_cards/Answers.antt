@@ -1,6 +1,5 @@
 -- `text::put_cards` writes the cards' lines. The invariant: those of the cards below `n` are written. Assumes nothing.
 use mathlib.Core.Path.{◌≡◌, refl, sym, ap}
-use Prim.Native.Nat.{◌-◌}
 use native.Mathlib.Omega.{arith}
 use Rattle.text.specs.Text.{card_lines}
 use Rattle.words.proofs.Writing.{wrote_nothing, wrote-same, wrote-append}

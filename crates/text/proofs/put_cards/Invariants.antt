@@ -8,7 +8,8 @@ use Rattle.text.proofs.put_cards.Given as goal
 
 abbrev pub invariant-loop-n : goal.invariant-loop-n
 invariant-loop-n l =
-    (l.n ≤ l.cards) × (length l.out ≡ length l.initial.out) × Wrote l.initial.out l.at (card_lines l.grid l.shapes l.n) l.out l.next
+    (l.n ≤ l.cards) × (length l.out ≡ length l.initial.out) × Wrote l.initial.out l.at (card_lines l.grid l.shapes
+    l.n) l.out l.next
 
 abbrev pub decreases-loop-n : goal.decreases-loop-n
 decreases-loop-n l = l.cards - l.n

@@ -1,6 +1,5 @@
 -- `text::put_shapes` writes a card's shapes. The invariant: those below `shape` are written. Assumes nothing.
 use mathlib.Core.Path.{◌≡◌, refl, sym, ap}
-use Prim.Native.Nat.{◌-◌}
 use native.Mathlib.Omega.{arith}
 use Rattle.text.specs.Text.{shapes_text}
 use Rattle.words.proofs.Writing.{wrote_nothing, wrote-same, wrote-append}

@@ -25,7 +25,8 @@ stored : (c : In-Count) → let e = c.in-Sheet.e in
     read_stored e.cards e.shapes c.args.bookings.now
     ≡ accepted c.in-Count.count
 stored c =
-    list_read (reading (goal.at.In-Count c).After-read_sheet-read) (known (goal.at.In-Count c).In-Sheet) c.read_stored-list.ensures
+    list_read (reading (goal.at.In-Count c).After-read_sheet-read) (known (goal.at.In-Count c).In-Sheet)
+    c.read_stored-list.ensures
     c.in-Count.is
 
 -- the count that is read is the list's first word
@@ -38,7 +39,8 @@ returns-then-out-wide c =
     let s = c.args in
     let k = known (goal.at.returns-then-out-wide c).In-Sheet in
     tidy-size s.template.now s.script.now s.bookings.now (sheet k)
-    (list-taken (reading (goal.at.returns-then-out-wide c).After-read_sheet-read) k (stored (goal.at.returns-then-out-wide c).In-Count)) s.out.now
+    (list-taken (reading (goal.at.returns-then-out-wide c).After-read_sheet-read) k (stored
+    (goal.at.returns-then-out-wide c).In-Count)) s.out.now
     (λ e. omega (arith, e, c.wide.ensures.same, counted (goal.at.returns-then-out-wide c).In-Count))
 
 pub tidy-requires : goal.tidy-requires
@@ -60,18 +62,21 @@ pub returns-in-Refused : goal.returns-in-Refused
 returns-in-Refused c =
     let s = c.args in
     tidy-refused s.template.now s.script.now s.bookings.now s.out.now _ _
-    (sheet-refused _ _ _ c.read_sheet-read.ensures (reading (goal.at.returns-in-Refused c).After-read_sheet-read) c.in-Refused.is)
+    (sheet-refused _ _ _ c.read_sheet-read.ensures (reading (goal.at.returns-in-Refused c).After-read_sheet-read)
+    c.in-Refused.is)
 
 pub returns-in-Refused-list : goal.returns-in-Refused-list
 returns-in-Refused-list c =
     let s = c.args in
     tidy-refused s.template.now s.script.now s.bookings.now s.out.now _ _
-    (list-refused (reading (goal.at.returns-in-Refused-list c).After-read_sheet-read) (known (goal.at.returns-in-Refused-list c).In-Sheet) c.read_stored-list.ensures c.in-Refused-list.is)
+    (list-refused (reading (goal.at.returns-in-Refused-list c).After-read_sheet-read) (known
+    (goal.at.returns-in-Refused-list c).In-Sheet) c.read_stored-list.ensures c.in-Refused-list.is)
 
 pub returns-else-out-wide : goal.returns-else-out-wide
 returns-else-out-wide c =
     let s = c.args in
     let k = known (goal.at.returns-else-out-wide c).In-Sheet in
     tidy-done s.template.now s.script.now s.bookings.now (sheet k)
-    (list-taken (reading (goal.at.returns-else-out-wide c).After-read_sheet-read) k (stored (goal.at.returns-else-out-wide c).In-Count)) s.out.now _ _
+    (list-taken (reading (goal.at.returns-else-out-wide c).After-read_sheet-read) k (stored
+    (goal.at.returns-else-out-wide c).In-Count)) s.out.now _ _
     (omega (arith, c.wide.ensures.same, counted (goal.at.returns-else-out-wide c).In-Count)) c.tidy.ensures

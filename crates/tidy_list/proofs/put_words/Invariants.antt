@@ -9,7 +9,8 @@ use Rattle.tidy_list.proofs.put_words.Given as goal
 
 abbrev pub invariant-loop-i : goal.invariant-loop-i
 invariant-loop-i l =
-    (l.i ≤ length l.words) × (length l.out ≡ length l.initial.out) × Wrote l.initial.out 0 (write_words (take l.i l.words)) l.out l.next
+    (l.i ≤ length l.words) × (length l.out ≡ length l.initial.out) × Wrote l.initial.out 0 (write_words (take l.i
+    l.words)) l.out l.next
 
 abbrev pub decreases-loop-i : goal.decreases-loop-i
 decreases-loop-i l = length l.words - l.i

@@ -25,11 +25,14 @@ answered c =
     c.requires.sized
     c.tidy_bookings-said.result c.tidy_bookings-said.ensures
 
-refused : (k : In-Refused) → ToldBy (goal.at.In-Refused k).After-tidy_bookings-said (write.Refused k.in-Refused.number k.in-Refused.place)
-refused k = subst (ToldBy (goal.at.In-Refused k).After-tidy_bookings-said) k.in-Refused.is (answered (goal.at.In-Refused k).After-tidy_bookings-said)
+refused : (k : In-Refused) → ToldBy (goal.at.In-Refused k).After-tidy_bookings-said (write.Refused
+    k.in-Refused.number k.in-Refused.place)
+refused k = subst (ToldBy (goal.at.In-Refused k).After-tidy_bookings-said) k.in-Refused.is (answered
+    (goal.at.In-Refused k).After-tidy_bookings-said)
 
 written : (k : In-Written) → ToldBy (goal.at.In-Written k).After-tidy_bookings-said (write.Written k.in-Written.count)
-written k = subst (ToldBy (goal.at.In-Written k).After-tidy_bookings-said) k.in-Written.is (answered (goal.at.In-Written k).After-tidy_bookings-said)
+written k = subst (ToldBy (goal.at.In-Written k).After-tidy_bookings-said) k.in-Written.is (answered
+    (goal.at.In-Written k).After-tidy_bookings-said)
 
 -- The words that were written, and the buffer that they are a part of.
 abbrev count : In-Written → ℕ
@@ -53,7 +56,8 @@ put_words-requires c =
     omega (
       arith,
       words_size (lent (goal.at.put_words-requires c).In-Written),
-      length-take-le (count (goal.at.put_words-requires c).In-Written - 0) (list-after (goal.at.put_words-requires c).In-Written) (omega (arith, (written (goal.at.put_words-requires c).In-Written).2)),
+      length-take-le (count (goal.at.put_words-requires c).In-Written - 0) (list-after (goal.at.put_words-requires
+          c).In-Written) (omega (arith, (written (goal.at.put_words-requires c).In-Written).2)),
       (written (goal.at.put_words-requires c).In-Written).2,
       c.requires.sized.few,
       c.requires.room,
@@ -65,5 +69,8 @@ returns-in-Refused c =
 
 pub returns-in-Written : goal.returns-in-Written
 returns-in-Written c =
-    let all : count (goal.at.returns-in-Written c).In-Written - 0 ≡ count (goal.at.returns-in-Written c).In-Written = omega arith in
-    list_wrote (written (goal.at.returns-in-Written c).In-Written).0 (ap (λ (n : ℕ). take n (list-after (goal.at.returns-in-Written c).In-Written)) all ∙ (written (goal.at.returns-in-Written c).In-Written).1) c.put_words.ensures
+    let all : count (goal.at.returns-in-Written c).In-Written - 0 ≡ count (goal.at.returns-in-Written c).In-Written
+    = omega arith in
+    list_wrote (written (goal.at.returns-in-Written c).In-Written).0 (ap (λ (n : ℕ). take n (list-after
+    (goal.at.returns-in-Written c).In-Written)) all ∙ (written (goal.at.returns-in-Written c).In-Written).1)
+    c.put_words.ensures

@@ -21,13 +21,19 @@ tidy_sections-requires c =
 pub returns-in-Faulty : goal.returns-in-Faulty
 returns-in-Faulty c =
     let input = c.args.input.now in
-    let line = c.put_refused.ensures in record { writes =
-      faulty-wrote input (c.find_sections-found.ensures.reads ∙ ap (sections_read input) c.in-Faulty.is) line; inside =
-      wrote-counted line; }
+    let line = c.put_refused.ensures in record {
+      writes =
+          faulty-wrote input (c.find_sections-found.ensures.reads ∙ ap (sections_read input) c.in-Faulty.is) line;
+      inside =
+          wrote-counted line;
+    }
 
 pub returns-in-Found : goal.returns-in-Found
 returns-in-Found c =
     let input = c.args.input.now in
-    let text = c.tidy_sections.ensures in record { writes =
-      input-wrote input (c.find_sections-found.ensures.reads ∙ ap (sections_read input) c.in-Found.is) text; inside =
-      wrote-counted text; }
+    let text = c.tidy_sections.ensures in record {
+      writes =
+          input-wrote input (c.find_sections-found.ensures.reads ∙ ap (sections_read input) c.in-Found.is) text;
+      inside =
+          wrote-counted text;
+    }

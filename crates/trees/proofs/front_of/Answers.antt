@@ -1,6 +1,5 @@
 -- `front_of` meets its contract. The invariant: wrappers stand before the loop's place, and their effect is
 -- known. The measure is the count of words left. Assumes nothing.
-use Prim.Native.Nat.{◌-◌}
 use native.Mathlib.Omega.{arith}
 use Rattle.words.proofs.Bools.{false_of_not, true_of_not}
 use Rattle.trees.proofs.Wrapping.{front-start, front-more, front-stops}

@@ -10,4 +10,11 @@ returns-then-code-eq0 c = record { yes = λ y. absurd (false≢true y); no = λ 
 pub returns : goal.returns
 returns c =
     let code = c.args.code in
-    record { yes = λ y. (omega arith, omega (arith, ltb-true code _ y)); no = λ f l. omega (arith, ltb-false code _ f) }
+    record {
+      yes = λ y. (omega arith, omega (arith, ltb-true code _ y));
+      no = λ f l. omega (
+        arith,
+        ltb-false code _
+            f,
+      );
+    }

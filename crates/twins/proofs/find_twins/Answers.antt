@@ -1,6 +1,5 @@
 -- `twins::find_twins` meets its contract. The invariant: the cards before the loop's have their twins, and the table
 -- of marks has no other card. The measure is the count of cards left. Assumes nothing.
-use Prim.Native.Nat.{◌-◌}
 use mathlib.Core.Path.{refl}
 use native.Mathlib.Omega.{arith}
 use Rattle.links.proofs.Leaving.{leaving-fewer}

@@ -1,6 +1,5 @@
 -- `twins::same_kinds` compares the kinds one by one: those before the place are the same. Assumes nothing.
 use native.Mathlib.Omega.{arith}
-use Prim.Native.Nat.{◌-◌}
 use mathlib.Core.Bool.{false≢true}
 use Rattle.twins.proofs.Twins.{same_start, same_more, same-done}
 use Rattle.twins.proofs.same_kinds.Goals as goal

@@ -14,7 +14,8 @@ use Rattle.bookings.proofs.Repeats.{booking-same, Looking, look-start, look-card
 use Rattle.bookings.proofs.Repeats.{look_none, entered-again, entered-new}
 use Rattle.bookings.proofs.lookup.enter_booking.Invariants.{it}
 use Rattle.bookings.proofs.lookup.enter_booking.Goals as goal
-use Rattle.bookings.proofs.lookup.enter_booking.Goals.{After-wide-at-in-loop-at, At-loop-at, In-loop-at, Joined-else-shape_at-shape}
+use Rattle.bookings.proofs.lookup.enter_booking.Goals.{After-wide-at-in-loop-at, At-loop-at, In-loop-at}
+use Rattle.bookings.proofs.lookup.enter_booking.Goals.{Joined-else-shape_at-shape}
 
 -- the card as a size is the card
 card-here : (l : At-loop-at) → l.wide-n.result ≡ l.args.card.0
@@ -70,7 +71,8 @@ pub returns-then-desk_at-desk : goal.returns-then-desk_at-desk
 returns-then-desk_at-desk c =
     let some = c.loop-at-test.true in
     entered-again c.requires (look-found (seen (goal.at.returns-then-desk_at-desk c).At-loop-at) some (booking-same
-    (sym c.desk_at.ensures ∙ eqb-true _ _ c.if-desk_at-desk.true-raw) (look-card (seen (goal.at.returns-then-desk_at-desk c).At-loop-at) some)
+    (sym c.desk_at.ensures ∙ eqb-true _ _ c.if-desk_at-desk.true-raw) (look-card (seen
+    (goal.at.returns-then-desk_at-desk c).At-loop-at) some)
     (omega (arith, c.shape_at.ensures, c.if-shape_at-shape.true))))
 
 pub bounds-next-j : goal.bounds-next-j
@@ -89,4 +91,5 @@ loop-at-preserved c =
 
 pub returns : goal.returns
 returns c =
-    rw (card-here (goal.at.returns c).At-loop-at) (entered-new c.requires (look_none (seen (goal.at.returns c).At-loop-at) (omega arith)))
+    rw (card-here (goal.at.returns c).At-loop-at) (entered-new c.requires (look_none (seen (goal.at.returns
+    c).At-loop-at) (omega arith)))

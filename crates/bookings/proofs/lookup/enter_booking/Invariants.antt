@@ -1,7 +1,7 @@
 -- `bookings::enter_booking` looks a booking up along the chain of its card. The invariant: what is below the booking
 -- that it stands at decides.
 -- Assumes nothing.
-use Prim.Native.Nat.{ℕ, ◌-◌}
+use Prim.Native.Nat.{ℕ}
 use Rattle.bookings.specs.Bookings.{Booking}
 use Rattle.bookings.proofs.Repeats.{Looking}
 use Rattle.bookings.proofs.lookup.enter_booking.Given as goal

@@ -1,19 +1,20 @@
 -- `flat::meet::meet_leaving` goes along the links run by run; the invariant is Walked.
 -- Assumes nothing.
-use Prim.Native.Nat.{ℕ, ◌+◌, ◌-◌, ◌*◌, ◌≤◌, ◌<◌}
+use Prim.Native.Nat.{ℕ, ◌+◌, ◌*◌, ◌≤◌, ◌<◌}
 use mathlib.Core.Path.{◌≡◌, refl, ◌∙◌, ap}
 use mathlib.Core.Logic.{⊎_elim}
 use mathlib.Core.Bool.{false}
 use native.Mathlib.Omega.{arith}
 use lib.ListN.{length, get_or}
 use Rattle.words.specs.Limits.{max_kinds, max_links}
-use Rattle.words.proofs.Bools.{never_both, not_of_false, false_of_not}
+use Rattle.words.proofs.Bools.{never_both, false_of_not}
 use Rattle.flat.specs.Meeting.{LinkAsked}
 use Rattle.flat.proofs.MeetingCards.{met-few, demand-few}
 use Rattle.flat.proofs.Along.{walked_start, walked-kind, walked-asked, walked-few, walked-unnamed}
 use Rattle.flat.proofs.Along.{walked_next, walked-done}
 use Rattle.flat.proofs.meet.meet_leaving.Goals as goal
-use Rattle.flat.proofs.meet.meet_leaving.Goals.{After-run_length-count, After-wide-place, In-loop-at, Joined-else-place-eq0}
+use Rattle.flat.proofs.meet.meet_leaving.Goals.{After-run_length-count, After-wide-place, In-loop-at}
+use Rattle.flat.proofs.meet.meet_leaving.Goals.{Joined-else-place-eq0}
 
 -- The kind and the place of a turn.
 abbrev kind : In-loop-at → ℕ
@@ -43,7 +44,8 @@ few : (c : After-run_length-count)
     × (c.loop-at.at + 3 * c.run_length-count.result
     ≤ 1 + length c.args.links.now)
 few c =
-    walked-few c.requires c.loop-at.invariant c.loop-at-test.true (kind (goal.at.After-run_length-count c).In-loop-at) refl _ (place_is (goal.at.After-run_length-count c).After-wide-place) _
+    walked-few c.requires c.loop-at.invariant c.loop-at-test.true (kind (goal.at.After-run_length-count
+    c).In-loop-at) refl _ (place_is (goal.at.After-run_length-count c).After-wide-place) _
     c.run_length-count.ensures
 
 pub loop-at-init : goal.loop-at-init
@@ -52,17 +54,20 @@ loop-at-init c = walked_start _ _ _ _
 pub bounds-places-wide : goal.bounds-places-wide
 bounds-places-wide c =
     let below : kind (goal.at.bounds-places-wide c).In-loop-at < max_kinds =
-    walked-kind c.requires c.loop-at.invariant c.loop-at-test.true (kind (goal.at.bounds-places-wide c).In-loop-at) refl in
+    walked-kind c.requires c.loop-at.invariant c.loop-at-test.true (kind (goal.at.bounds-places-wide c).In-loop-at)
+    refl in
     omega (arith, c.wide.ensures.same, c.requires.placed.full)
 
 pub returns-then-not-is_open : goal.returns-then-not-is_open
 returns-then-not-is_open c =
-    walked-unnamed c.requires c.loop-at.invariant c.loop-at-test.true (kind (goal.at.returns-then-not-is_open c).In-loop-at) refl _ (place_is (goal.at.returns-then-not-is_open c).After-wide-place)
+    walked-unnamed c.requires c.loop-at.invariant c.loop-at-test.true (kind (goal.at.returns-then-not-is_open
+    c).In-loop-at) refl _ (place_is (goal.at.returns-then-not-is_open c).After-wide-place)
     (false_of_not c.if-not-is_open.true-raw) c.if-place-eq0.true
 
 pub run_length-count-requires : goal.run_length-count-requires
 run_length-count-requires c =
-    walked-asked c.requires c.loop-at.invariant c.loop-at-test.true (kind (goal.at.run_length-count-requires c).In-loop-at) refl
+    walked-asked c.requires c.loop-at.invariant c.loop-at-test.true (kind (goal.at.run_length-count-requires
+    c).In-loop-at) refl
 
 pub overflow_cast-count : goal.overflow_cast-count
 overflow_cast-count c = omega (arith, few c)
@@ -90,8 +95,10 @@ loop-at-smaller c = omega (arith, few (goal.at.loop-at-smaller c).After-run_leng
 pub loop-at-preserved : goal.loop-at-preserved
 loop-at-preserved c =
     rw c.must-found.ensures
-    (walked_next c.requires c.loop-at.invariant c.loop-at-test.true (kind (goal.at.loop-at-preserved c).In-loop-at) refl _
-    (place_is (goal.at.loop-at-preserved c).After-wide-place) _ c.run_length-count.ensures _ (named (goal.at.loop-at-preserved c).Joined-else-place-eq0) c.meet_link-span.ensures)
+    (walked_next c.requires c.loop-at.invariant c.loop-at-test.true (kind (goal.at.loop-at-preserved c).In-loop-at)
+    refl _
+    (place_is (goal.at.loop-at-preserved c).After-wide-place) _ c.run_length-count.ensures _ (named
+    (goal.at.loop-at-preserved c).Joined-else-place-eq0) c.meet_link-span.ensures)
 
 pub returns : goal.returns
 returns c = walked-done c.requires c.loop-at.invariant c.loop-at-test.false

@@ -1,6 +1,6 @@
 -- `flat::survey_part` surveys a part. The invariant: of every part that stands there some run is left. The measure is
 -- the number of words that are left. Assumes nothing.
-use Prim.Native.Nat.{ℕ, ◌+◌, ◌-◌}
+use Prim.Native.Nat.{ℕ, ◌+◌}
 use mathlib.Core.Path.{◌≡◌, sym, ◌∙◌, ap}
 use mathlib.Core.List.{List}
 use native.Mathlib.Omega.{arith}
@@ -47,12 +47,19 @@ next c p standing =
     pending_next (step c) before.0 before.1 c.loop-at.invariant.0 (omega arith) c.requires.end-in
 
 pub loop-at-init : goal.loop-at-init
-loop-at-init c =
-    (c.requires.start, λ p standing. (more p none, pending-start c.args.places.now standing (full (goal.at.loop-at-init c).Start) (blank (goal.at.loop-at-init c).Start)))
+loop-at-init c = (
+  c.requires.start,
+  λ p standing. (
+    more p none,
+    pending-start c.args.places.now standing (full
+        (goal.at.loop-at-init c).Start) (blank (goal.at.loop-at-init c).Start),
+  ),
+)
 
 pub shape_of-places-then-size-eq0 : goal.shape_of-places-then-size-eq0
 shape_of-places-then-size-eq0 c =
-    (left (goal.at.shape_of-places-then-size-eq0 c).At-loop-at).1.placed.full ∙ sym (full (goal.at.shape_of-places-then-size-eq0 c).Start)
+    (left (goal.at.shape_of-places-then-size-eq0 c).At-loop-at).1.placed.full ∙ sym (full
+    (goal.at.shape_of-places-then-size-eq0 c).Start)
 
 pub returns-then-size-eq0 : goal.returns-then-size-eq0
 returns-then-size-eq0 c p standing = tt
@@ -96,7 +103,8 @@ pub loop-at-preserved : goal.loop-at-preserved
 loop-at-preserved c = (omega (arith, c.loop-at.invariant.0), next c)
 
 pub shape_of-places : goal.shape_of-places
-shape_of-places c = (left (goal.at.shape_of-places c).At-loop-at).1.placed.full ∙ sym (full (goal.at.shape_of-places c).Start)
+shape_of-places c = (left (goal.at.shape_of-places c).At-loop-at).1.placed.full ∙ sym (full
+    (goal.at.shape_of-places c).Start)
 
 pub returns : goal.returns
 returns c p standing =

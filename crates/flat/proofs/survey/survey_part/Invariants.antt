@@ -8,7 +8,8 @@ use Rattle.flat.proofs.survey.survey_part.Given as goal
 
 abbrev pub invariant-loop-at : goal.invariant-loop-at
 invariant-loop-at l =
-    (0 < l.at) × ((p : Part) → Standing l.words l.core l.end p → (ps : Parts) × Pending l.words l.end p l.at l.places l.needed ps)
+    (0 < l.at) × ((p : Part) → Standing l.words l.core l.end p → (ps : Parts) × Pending l.words l.end p l.at
+    l.places l.needed ps)
 
 abbrev pub decreases-loop-at : goal.decreases-loop-at
 decreases-loop-at l = l.end - l.at

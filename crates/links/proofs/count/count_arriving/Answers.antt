@@ -31,20 +31,20 @@ next-is a =
     ∙ a.requires.arrivals.chained.nexts (a.loop-at.at - 1) (omega (arith, a.loop-at.invariant.1.bound))
 
 pub loop-at-init : goal.loop-at-init
-loop-at-init c =
-    (
-      refl,
-      arriving-start _ _ _ _ _ c.requires.zeros
-          (c.wide-at.ensures.same
-          ∙ c.requires.arrivals.chained.heads c.args.card (omega (arith, c.requires.arrivals.cards-in))),
-    )
+loop-at-init c = (
+  refl,
+  arriving-start _ _ _ _ _ c.requires.zeros
+      (c.wide-at.ensures.same
+      ∙ c.requires.arrivals.chained.heads c.args.card (omega (arith, c.requires.arrivals.cards-in))),
+)
 
 pub bounds-counts-kind : goal.bounds-counts-kind
 bounds-counts-kind c = kind-in (goal.at.bounds-counts-kind c).After-wide-kind
 
 pub overflow_add-counts : goal.overflow_add-counts
 overflow_add-counts c =
-    let small = arriving-small c.loop-at.invariant.1 c.wide-kind.result (kind-in (goal.at.overflow_add-counts c).After-wide-kind) in
+    let small = arriving-small c.loop-at.invariant.1 c.wide-kind.result (kind-in (goal.at.overflow_add-counts
+    c).After-wide-kind) in
     omega (arith, small, c.requires.within.few)
 
 pub bounds-counts-kind-in-loop-at : goal.bounds-counts-kind-in-loop-at
@@ -55,11 +55,11 @@ loop-at-smaller c =
     arriving-less c.loop-at.invariant.1 (omega arith) (next-is c)
 
 pub loop-at-preserved : goal.loop-at-preserved
-loop-at-preserved c =
-    (
-      simp length-set c.loop-at.invariant.0,
-      arriving-next c.loop-at.invariant.1 (omega arith) (next-is c) c.wide-kind.result (kind-is (goal.at.loop-at-preserved c).After-wide-kind) (kind-in (goal.at.loop-at-preserved c).After-wide-kind),
-    )
+loop-at-preserved c = (
+  simp length-set c.loop-at.invariant.0,
+  arriving-next c.loop-at.invariant.1 (omega arith) (next-is c) c.wide-kind.result (kind-is
+      (goal.at.loop-at-preserved c).After-wide-kind) (kind-in (goal.at.loop-at-preserved c).After-wide-kind),
+)
 
 pub returns : goal.returns
 returns c =

@@ -1,6 +1,5 @@
 -- `links::count_arriving` counts kinds along the chain of the links to a card: at each turn the links counted and
 -- those below the next one are all. Assumes nothing.
-use Prim.Native.Nat.{◌-◌}
 use mathlib.Core.Path.{◌≡◌}
 use lib.ListN.{length}
 use Rattle.links.proofs.Arrivals.{CountedAlong}

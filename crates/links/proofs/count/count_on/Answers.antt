@@ -1,5 +1,4 @@
 -- `links::count_on` counts the links of a kind: before a link those before it are counted. Assumes nothing.
-use Prim.Native.Nat.{◌-◌}
 use mathlib.Core.Logic.{⊎_elim}
 use native.Mathlib.Omega.{arith}
 use Rattle.links.proofs.Runs.{off-start, off-same, off-other, off_small, off-above, off-done}

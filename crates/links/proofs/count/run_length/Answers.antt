@@ -1,5 +1,5 @@
 -- `links::run_length` goes on along the links of one kind: the links passed are of it. Assumes nothing.
-use Prim.Native.Nat.{ℕ, ◌+◌, ◌*◌, ◌-◌}
+use Prim.Native.Nat.{ℕ, ◌+◌, ◌*◌}
 use mathlib.Core.Path.{◌≡◌, sym, ◌∙◌}
 use native.Mathlib.Omega.{arith}
 use lib.ListN.{get_or}
@@ -19,16 +19,16 @@ loop-next-init c = (omega arith, λ first e. run-start c.requires first e)
 
 pub returns-then-links-next : goal.returns-then-links-next
 returns-then-links-next c =
-    λ first e. run_ends c.requires.rise (c.loop-next.invariant.1 first e) (λ h q. c.if-links-next.true (kind-is (goal.at.returns-then-links-next c).At-loop-next first e ∙ q))
+    λ first e. run_ends c.requires.rise (c.loop-next.invariant.1 first e) (λ h q. c.if-links-next.true (kind-is
+    (goal.at.returns-then-links-next c).At-loop-next first e ∙ q))
 
 pub loop-next-preserved : goal.loop-next-preserved
-loop-next-preserved c =
-    (
-      omega arith,
-      λ first e.
-          run_more c.requires.rise (c.loop-next.invariant.1 first e) (omega arith)
-          (sym (kind-is (goal.at.loop-next-preserved c).At-loop-next first e) ∙ c.if-links-next.false),
-    )
+loop-next-preserved c = (
+  omega arith,
+  λ first e.
+      run_more c.requires.rise (c.loop-next.invariant.1 first e) (omega arith)
+      (sym (kind-is (goal.at.loop-next-preserved c).At-loop-next first e) ∙ c.if-links-next.false),
+)
 
 pub returns : goal.returns
 returns c =

@@ -1,6 +1,6 @@
 -- `links::chain` chains the links: after i turns those below i.
 -- Assumes nothing.
-use Prim.Native.Nat.{◌-◌, ◌<◌}
+use Prim.Native.Nat.{◌<◌}
 use mathlib.Core.Path.{◌≡◌, refl}
 use native.Mathlib.Omega.{arith}
 use lib.ListN.{length, length-set}
@@ -38,7 +38,8 @@ loop-i-preserved c =
     let (firsts, nexts) = c.loop-i.invariant.1.sizes in (
       omega arith,
       record {
-        chained = chained_more _ _ _ _ _ c.loop-i.invariant.1.chained c.wide-to.ensures.same (card-in (goal.at.loop-i-preserved c).After-wide-to)
+        chained = chained_more _ _ _ _ _ c.loop-i.invariant.1.chained c.wide-to.ensures.same (card-in
+            (goal.at.loop-i-preserved c).After-wide-to)
             (omega arith);
         sizes = (simp length-set firsts, simp length-set nexts);
       },

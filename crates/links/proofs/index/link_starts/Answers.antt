@@ -1,6 +1,5 @@
 -- `links::link_starts` fills the table of starts: after c turns the cards below c have theirs.
 -- Assumes nothing.
-use Prim.Native.Nat.{◌-◌}
 use mathlib.Core.Path.{refl}
 use native.Mathlib.Omega.{arith}
 use lib.ListN.{length-set}

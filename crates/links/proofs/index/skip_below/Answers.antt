@@ -1,6 +1,5 @@
 -- `links::skip_below` walks to the first link that does not start below the card: no link before i does not.
 -- Assumes nothing.
-use Prim.Native.Nat.{◌-◌}
 use mathlib.Core.Logic.{⊎_elim}
 use native.Mathlib.Omega.{arith}
 use Rattle.words.proofs.Bools.{le-or-lt}

@@ -1,5 +1,5 @@
 -- `links::mark_linked` marks cards: before link i the marks are those of the links below i. Assumes nothing.
-use Prim.Native.Nat.{ℕ, ◌-◌, ◌<◌}
+use Prim.Native.Nat.{ℕ, ◌<◌}
 use mathlib.Core.Path.{◌≡◌, ap, ◌∙◌}
 use native.Mathlib.Omega.{arith}
 use lib.ListN.{length, length-set, length-replicate}
@@ -20,7 +20,14 @@ from_is a = a.wide-from.ensures.same
 
 from_in : (a : After-wide-from) → a.wide-from.result < length a.loop-i.linked
 from_in a =
-    omega (arith, from_is a, a.requires.from_in a.loop-i.i (omega arith), a.loop-i.invariant.1.size, lent (goal.at.After-wide-from a).At-loop-i)
+    omega (
+      arith,
+      from_is a,
+      a.requires.from_in a.loop-i.i (omega arith),
+      a.loop-i.invariant.1.size,
+      lent
+          (goal.at.After-wide-from a).At-loop-i,
+    )
 
 to_is : (a : After-wide-to) → a.wide-to.result ≡ to_at a.args.script.now a.loop-i.i
 unfolding to_at
@@ -28,7 +35,14 @@ to_is a = a.wide-to.ensures.same
 
 to_in : (a : After-wide-to) → a.wide-to.result < length a.loop-i.linked
 to_in a =
-    omega (arith, to_is a, a.requires.to_in a.loop-i.i (omega arith), a.loop-i.invariant.1.size, lent (goal.at.After-wide-to a).At-loop-i)
+    omega (
+      arith,
+      to_is a,
+      a.requires.to_in a.loop-i.i (omega arith),
+      a.loop-i.invariant.1.size,
+      lent
+          (goal.at.After-wide-to a).At-loop-i,
+    )
 
 pub loop-i-init : goal.loop-i-init
 loop-i-init c =
@@ -44,7 +58,8 @@ pub loop-i-preserved : goal.loop-i-preserved
 loop-i-preserved c =
     let marked = c.loop-i.invariant.1 in (
       omega arith,
-      marked_more _ c.loop-i.linked c.loop-i.i _ c.wide-from.result c.wide-to.result (from_is (goal.at.loop-i-preserved c).After-wide-from) (to_is c)
+      marked_more _ c.loop-i.linked c.loop-i.i _ c.wide-from.result c.wide-to.result (from_is
+          (goal.at.loop-i-preserved c).After-wide-from) (to_is c)
           (from_in (goal.at.loop-i-preserved c).After-wide-from) (to_in c) marked,
     )
 

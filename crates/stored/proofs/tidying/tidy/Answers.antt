@@ -1,6 +1,6 @@
 -- `stored::tidy` writes the first booking of each pair: before booking i those of the bookings before it stand in the
 -- buffer, chained by their cards. Assumes nothing.
-use Prim.Native.Nat.{◌-◌, ◌≤◌, ◌<◌}
+use Prim.Native.Nat.{◌≤◌, ◌<◌}
 use mathlib.Core.Path.{◌≡◌, refl, subst, ◌∙◌}
 use mathlib.Core.Logic.{⊎_elim}
 use native.Mathlib.Omega.{arith}
@@ -39,7 +39,8 @@ loop-i-init c =
       few = omega arith;
       heads = refl;
       links = refl;
-      keeping = keeping_start _ _ _ _ (some_word (goal.at.loop-i-init c).Start) (λ m l. get_or-replicate max_cards m 0 0 l);
+      keeping = keeping_start _ _ _ _ (some_word (goal.at.loop-i-init c).Start) (λ m l. get_or-replicate max_cards
+          m 0 0 l);
     }
 
 pub stored_card_at-card-requires : goal.stored_card_at-card-requires
@@ -99,7 +100,8 @@ loop-i-preserved c =
       few = omega arith;
       heads = heads;
       links = links;
-      keeping = keeping-new (some_word (goal.at.loop-i-preserved c).Start) w (booking-same refl card-here shape-here) e (false_of_not v.if-not-enter_booking.true-raw)
+      keeping = keeping-new (some_word (goal.at.loop-i-preserved c).Start) w (booking-same refl card-here
+          shape-here) e (false_of_not v.if-not-enter_booking.true-raw)
           (room-left (goal.at.loop-i-preserved c).At-loop-i (omega arith));
     }))
     (λ v. rw (v.out-is, v.kept-is) (record {
@@ -107,7 +109,8 @@ loop-i-preserved c =
       few = omega arith;
       heads = heads;
       links = links;
-      keeping = keeping-again (some_word (goal.at.loop-i-preserved c).Start) w (booking-same refl card-here shape-here) e (true_of_not v.if-not-enter_booking.false-raw);
+      keeping = keeping-again (some_word (goal.at.loop-i-preserved c).Start) w (booking-same refl card-here
+          shape-here) e (true_of_not v.if-not-enter_booking.false-raw);
     }))
     c.if-not-enter_booking.branch-raw
 

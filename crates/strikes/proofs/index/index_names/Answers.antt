@@ -18,15 +18,14 @@ use Rattle.strikes.proofs.index.index_names.Goals as goal
 use Rattle.strikes.proofs.index.index_names.Goals.{After-byte-entry, After-entry_place, After-name_key-key}
 
 pub loop-p-init : goal.loop-p-init
-loop-p-init c =
-    (
-      omega arith,
-      refl,
-      refl,
-      chained-none (entry_key c.args.names.now c.args.start) c.args.first.now c.args.next.now
-          c.requires.blank.zeros,
-      λ i _ l. c.requires.zeros i l,
-    )
+loop-p-init c = (
+  omega arith,
+  refl,
+  refl,
+  chained-none (entry_key c.args.names.now c.args.start) c.args.first.now c.args.next.now
+      c.requires.blank.zeros,
+  λ i _ l. c.requires.zeros i l,
+)
 
 -- the place that a turn reads is in the table
 place_here : (e : After-entry_place)
@@ -92,7 +91,7 @@ one_more k key some named =
     let p = k.loop-p.p in
     let head = get_or first key 0 in
     let low : key < length first =
-        omega (arith, named, entry-low k, shape-in max_kinds (omega arith) p, k.loop-p.invariant.1, k.requires.keys) in
+    omega (arith, named, entry-low k, shape-in max_kinds (omega arith) p, k.loop-p.invariant.1, k.requires.keys) in
     let is = named
     ∙ ap (λ (x : ℕ). p % max_kinds * max_shapes + (x - 1)) (entry-is k)
     ∙ sym (key_of names k.args.start p (λ z. omega (arith, entry-is k, z, some))) in (
@@ -148,7 +147,11 @@ pub overflow_cast-first : goal.overflow_cast-first
 overflow_cast-first c = omega (arith, place-low (goal.at.overflow_cast-first c).After-byte-entry)
 
 pub offset_bounds-first-key-then-entry-gt0 : goal.offset_bounds-first-key-then-entry-gt0
-offset_bounds-first-key-then-entry-gt0 c = omega (arith, key-low (goal.at.offset_bounds-first-key-then-entry-gt0 c).After-name_key-key)
+offset_bounds-first-key-then-entry-gt0 c = omega (
+  arith,
+  key-low (goal.at.offset_bounds-first-key-then-entry-gt0
+      c).After-name_key-key,
+)
 
 pub bounds-first-key-then-entry-gt0 : goal.bounds-first-key-then-entry-gt0
 bounds-first-key-then-entry-gt0 c = key-low (goal.at.bounds-first-key-then-entry-gt0 c).After-name_key-key
@@ -160,7 +163,8 @@ pub loop-p-preserved : goal.loop-p-preserved
 loop-p-preserved c =
     ⊎_elim
     (λ w. subst₂ (After (goal.at.loop-p-preserved c).After-byte-entry) (sym w.first-is) (sym w.next-is)
-    (one_more (goal.at.loop-p-preserved c).After-byte-entry w.name_key-key.result w.if-entry-gt0.true w.name_key-key.ensures))
+    (one_more (goal.at.loop-p-preserved c).After-byte-entry w.name_key-key.result w.if-entry-gt0.true
+    w.name_key-key.ensures))
     (λ w. subst₂ (After (goal.at.loop-p-preserved c).After-byte-entry) (sym w.first-is) (sym w.next-is)
     (none_here (goal.at.loop-p-preserved c).After-byte-entry w.if-entry-gt0.false))
     c.if-entry-gt0.branch-raw

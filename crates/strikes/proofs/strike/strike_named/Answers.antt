@@ -12,7 +12,8 @@ use Rattle.words.proofs.Places.{card-in}
 use Rattle.strikes.proofs.Names.{RowGood, row_in, named-exact}
 use Rattle.walks.proofs.Walks.{swept-strike, walk_start, walk-in, walk-less, walk-next, walk-done}
 use Rattle.strikes.proofs.strike.strike_named.Goals as goal
-use Rattle.strikes.proofs.strike.strike_named.Goals.{After-shared_slice_known-4-1, After-wide-at-in-loop-at, In-loop-at}
+use Rattle.strikes.proofs.strike.strike_named.Goals.{After-shared_slice_known-4-1, After-wide-at-in-loop-at}
+use Rattle.strikes.proofs.strike.strike_named.Goals.{In-loop-at}
 
 -- the pair that a turn strikes is on the board
 pair-in : (c : In-loop-at) → c.args.base + (c.loop-at.at - 1) / max_kinds < length c.args.grid.now
@@ -44,7 +45,8 @@ bounds-named-key c =
 pub loop-at-init : goal.loop-at-init
 loop-at-init c =
     walk_start (c.wide-at.ensures.same
-    ∙ c.requires.places.chained.heads c.name_key-key.result (key_in (goal.at.loop-at-init c).After-shared_slice_known-4-1))
+    ∙ c.requires.places.chained.heads c.name_key-key.result (key_in (goal.at.loop-at-init
+    c).After-shared_slice_known-4-1))
 
 pub overflow_add-base : goal.overflow_add-base
 overflow_add-base c = omega (arith, pair-in (goal.at.overflow_add-base c).In-loop-at, c.requires.few-places)
@@ -73,7 +75,12 @@ loop-at-preserved c =
     let p = c.args.base + (c.loop-at.at - 1) / max_kinds in
     walk-next c.loop-at.invariant c.loop-at-test.true (next-is c)
     (subst (λ (v : Work). Swept (RowGood c.args.base (c.loop-at.at - 1)) w v) (sym c.strike_one-end.ensures)
-    (swept-strike w p (omega (arith, pair-in (goal.at.loop-at-preserved c).In-loop-at, swept-grid c.loop-at.invariant.swept))))
+    (swept-strike w p (omega (
+      arith,
+      pair-in (goal.at.loop-at-preserved c).In-loop-at,
+      swept-grid
+          c.loop-at.invariant.swept,
+    ))))
 
 pub shape_of-grid : goal.shape_of-grid
 shape_of-grid c = swept-grid c.loop-at.invariant.swept

@@ -1,5 +1,5 @@
 -- `strikes::strike_named` walks the chain of a kind and a shape. Assumes nothing.
-use Prim.Native.Nat.{◌*◌, ◌-◌}
+use Prim.Native.Nat.{◌*◌}
 use Rattle.words.specs.Limits.{max_kinds}
 use Rattle.board.specs.Work.{work}
 use Rattle.strikes.specs.Indexes.{entry_key}

@@ -58,14 +58,26 @@ sources-in s p g = omega (
 
 pub overflow_mul-u : goal.overflow_mul-u
 overflow_mul-u c =
-    omega (arith, given-room (goal.at.overflow_mul-u c).Start, c.requires.on-board, c.requires.full, pairs-bound c.requires.both.out.ready)
+    omega (
+      arith,
+      given-room (goal.at.overflow_mul-u c).Start,
+      c.requires.on-board,
+      c.requires.full,
+      pairs-bound
+          c.requires.both.out.ready,
+    )
 
 pub overflow_sub-u : goal.overflow_sub-u
 overflow_sub-u c = omega (arith, given-room (goal.at.overflow_sub-u c).Start)
 
 pub overflow_cast-u : goal.overflow_cast-u
 overflow_cast-u c =
-    omega (arith, left_is (goal.at.overflow_cast-u c).Start, shape_is (goal.at.overflow_cast-u c).Start, c.requires.both.out.ready.few-shapes)
+    omega (
+      arith,
+      left_is (goal.at.overflow_cast-u c).Start,
+      shape_is (goal.at.overflow_cast-u c).Start,
+      c.requires.both.out.ready.few-shapes,
+    )
 
 pub strike_sources-end-requires : goal.strike_sources-end-requires
 strike_sources-end-requires c =
@@ -73,7 +85,12 @@ strike_sources-end-requires c =
       need = record {
         ready = c.requires.both.out.ready;
         places = c.requires.both.out.places;
-        shape-in = omega (arith, left_is (goal.at.strike_sources-end-requires c).Start, shape_is (goal.at.strike_sources-end-requires c).Start);
+        shape-in = omega (
+          arith,
+          left_is (goal.at.strike_sources-end-requires c).Start,
+          shape_is
+              (goal.at.strike_sources-end-requires c).Start,
+        );
         full = c.requires.full;
         room = c.requires.room;
       };
@@ -92,7 +109,11 @@ pub overflow_add-m : goal.overflow_add-m
 overflow_add-m c = omega (arith, given-in (goal.at.overflow_add-m c).Start, c.requires.both.out.ready.few-cards)
 
 pub offset_bounds-starts-m-2 : goal.offset_bounds-starts-m-2
-offset_bounds-starts-m-2 c = omega (arith, given-in (goal.at.offset_bounds-starts-m-2 c).Start, c.requires.both.out.ready.few-cards)
+offset_bounds-starts-m-2 c = omega (
+  arith,
+  given-in (goal.at.offset_bounds-starts-m-2 c).Start,
+  c.requires.both.out.ready.few-cards,
+)
 
 pub bounds-starts-m-2 : goal.bounds-starts-m-2
 bounds-starts-m-2 c =
@@ -106,18 +127,27 @@ strike_targets-requires c =
       need = record {
         ready = both.out.ready;
         places = both.inward-places;
-        shape-in = omega (arith, left_is (goal.at.strike_targets-requires c).Start, shape_is (goal.at.strike_targets-requires c).Start);
+        shape-in = omega (
+          arith,
+          left_is (goal.at.strike_targets-requires c).Start,
+          shape_is
+              (goal.at.strike_targets-requires c).Start,
+        );
         full = swept-grid struck ∙ c.requires.full;
         room = swept-room struck (sources-in (goal.at.strike_targets-requires c).Start) c.requires.room;
       };
-      rising = range-rising both.leaving (card-is (goal.at.strike_targets-requires c).Start) (low (goal.at.strike_targets-requires c).After-wide-hi) (high (goal.at.strike_targets-requires c).After-wide-hi);
-      links-in = range-in both.leaving (card-is (goal.at.strike_targets-requires c).Start) (low (goal.at.strike_targets-requires c).After-wide-hi) (high (goal.at.strike_targets-requires c).After-wide-hi);
+      rising = range-rising both.leaving (card-is (goal.at.strike_targets-requires c).Start) (low
+          (goal.at.strike_targets-requires c).After-wide-hi) (high (goal.at.strike_targets-requires c).After-wide-hi);
+      links-in = range-in both.leaving (card-is (goal.at.strike_targets-requires c).Start) (low
+          (goal.at.strike_targets-requires c).After-wide-hi) (high (goal.at.strike_targets-requires c).After-wide-hi);
     }
 
 pub returns : goal.returns
 returns c =
     let ready = c.requires.both.out.ready in
     let st = c.requires.both.leaving in
-    struck-both ready c.args.q st (card-is (goal.at.returns c).Start) (low (goal.at.returns c).After-wide-hi) (high (goal.at.returns c).After-wide-hi)
+    struck-both ready c.args.q st (card-is (goal.at.returns c).Start) (low (goal.at.returns c).After-wide-hi) (high
+    (goal.at.returns c).After-wide-hi)
     (sources-same ready c.args.q c.requires.card (left_is (goal.at.returns c).Start) c.strike_sources-end.ensures)
-    (targets-same ready c.args.q st (card-is (goal.at.returns c).Start) (low (goal.at.returns c).After-wide-hi) (high (goal.at.returns c).After-wide-hi) (left_is (goal.at.returns c).Start) c.strike_targets.ensures)
+    (targets-same ready c.args.q st (card-is (goal.at.returns c).Start) (low (goal.at.returns c).After-wide-hi)
+    (high (goal.at.returns c).After-wide-hi) (left_is (goal.at.returns c).Start) c.strike_targets.ensures)

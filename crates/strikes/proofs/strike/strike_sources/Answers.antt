@@ -41,7 +41,8 @@ kind-is a = kind-word a.args.script.now (a.loop-at.at - 1)
 card-pairs : (a : After-wide-from) → a.wide-from.result * a.args.shapes + a.args.shapes ≤ length a.args.grid.now
 card-pairs a =
     let cards = get_or a.args.script.now 0 0 in
-    let is-card = a.requires.need.ready.near-in outgoing (a.loop-at.at - 1) (link-in (goal.at.After-wide-from a).In-loop-at) in
+    let is-card = a.requires.need.ready.near-in outgoing (a.loop-at.at - 1) (link-in (goal.at.After-wide-from
+    a).In-loop-at) in
     omega (
       arith,
       a.requires.need.full,
@@ -53,7 +54,8 @@ next-is : (c : After-wide-at-in-loop-at) → let to = to_at c.args.script.now in
     c.wide-at-in-loop-at.result ≡ last_at to (to (c.loop-at.at - 1)) (c.loop-at.at - 1)
 next-is c =
     let links = c.requires.arrivals in
-    c.wide-at-in-loop-at.ensures.same ∙ links.chained.nexts (c.loop-at.at - 1) (link-in (goal.at.After-wide-at-in-loop-at c).In-loop-at)
+    c.wide-at-in-loop-at.ensures.same ∙ links.chained.nexts (c.loop-at.at - 1) (link-in
+    (goal.at.After-wide-at-in-loop-at c).In-loop-at)
 
 pub bounds-first-m : goal.bounds-first-m
 bounds-first-m c =
@@ -84,14 +86,25 @@ pub overflow_add-kind : goal.overflow_add-kind
 overflow_add-kind c = omega (arith, link-in (goal.at.overflow_add-kind c).In-loop-at, c.requires.need.ready.few-links)
 
 pub offset_bounds-script-i-in-loop-at : goal.offset_bounds-script-i-in-loop-at
-offset_bounds-script-i-in-loop-at c = omega (arith, link-in (goal.at.offset_bounds-script-i-in-loop-at c).In-loop-at, c.requires.need.ready.few-links)
+offset_bounds-script-i-in-loop-at c = omega (
+  arith,
+  link-in (goal.at.offset_bounds-script-i-in-loop-at
+      c).In-loop-at,
+  c.requires.need.ready.few-links,
+)
 
 pub bounds-script-i-in-loop-at : goal.bounds-script-i-in-loop-at
 bounds-script-i-in-loop-at c = omega (arith, words-in (goal.at.bounds-script-i-in-loop-at c).In-loop-at)
 
 pub overflow_mul-from : goal.overflow_mul-from
 overflow_mul-from c =
-    omega (arith, card-pairs (goal.at.overflow_mul-from c).After-wide-from, c.requires.need.full, pairs-bound c.requires.need.ready)
+    omega (
+      arith,
+      card-pairs (goal.at.overflow_mul-from c).After-wide-from,
+      c.requires.need.full,
+      pairs-bound
+          c.requires.need.ready,
+    )
 
 pub strike_named-end-requires : goal.strike_named-end-requires
 strike_named-end-requires c =
@@ -101,7 +114,12 @@ strike_named-end-requires c =
       table = ready-table ready;
       places = c.requires.need.places;
       half = omega arith;
-      kind-in = omega (arith, kind-is (goal.at.strike_named-end-requires c).After-wide-from, kind-in ready (c.loop-at.at - 1) (link-in (goal.at.strike_named-end-requires c).In-loop-at));
+      kind-in = omega (
+        arith,
+        kind-is (goal.at.strike_named-end-requires c).After-wide-from,
+        kind-in ready
+            (c.loop-at.at - 1) (link-in (goal.at.strike_named-end-requires c).In-loop-at),
+      );
       shape-in = omega (arith, c.requires.need.shape-in, ready.few-shapes);
       few-places = omega (arith, same, c.requires.need.full, pairs-bound ready);
       pairs = omega (arith, card-pairs (goal.at.strike_named-end-requires c).After-wide-from, same);
@@ -132,7 +150,8 @@ loop-at-preserved c =
     walk-next c.loop-at.invariant c.loop-at-test.true (next-is c)
     (subst₂ (λ (k base : ℕ).
     Swept (NamedGood c.args.names.now c.args.shapes (0 + k) base c.args.u.0) w v)
-    (kind-is (goal.at.loop-at-preserved c).After-wide-from) (ap (λ (x : ℕ). x * c.args.shapes) (from_is (goal.at.loop-at-preserved c).After-wide-from)) c.strike_named-end.ensures)
+    (kind-is (goal.at.loop-at-preserved c).After-wide-from) (ap (λ (x : ℕ). x * c.args.shapes) (from_is
+    (goal.at.loop-at-preserved c).After-wide-from)) c.strike_named-end.ensures)
 
 pub shape_of-grid : goal.shape_of-grid
 shape_of-grid c = swept-grid c.loop-at.invariant.swept

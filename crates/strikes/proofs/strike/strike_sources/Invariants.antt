@@ -1,6 +1,5 @@
 -- `strikes::strike_sources` walks the chain of the links to a card, and strikes what needs it at their starts.
 -- Assumes nothing.
-use Prim.Native.Nat.{◌-◌}
 use lib.ListN.{get_or}
 use Rattle.bags.specs.Label.{outgoing}
 use Rattle.script.specs.Link.{to_at}

@@ -1,7 +1,7 @@
 -- `strikes::strike_targets` strikes what needs a card's shape at the ends of the links from it. The invariant: by those
 -- below i it is struck. Assumes nothing.
 use mathlib.Core.Path.{subst, subst₂, ◌≡◌, sym, ◌∙◌, ap}
-use Prim.Native.Nat.{ℕ, ◌<◌, ◌≤◌, ◌+◌, ◌*◌, ◌-◌}
+use Prim.Native.Nat.{ℕ, ◌<◌, ◌≤◌, ◌+◌, ◌*◌}
 use native.Mathlib.Omega.{arith}
 use lib.ListN.{length, get_or}
 use Rattle.words.specs.Limits.{max_kinds}
@@ -70,7 +70,11 @@ pub overflow_add-i : goal.overflow_add-i
 overflow_add-i c = omega (arith, link-in (goal.at.overflow_add-i c).In-loop-i, c.requires.need.ready.few-links)
 
 pub offset_bounds-script-i-in-loop-i : goal.offset_bounds-script-i-in-loop-i
-offset_bounds-script-i-in-loop-i c = omega (arith, link-in (goal.at.offset_bounds-script-i-in-loop-i c).In-loop-i, c.requires.need.ready.few-links)
+offset_bounds-script-i-in-loop-i c = omega (
+  arith,
+  link-in (goal.at.offset_bounds-script-i-in-loop-i c).In-loop-i,
+  c.requires.need.ready.few-links,
+)
 
 pub bounds-script-i-in-loop-i : goal.bounds-script-i-in-loop-i
 bounds-script-i-in-loop-i c = omega (arith, words-in (goal.at.bounds-script-i-in-loop-i c).In-loop-i)
@@ -88,7 +92,12 @@ strike_named-end-requires c =
       table = ready-table ready;
       places = c.requires.need.places;
       half = omega arith;
-      kind-in = omega (arith, kind-is (goal.at.strike_named-end-requires c).In-loop-i, kind-in ready c.loop-i.i (link-in (goal.at.strike_named-end-requires c).In-loop-i));
+      kind-in = omega (
+        arith,
+        kind-is (goal.at.strike_named-end-requires c).In-loop-i,
+        kind-in ready c.loop-i.i
+            (link-in (goal.at.strike_named-end-requires c).In-loop-i),
+      );
       shape-in = omega (arith, c.requires.need.shape-in, ready.few-shapes);
       few-places = omega (arith, same, c.requires.need.full, pairs-bound ready);
       pairs = omega (arith, card-pairs (goal.at.strike_named-end-requires c).After-wide-to, same);
@@ -111,7 +120,8 @@ loop-i-preserved c =
       leaving-more c.loop-i.invariant.0 c.loop-i.invariant.2
           (subst₂ (λ (k base : ℕ).
           Swept (NamedGood c.args.names.now c.args.shapes (max_kinds + k) base c.args.u.0) w v)
-          (kind-is (goal.at.loop-i-preserved c).In-loop-i) (ap (λ (x : ℕ). x * c.args.shapes) (to_is (goal.at.loop-i-preserved c).After-wide-to)) c.strike_named-end.ensures),
+          (kind-is (goal.at.loop-i-preserved c).In-loop-i) (ap (λ (x : ℕ). x * c.args.shapes) (to_is
+          (goal.at.loop-i-preserved c).After-wide-to)) c.strike_named-end.ensures),
     )
 
 pub shape_of-grid : goal.shape_of-grid
