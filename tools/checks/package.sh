@@ -38,6 +38,8 @@ if [ -e .git ]; then
     git archive HEAD package | tar -x -O >"$out/archived"
     grep -q "^archived='$commit [0-9]*'\$" "$out/archived" || fail 'a source archive does not tell its commit'
 fi
+# rt takes crates for those of the repository wherever they stand in it.
+rm -rf "$out/plain"
 say 'package: one that fails leaves nothing; sources without git give the same but for SOURCE'
 
 mkdir -p "$out/elsewhere"
