@@ -19,18 +19,25 @@ name=prep-$version-x86_64-linux
 kit=$(rt version)
 [ -n "$kit" ] || fail 'rt version tells no kit'
 
-# Proves and builds the library and the programs.
+# Where rt leaves programs that it built: NAME...
+built() { printf '%s\n' "$@" | sed 's|.*|crates/&/out/&|'; }
+
+# Proves and builds the library and the programs. rt runs what it builds; the programs are given nothing to read.
 build_all() {
-    rt staticlib capi >&2
+    (cd crates/capi_c && rt lib >&2)
+    install -D -m 644 crates/capi_c/out/libcapi_c.a "$proved"
     # $programs is a list of words.
-    rt check $programs >&2
+    for program in $programs; do
+        (cd "crates/$program" && rt run </dev/null >/dev/null)
+    done
     cargo build --quiet --release --manifest-path tools/Cargo.toml --target-dir target/tools
 }
 
 # What is not built, all at once.
 check_built() {
     missing=
-    for file in "$proved" "$tools" $(printf 'target/bin/%s ' $programs); do
+    # $programs is a list of words.
+    for file in "$proved" "$tools" $(built $programs); do
         [ -f "$file" ] || missing="$missing $file"
     done
     [ -z "$missing" ] || fail "these are not built; without --as-built they would be:$missing"

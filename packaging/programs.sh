@@ -2,6 +2,6 @@
 
 mkdir -p "$folder/bin"
 for program in $programs; do
-    install -m 755 "target/bin/$program" "$folder/bin/"
+    install -m 755 "$(built "$program")" "$folder/bin/"
 done
 strip -o "$folder/bin/prep-tools" "$tools"

@@ -15,6 +15,7 @@ taken from a source archive of it"
     time=${archived#* }
 else
     source='commit unknown'
-    time=$(find . -path ./target -prune -o -type f -printf '%T@\n' | sort -n | sed -n '$s/\..*//p')
+    time=$(find . \( -path ./target -o -path './crates/*/out' \) -prune -o -type f -printf '%T@\n' | sort -n |
+        sed -n '$s/\..*//p')
 fi
 time=${SOURCE_DATE_EPOCH:-$time}

@@ -19,7 +19,7 @@ put_pages() {
     for page in "$@"; do
         mkdir -p "$folder/${page%/*}"
         sed -e 's|cargo run --release --manifest-path tools/Cargo.toml --target-dir target/tools --|bin/prep-tools|g' \
-            -e 's|target/bin/|bin/|g' "$page" >"$folder/$page"
+            -e 's|crates/[a-z_]*/out/|bin/|g' "$page" >"$folder/$page"
     done
 }
 
@@ -38,7 +38,7 @@ put_pages examples/prep/README.md tools/TEXT-FORM.md
 for page in docs/*.md; do
     case $page in
     # These are about the repository.
-    docs/CHANGES.md | docs/CONTRACTS.md | docs/DECISIONS.md) ;;
+    docs/CHANGES.md | docs/CONTRACTS.md | docs/DECISIONS.md | docs/PORT.md) ;;
     *) put_pages "$page" ;;
     esac
 done

@@ -6,6 +6,6 @@ through "$out/cases" "$out/questions" "$out/answers"
 cases=$(cat "$out/number")
 say "answers: $cases generated cases (seed $seed) through the static library in C"
 
-quietly rt check cases
-through target/bin/cases "$out/questions" "$out/answers"
+quietly build_program cases
+through crates/cases/out/cases "$out/questions" "$out/answers"
 say "answers: $cases generated cases (seed $seed) through the built program"

@@ -43,6 +43,9 @@ prints_sheet() {
     same tools/checks/sheet.txt "$out/sheet" "$* printed another sheet"
 }
 
+# Proves and builds a program, which then is crates/NAME/out/NAME; rt runs it, with nothing to read: NAME
+build_program() { (cd "crates/$1" && rt run </dev/null); }
+
 # Runs a stream of cases through a host and compares its text: HOST STREAM TEXT. What the host tells on standard error,
 # most often how many cases there were, stays in $out/number.
 through() {

@@ -22,9 +22,9 @@ same "$out/files-first" "$out/files-again" 'a package that failed changed the on
 
 # The same sources without git, and what is built of them.
 mkdir -p "$out/plain/target"
-tar -c --exclude=./.git --exclude=./target . | tar -x -C "$out/plain"
-for part in bin staticlib tools; do
-    ln -s "$PWD/target/$part" "$out/plain/target/$part"
+tar -c --exclude=./.git --exclude=./target --exclude='./crates/*/out' . | tar -x -C "$out/plain"
+for part in target/staticlib target/tools crates/sheet_printer/out crates/grid_judge/out crates/list_tidier/out; do
+    ln -s "$PWD/$part" "$out/plain/$part"
 done
 quietly env SOURCE_DATE_EPOCH=1 "$out/plain/package" --as-built "$PWD/$out/unknown"
 quietly diff -r --no-dereference -x SOURCE -x SHA256SUMS "$written" "$out/unknown/$name"
@@ -38,6 +38,8 @@ if [ -e .git ]; then
     git archive HEAD package | tar -x -O >"$out/archived"
     grep -q "^archived='$commit [0-9]*'\$" "$out/archived" || fail 'a source archive does not tell its commit'
 fi
+# rt takes crates for those of the repository wherever they stand in it.
+rm -rf "$out/plain"
 say 'package: one that fails leaves nothing; sources without git give the same but for SOURCE'
 
 mkdir -p "$out/elsewhere"
@@ -61,11 +63,11 @@ done
 say "package: the sums hold; both libraries have the $(wc -l <"$out/declared") functions of prep.h and no other names"
 
 # Which functions have unwind tables, as prep.h says under "Debugging".
-for object in capi words; do
+for object in capi_c words; do
     ar p "$package/lib/libprep.a" "$object.o" >"$out/$object.o"
     readelf -S -W "$out/$object.o" | grep -c -E '\.(eh|debug)_frame' >"$out/tables" || true
     case $object:$(cat "$out/tables") in
-    capi:0 | words:[!0]*) ;;
+    capi_c:0 | words:[!0]*) ;;
     *) fail "the unwind tables of $object.o are not as prep.h says" ;;
     esac
 done

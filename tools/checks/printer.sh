@@ -1,7 +1,7 @@
 # Part of ./check-tools: the built printer against the other implementation, and with input that comes in small pieces.
 
-quietly rt check sheet_printer
-printer=target/bin/sheet_printer
+quietly build_program sheet_printer
+printer=crates/sheet_printer/out/sheet_printer
 
 quietly "$tools" compare "$printer" "$seed" "$count"
 say "printer: $(tail -n 1 "$out/printed") (seed $seed) from the other implementation"

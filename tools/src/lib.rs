@@ -8,7 +8,6 @@
 //! | `labels`   | kinds with a way, outgoing or incoming, and values for each                 |
 //! | `refusal`  | a refusal's number, place and meaning                                       |
 //! | `words`    | the words of refusals, from the one table of them                           |
-//! | `values`   | *Values*: numbers on cards and rules of shapes, refusals 67 to 69           |
 //! | `template` | *Read a template*, refusals 1 to 12 and 64; also writes templates           |
 //! | `fit`      | *Fit counts*, refusals 41 to 43; by intervals and by enumeration of bags    |
 //! | `script`   | *Read a script*, refusals 20 to 25; *Links of a card*                       |
@@ -43,5 +42,4 @@ pub mod sheet;
 pub mod template;
 pub mod text;
 pub mod typing;
-pub mod values;
 mod words;

@@ -33,7 +33,10 @@ impl Sample {
 
 /// A template with only this shape.
 fn one_shape(kinds: u16, shape: Definition) -> Vec<u16> {
-    template::write(&Template::new(kinds, vec![shape]))
+    template::write(&Template {
+        kinds,
+        definitions: vec![shape],
+    })
 }
 
 /// A name, a shape, and counts that fit it or not.

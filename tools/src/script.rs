@@ -1,11 +1,9 @@
-//! *Read a script* (refusals 20 to 25 and 67 to 69, after the template's) and *Links of a card*.
+//! *Read a script* (refusals 20 to 25, after the template's) and *Links of a card*.
 
 use crate::labels::{Label, Labelled, Way};
 use crate::numbers::{Card, Kind};
 use crate::refusal::Refusal;
 use crate::template::{self, Template};
-use crate::values::sections::{self, CardValue};
-use crate::values::Value;
 
 /// The most cards.
 pub const MOST_CARDS: u16 = 1024;
@@ -13,15 +11,12 @@ pub const MOST_CARDS: u16 = 1024;
 pub const MOST_LINKS: u16 = 8192;
 
 /// A script that was read.
-#[derive(Clone, PartialEq, Debug)]
+#[derive(Clone, PartialEq, Eq, Debug)]
 pub struct Script {
     /// The count of cards, N.
     pub cards: u16,
     /// The links, strictly ascending; their number is M.
     pub links: Vec<ScriptLink>,
-    /// The values, their cards ascending; none if the script ends before their section. An empty section means the same
-    /// and is other words.
-    pub values: Option<Vec<CardValue>>,
     /// For each card, where the ends of links at it start; then where the last ones end.
     starts: Vec<usize>,
     /// The ends of all links, card by card.
@@ -61,8 +56,8 @@ impl ScriptLink {
 }
 
 impl Script {
-    /// The script of these links and values, which ascend.
-    fn new(cards: u16, links: Vec<ScriptLink>, values: Option<Vec<CardValue>>) -> Script {
+    /// The script of these links, which ascend.
+    fn new(cards: u16, links: Vec<ScriptLink>) -> Script {
         let of_way = |way| links.iter().map(move |link| link.end(way));
         let ends: Vec<(Card, End)> = Way::BOTH.into_iter().flat_map(of_way).collect();
         let mut starts = vec![0; usize::from(cards) + 1];
@@ -81,7 +76,6 @@ impl Script {
         Script {
             cards,
             links,
-            values,
             starts,
             ends: by_card,
         }
@@ -110,17 +104,6 @@ impl Script {
         }
         blank
     }
-
-    /// All values, their cards ascending.
-    pub fn values(&self) -> &[CardValue] {
-        self.values.as_deref().unwrap_or_default()
-    }
-
-    /// The value of a card, if it has one.
-    pub fn value_of(&self, card: Card) -> Option<Value> {
-        let place = self.values().binary_search_by_key(&card, |value| value.card);
-        place.ok().map(|place| self.values()[place].value)
-    }
 }
 
 /// Reads a script with its template, or tells the first fault.
@@ -140,22 +123,9 @@ pub fn read_under(template: &Template, words: &[u16]) -> Result<Script, Refusal>
     if link_count > MOST_LINKS {
         return Err(Refusal::at(22, 1));
     }
-    let end = links_end(words);
-    if words.len() < end {
+    if words.len() != 2 + 3 * usize::from(link_count) {
         return Err(Refusal::at(20, 0));
     }
-    let links = read_links(template, cards, &words[..end])?;
-    let values = sections::read_values(words, end, cards)?;
-    Ok(Script::new(cards, links, values))
-}
-
-/// Where the links of a script end that has its counts: there its section of values starts, or it ends too.
-pub fn links_end(words: &[u16]) -> usize {
-    2 + 3 * usize::from(words[1])
-}
-
-/// Reads the links of a script's words, which end behind them.
-fn read_links(template: &Template, cards: u16, words: &[u16]) -> Result<Vec<ScriptLink>, Refusal> {
     let mut links: Vec<ScriptLink> = Vec::new();
     for place in (2..words.len()).step_by(3) {
         let link = ScriptLink {
@@ -177,7 +147,7 @@ fn read_links(template: &Template, cards: u16, words: &[u16]) -> Result<Vec<Scri
         }
         links.push(link);
     }
-    Ok(links)
+    Ok(Script::new(cards, links))
 }
 
 /// The links of one card, as the part of the script's words that holds them. Empty if the template or the
@@ -187,11 +157,17 @@ pub fn links_of_card<'script>(
     script_words: &'script [u16],
     card: u16,
 ) -> &'script [u16] {
-    if read(template_words, script_words).is_err() {
+    if read(template_words, script_words).is_err() || card >= script_words[0] {
         return &[];
     }
-    let links = &script_words[2..links_end(script_words)];
-    let before = links.chunks(3).filter(|link| link[0] < card).count();
-    let own = links.chunks(3).filter(|link| link[0] == card).count();
-    &links[3 * before..3 * (before + own)]
+    let is_of_card = |place: &usize| script_words[*place] == card;
+    let mut places = (2..script_words.len()).step_by(3);
+    let start = match places.find(is_of_card) {
+        Some(start) => start,
+        None => return &[],
+    };
+    let end = (start..script_words.len())
+        .step_by(3)
+        .find(|place| !is_of_card(place));
+    &script_words[start..end.unwrap_or(script_words.len())]
 }

@@ -1,10 +1,9 @@
-//! *Read a template*: the words of a template become a list of definitions, one per shape, and the rules of values, or
-//! the first fault is told. Refusals 1 to 12, 64 and 67 to 69, in the order of docs/FORMAT.md: left to right.
+//! *Read a template*: the words of a template become a list of definitions, one per shape, or the first fault is told.
+//! Refusals 1 to 12 and 64, in the order of docs/FORMAT.md: left to right, shape by shape.
 
 use crate::labels::{Label, Labelled, Way};
 use crate::numbers::{Kind, Shape};
 use crate::refusal::Refusal;
-use crate::values::sections::{self, Rule};
 
 /// The most words that a template has.
 pub const MOST_WORDS: usize = 4096;
@@ -58,16 +57,13 @@ pub fn label_of(code: u16) -> Option<Label> {
     }
 }
 
-/// A template that was read: its count of kinds, what each shape is, and what shapes ask of values.
-#[derive(Clone, PartialEq, Debug)]
+/// A template that was read: its count of kinds, and what each shape is.
+#[derive(Clone, PartialEq, Eq, Debug)]
 pub struct Template {
     /// The count of kinds, L.
     pub kinds: u16,
     /// What each shape is; their number is S.
     pub definitions: Vec<Definition>,
-    /// The rules, their shapes ascending; none if the template ends before their section. An empty section means the
-    /// same and is other words.
-    pub rules: Option<Vec<Rule>>,
 }
 
 /// What a shape is.
@@ -115,18 +111,12 @@ pub struct Link {
 pub type Named = Labelled<Option<Shape>>;
 
 impl Template {
-    /// A template of these shapes, without a section of rules.
-    pub fn new(kinds: u16, definitions: Vec<Definition>) -> Template {
+    /// A template of closed shapes with these parts.
+    pub fn closed(kinds: u16, parts: Vec<Part>) -> Template {
         Template {
             kinds,
-            definitions,
-            rules: None,
+            definitions: parts.into_iter().map(Definition::closed).collect(),
         }
-    }
-
-    /// The same of closed shapes with these parts.
-    pub fn closed(kinds: u16, parts: Vec<Part>) -> Template {
-        Template::new(kinds, parts.into_iter().map(Definition::closed).collect())
     }
 
     /// The count of shapes, S.
@@ -152,17 +142,6 @@ impl Template {
     /// For each shape, what its part names.
     pub fn named(&self) -> Vec<Named> {
         self.parts().map(|part| part.named(self.kinds)).collect()
-    }
-
-    /// All rules, their shapes ascending.
-    pub fn rules(&self) -> &[Rule] {
-        self.rules.as_deref().unwrap_or_default()
-    }
-
-    /// The rule of a shape, if it has one.
-    pub fn rule_of(&self, shape: Shape) -> Option<&Rule> {
-        let place = self.rules().binary_search_by_key(&shape, |rule| rule.shape);
-        place.ok().map(|place| &self.rules()[place])
     }
 }
 
@@ -317,9 +296,6 @@ pub fn write(template: &Template) -> Vec<u16> {
         words.push(shape_words.len() as u16);
         words.extend(shape_words);
     }
-    if let Some(rules) = &template.rules {
-        sections::write_rules(rules, &mut words);
-    }
     words
 }
 
@@ -347,17 +323,10 @@ pub fn read(words: &[u16]) -> Result<Template, Refusal> {
     for _ in 0..shapes {
         definitions.push(reader.shape()?);
     }
-    let rules = sections::read_rules(words, reader.next, shapes)?;
-    Ok(Template {
-        kinds,
-        definitions,
-        rules,
-    })
-}
-
-/// Where the shapes of a well-formed template end: there its section of rules starts, or it ends too.
-pub fn shapes_end(words: &[u16]) -> usize {
-    (0..words[1]).fold(2, |place, _| place + 1 + usize::from(words[place]))
+    if reader.next < words.len() {
+        return Err(Refusal::at(12, reader.next));
+    }
+    Ok(Template { kinds, definitions })
 }
 
 /// Where the reading stands.

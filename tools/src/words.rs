@@ -45,6 +45,6 @@ mod tests {
             "the desk asked for is neither radio, 0, nor television, 1"
         );
         assert_eq!(reason(66, 1), "a desk is neither radio, 0, nor television, 1");
-        assert_eq!(reason(999, 0), "a refusal that isn't known");
+        assert_eq!(reason(67, 0), "a refusal that isn't known");
     }
 }

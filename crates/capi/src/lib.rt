@@ -1,5 +1,6 @@
 // The operations for C and Rust, on words and bytes that the caller lends (docs/FORMAT.md, "Operations"). An answer is
-// a struct of plain numbers: number is 0 where nothing is refused, and what an answer does not say is 0.
+// a struct of plain numbers: number is 0 where nothing is refused, and what an answer does not say is 0. The crate
+// capi_c exports them to C.
 #![tactic(auto)]
 
 ghost use Rattle.std.specs.Prelude.{◌≡◌, length};
@@ -107,8 +108,7 @@ pub struct PrepWritten {
 }
 
 // Read a template.
-#[unsafe(no_mangle)]
-pub extern "C" fn prep_read_template(template: &[u16]) -> PrepTemplate
+pub fn prep_read_template(template: &[u16]) -> PrepTemplate
     ensures { Tells (λ said. said ≡ template_says template.now) (template_numbers result) }
 {
     let answer = read_template(template);
@@ -129,8 +129,7 @@ pub extern "C" fn prep_read_template(template: &[u16]) -> PrepTemplate
 }
 
 // Fit counts.
-#[unsafe(no_mangle)]
-pub extern "C" fn prep_fit_counts(template: &[u16], shape: u16, counts: &[u16]) -> PrepFit
+pub fn prep_fit_counts(template: &[u16], shape: u16, counts: &[u16]) -> PrepFit
     ensures { Tells (FitSays template.now shape counts.now) (fit_numbers result) }
 {
     let answer = fit_counts(template, Shape(shape), counts);
@@ -154,10 +153,8 @@ pub extern "C" fn prep_fit_counts(template: &[u16], shape: u16, counts: &[u16]) 
 }
 
 // Read a script.
-#[unsafe(no_mangle)]
-pub extern "C" fn prep_read_script(template: &[u16], script: &[u16]) -> PrepScript
-    ensures { Tells (λ said. said ≡ script_says template.now script.now)
-        (script_numbers result) }
+pub fn prep_read_script(template: &[u16], script: &[u16]) -> PrepScript
+    ensures { Tells (λ said. said ≡ script_says template.now script.now) (script_numbers result) }
 {
     let answer = read_script(template, script);
     match answer {
@@ -191,16 +188,9 @@ fn copy(from: &[u16], to: &mut [u16])
 }
 
 // Links of a card: copies as many of their words as there is room for, and returns how many they are.
-#[unsafe(no_mangle)]
-pub extern "C" fn prep_links_of_card(
-    template: &[u16],
-    script: &[u16],
-    card: u16,
-    links: &mut [u16],
-) -> usize
+pub fn prep_links_of_card(template: &[u16], script: &[u16], card: u16, links: &mut [u16]) -> usize
     ensures count { result ≡ length (card_links template.now script.now card) }
-    ensures words { links.new
-        ≡ copied (card_links template.now script.now card) links.old }
+    ensures words { links.new ≡ copied (card_links template.now script.now card) links.old }
 {
     let part = links_of_card(template, script, Card(card));
     copy(part, links);
@@ -208,10 +198,8 @@ pub extern "C" fn prep_links_of_card(
 }
 
 // Largest.
-#[unsafe(no_mangle)]
-pub extern "C" fn prep_largest(template: &[u16], script: &[u16], grid: &mut [u8]) -> PrepLargest
-    ensures { Tells (LargestSays template.now script.now grid.old
-        grid.new) (largest_numbers result) }
+pub fn prep_largest(template: &[u16], script: &[u16], grid: &mut [u8]) -> PrepLargest
+    ensures { Tells (LargestSays template.now script.now grid.old grid.new) (largest_numbers result) }
 {
     let answer = largest(template, script, grid);
     match answer {
@@ -233,16 +221,15 @@ pub extern "C" fn prep_largest(template: &[u16], script: &[u16], grid: &mut [u8]
 }
 
 // Smallest, of the desk's bookings.
-#[unsafe(no_mangle)]
-pub extern "C" fn prep_smallest(
+pub fn prep_smallest(
     template: &[u16],
     script: &[u16],
     bookings: &[u16],
     desk: u16,
     grid: &mut [u8],
 ) -> PrepSmallest
-    ensures { Tells (SmallestSays template.now script.now bookings.now desk
-        grid.old grid.new) (smallest_numbers result) }
+    ensures { Tells (SmallestSays template.now script.now bookings.now desk grid.old grid.new)
+        (smallest_numbers result) }
 {
     let answer = smallest(template, script, bookings, desk, grid);
     match answer {
@@ -273,8 +260,7 @@ pub extern "C" fn prep_smallest(
 }
 
 // Both typings, the smallest of the desk's bookings.
-#[unsafe(no_mangle)]
-pub extern "C" fn prep_both_typings(
+pub fn prep_both_typings(
     template: &[u16],
     script: &[u16],
     bookings: &[u16],
@@ -283,8 +269,8 @@ pub extern "C" fn prep_both_typings(
     large: &mut [u8],
 ) -> PrepBoth
     ensures { TellsBoth (BothSays template.now script.now bookings.now desk
-        (record { small = small.entry.now; large = large.old })
-        (record { small = small.exit.now; large = large.new })) result }
+        (record { small = small.old; large = large.old })
+        (record { small = small.new; large = large.new })) result }
 {
     let answer = both_typings(template, script, bookings, desk, small, large);
     match answer {
@@ -328,16 +314,14 @@ pub extern "C" fn prep_both_typings(
 }
 
 // Judge a grid, by the desk's bookings.
-#[unsafe(no_mangle)]
-pub extern "C" fn prep_judge(
+pub fn prep_judge(
     template: &[u16],
     script: &[u16],
     bookings: &[u16],
     desk: u16,
     grid: &[u8],
 ) -> PrepJudge
-    ensures { Tells (JudgeSays template.now script.now bookings.now desk
-        grid.now) (judge_numbers result) }
+    ensures { Tells (JudgeSays template.now script.now bookings.now desk grid.now) (judge_numbers result) }
 {
     let answer = judge(template, script, bookings, desk, grid);
     match answer {
@@ -363,15 +347,13 @@ pub extern "C" fn prep_judge(
 }
 
 // Tidy bookings.
-#[unsafe(no_mangle)]
-pub extern "C" fn prep_tidy_bookings(
+pub fn prep_tidy_bookings(
     template: &[u16],
     script: &[u16],
     bookings: &[u16],
     out: &mut [u16],
 ) -> PrepWritten
-    ensures { Tells (TidySays template.now script.now bookings.now
-        out.old out.new) (written_numbers result) }
+    ensures { Tells (TidySays template.now script.now bookings.now out.old out.new) (written_numbers result) }
 {
     let answer = tidy_bookings(template, script, bookings, out);
     match answer {

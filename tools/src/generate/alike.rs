@@ -69,7 +69,7 @@ pub fn alike(random: &mut Random, scale: Scale) -> Files {
         })
         .collect();
     definitions.push(Definition::open(Part::Nothing));
-    let template = Template::new(kinds, definitions);
+    let template = Template { kinds, definitions };
     booked(random, &template, scripts::words(cards, &links), scale)
 }
 

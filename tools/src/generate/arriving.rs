@@ -155,7 +155,10 @@ fn in_turn() -> Vec<Case> {
 pub fn all_labels(start: &str, shape: fn(Part) -> Definition) -> Vec<Case> {
     let one_each = Label::all(MOST_KINDS).map(|label| Part::link(label, Shape(1), 1, Some(1)));
     let parts = [Part::all_of(one_each.collect()), any_outgoing(MOST_KINDS, 0)];
-    let template = template::write(&Template::new(MOST_KINDS, parts.map(shape).into()));
+    let template = template::write(&Template {
+        kinds: MOST_KINDS,
+        definitions: parts.map(shape).into(),
+    });
     let kinds = 0..MOST_KINDS;
     let both: Links = kinds
         .clone()

@@ -35,7 +35,10 @@ pub fn sheet(asked: &Definition, counts: &Labelled<u16>) -> Option<Files> {
         ..*asked
     };
     let second = Definition::closed(any_outgoing(counts.kinds(), 0));
-    let template = Template::new(counts.kinds(), vec![first, second]);
+    let template = Template {
+        kinds: counts.kinds(),
+        definitions: vec![first, second],
+    };
     Some(Files {
         template: template::write(&template),
         script: scripts::words(1 + most, &links),

@@ -68,7 +68,7 @@ pub fn flat(random: &mut Random, scale: Scale) -> Files {
     };
     let mut definitions: Vec<Definition> = (1..shapes).map(|_| maker.definition()).collect();
     definitions.push(Definition::open(Part::Nothing));
-    let template = Template::new(kinds, definitions);
+    let template = Template { kinds, definitions };
     booked(random, &template, scripts::words(cards, &links), scale)
 }
 

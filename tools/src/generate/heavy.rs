@@ -130,7 +130,10 @@ fn dense_open_template() -> Template {
         Part::All([links, vec![Part::All(second)]].concat())
     };
     let definitions = (0..MOST_SHAPES).map(|shape| Definition::open(part(shape)));
-    filled(Template::new(MOST_KINDS, definitions.collect()))
+    filled(Template {
+        kinds: MOST_KINDS,
+        definitions: definitions.collect(),
+    })
 }
 
 /// The template with its last shape filled up to the last word.

@@ -21,7 +21,10 @@ pub fn matched(random: &mut Random, scale: Scale) -> Files {
         let part = plan.part(random, (shape, open), &ranges);
         Definition { open, part }
     };
-    let template = Template::new(plan.joins.len() as u16, shapes.map(define).collect());
+    let template = Template {
+        kinds: plan.joins.len() as u16,
+        definitions: shapes.map(define).collect(),
+    };
     if random.chance(1, 2) {
         scripts::disturb(random, &mut links, plan.cards(), template.kinds, scale.links);
     }

@@ -56,7 +56,7 @@ pub fn sheet(kinds: u16, shapes: Vec<Definition>, cards: &[Runs], booked: (u16, 
         }
     }
     Files {
-        template: template::write(&Template::new(kinds, definitions)),
+        template: template::write(&Template { kinds, definitions }),
         script: scripts::words(number, &links),
         bookings: bookings::words(&[(Desk::Radio, (Card(booked.0), Shape(booked.1)))]),
     }

@@ -6,7 +6,6 @@ use super::Scale;
 use crate::labels::Way;
 use crate::numbers::Shape;
 use crate::random::Random;
-use crate::script::links_end;
 use crate::template::Template;
 use std::collections::{BTreeMap, BTreeSet};
 
@@ -22,7 +21,7 @@ pub fn words(cards: u16, links: &Links) -> Vec<u16> {
 
 /// The links of a script that is well-formed.
 pub fn links(words: &[u16]) -> Links {
-    let links = words[2..links_end(words)].chunks(3);
+    let links = words[2..].chunks(3);
     links.map(|link| (link[0], link[1], link[2])).collect()
 }
 

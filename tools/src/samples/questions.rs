@@ -187,7 +187,7 @@ pub fn question(random: &mut Random) -> Question {
         counts[changed] = random.word(0, 4);
     }
     Question {
-        template: template::write(&Template::new(kinds, definitions)),
+        template: template::write(&Template { kinds, definitions }),
         shape,
         counts,
     }

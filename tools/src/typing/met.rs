@@ -7,7 +7,6 @@ use crate::labels::Label;
 use crate::numbers::{Card, Shape};
 use crate::script::End;
 use crate::template::Named;
-use crate::values::sections::Rule;
 
 /// What a card needs of another to have a shape: the label of the link between them, and the pair at its far end.
 pub type Need = (Label, Pair);
@@ -19,12 +18,6 @@ pub fn needs<'a>(setting: &'a Setting, named: &'a Named, card: Card) -> impl Ite
     ends.filter_map(|end| Some((end.label, (end.far, named[end.label]?))))
 }
 
-/// Whether the card's value obeys the rule of the shape, if the shape has one.
-pub fn obeys(setting: &Setting, (card, shape): Pair) -> bool {
-    let rule = setting.template.rule_of(shape);
-    rule.is_none_or(|rule| rule.is_obeyed_by(setting.script.value_of(card)))
-}
-
 /// Whether the pair is met under the grid. A label stands at most once in a shape, so there is only one shape to
 /// choose for each link: the one that its label is named with. Of the other links, those at which the shape looks
 /// aren't there if the counts fit, and the rest is ignored.
@@ -33,24 +26,16 @@ pub fn met(setting: &Setting, grid: &[u8], pair: Pair) -> bool {
     let (definition, kinds) = (setting.template.definition(shape), setting.template.kinds);
     let named = definition.part.named(kinds);
     let all_are_there = needs(setting, &named, card).all(|(_, far)| grid[setting.place(far)] == 1);
-    let fits = || intervals::fits(definition, &setting.script.counts_of(card, kinds));
-    all_are_there && obeys(setting, pair) && fits()
+    all_are_there && intervals::fits(definition, &setting.script.counts_of(card, kinds))
 }
 
 /// The same, taken at its word: every way to choose shapes of the far cards is tried, and the bag that comes out is
-/// looked up among the bags of the shape's part. For each rule of the shape, a value of the card within its bounds is
-/// looked for among all values. Only for a few links with small counts.
+/// looked up among the bags of the shape's part. Only for a few links with small counts.
 pub fn met_by_choices(setting: &Setting, grid: &[u8], pair: Pair) -> bool {
     let (card, shape) = pair;
     let counts = setting.script.counts_of(card, setting.template.kinds);
     let allowed = bags::bags(setting.template.part(shape), &counts);
-    let is_obeyed = |rule: &Rule| {
-        let mut values = setting.script.values().iter();
-        values.any(|of| of.card == card && of.value.is_within(rule.lowest, rule.highest))
-    };
-    let mut rules = setting.template.rules().iter();
-    rules.all(|rule| rule.shape != shape || is_obeyed(rule))
-        && some_choice_is_allowed(setting, grid, &chosen_for(setting, pair), &Bag::new(), &allowed)
+    some_choice_is_allowed(setting, grid, &chosen_for(setting, pair), &Bag::new(), &allowed)
 }
 
 /// The ends of links for which a shape of the far card is chosen: those at which the shape looks. A link from the card

@@ -1,14 +1,10 @@
 -- `capi::prep_both_typings` tells what the call for both typings says. Assumes nothing.
-use mathlib.Core.Path.{refl}
-use Rattle.typing.specs.declared.Settled.{Settled}
-use Rattle.typing.specs.Answer.{struck_said, settled_said, BothSaid, both_refused, both_said}
+use Rattle.typing.specs.Answer.{both_said}
 use Rattle.typing.specs.Calls.{BothSays}
-use Rattle.capi.proofs.Told.{Plain, said-by, both-refused}
+use Rattle.capi.proofs.Told.{said-by, both-refused}
 use Rattle.capi.proofs.Refusals.{both-plain}
-use Prim.Native.Nat.{ℕ}
-use mathlib.Core.List.{[], ◌∷◌}
-use Rattle.words.specs.Said.{refusal}
 use Rattle.capi.proofs.prep_both_typings.Goals as goal
+<<<<<<< HEAD
 use Rattle.capi.proofs.prep_both_typings.Goals.{After-both_typings-answer, In-Typed}
 
 -- What the call may say of this input.
@@ -52,3 +48,10 @@ returns-in-Refused c =
     let place = c.in-Refused.place in
     both-refused (Allowed (goal.at.returns-in-Refused c).After-both_typings-answer) number place (plain
     (goal.at.returns-in-Refused c).After-both_typings-answer number place says) says
+=======
+
+pub returns-in-Refused : goal.returns-in-Refused
+returns-in-Refused c =
+    let says = said-by (BothSays _ _ _ _ _ _) both_said c.in-Refused.is c.both_typings-answer.ensures in
+    both-refused (BothSays _ _ _ _ _ _) _ _ (both-plain _ _ _ _ _ _ _ _ says) says
+>>>>>>> ec361928e9f203d0d7c6be547e4944f74db16ea4

@@ -1,19 +1,9 @@
--- `capi::prep_fit_counts` tells what "Fit counts" says. Assumes nothing.
+-- `capi::prep_fit_counts` tells what Fit counts says. Assumes nothing.
 use Rattle.counts.specs.Answer.{fit_said}
 use Rattle.counts.specs.Fit.{FitSays}
-use Rattle.capi.proofs.Told.{said-by, tells-found, tells-refused}
+use Rattle.capi.proofs.Told.{said-by, tells-refused}
 use Rattle.capi.proofs.Refusals.{fit-plain}
 use Rattle.capi.proofs.prep_fit_counts.Goals as goal
-
-pub returns-in-Yes : goal.returns-in-Yes
-returns-in-Yes c =
-    let says = said-by (FitSays _ _ _) fit_said c.in-Yes.is c.fit_counts-answer.ensures in
-    tells-found (FitSays _ _ _) _ says
-
-pub returns-in-No : goal.returns-in-No
-returns-in-No c =
-    let says = said-by (FitSays _ _ _) fit_said c.in-No.is c.fit_counts-answer.ensures in
-    tells-found (FitSays _ _ _) _ says
 
 pub returns-in-Refused : goal.returns-in-Refused
 returns-in-Refused c =

@@ -1,13 +1,10 @@
 -- `capi::prep_judge` tells what the call that judges a grid says. Assumes nothing.
-use mathlib.Core.Path.{refl}
-use mathlib.Core.List.{[], ◌∷◌}
-use Prim.Native.Nat.{ℕ}
-use Rattle.words.specs.Said.{Said, refusal}
 use Rattle.typing.specs.Answer.{judge_said}
 use Rattle.typing.specs.Judge.{JudgeSays}
-use Rattle.capi.proofs.Told.{Plain, said-by, tells-found, tells-paired, tells-refused}
+use Rattle.capi.proofs.Told.{said-by, tells-refused}
 use Rattle.capi.proofs.Refusals.{judge-plain}
 use Rattle.capi.proofs.prep_judge.Goals as goal
+<<<<<<< HEAD
 use Rattle.capi.proofs.prep_judge.Goals.{After-judge-answer}
 
 -- What the call may say of this input.
@@ -41,3 +38,11 @@ returns-in-Refused c =
     let place = c.in-Refused.place in
     tells-refused (Allowed (goal.at.returns-in-Refused c).After-judge-answer) 0 number place (plain
     (goal.at.returns-in-Refused c).After-judge-answer number place says) says
+=======
+
+pub returns-in-Refused : goal.returns-in-Refused
+returns-in-Refused c =
+    let Allowed = JudgeSays _ _ _ _ _ in
+    let says = said-by Allowed judge_said c.in-Refused.is c.judge-answer.ensures in
+    tells-refused Allowed 0 _ _ (judge-plain _ _ _ _ _ _ _ says) says
+>>>>>>> ec361928e9f203d0d7c6be547e4944f74db16ea4

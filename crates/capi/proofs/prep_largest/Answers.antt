@@ -1,12 +1,10 @@
 -- `capi::prep_largest` tells what the call for the largest typing says. Assumes nothing.
 use Rattle.typing.specs.Answer.{largest_said}
 use Rattle.typing.specs.Calls.{LargestSays}
-use Rattle.capi.proofs.Told.{Plain, said-by, tells-found, tells-refused}
+use Rattle.capi.proofs.Told.{said-by, tells-refused}
 use Rattle.capi.proofs.Refusals.{largest-plain}
-use Prim.Native.Nat.{ℕ}
-use mathlib.Core.List.{[], ◌∷◌}
-use Rattle.words.specs.Said.{Said, refusal}
 use Rattle.capi.proofs.prep_largest.Goals as goal
+<<<<<<< HEAD
 use Rattle.capi.proofs.prep_largest.Goals.{After-largest-answer}
 
 -- What the call may say of this input.
@@ -33,3 +31,11 @@ returns-in-Refused c =
     let place = c.in-Refused.place in
     tells-refused (Allowed (goal.at.returns-in-Refused c).After-largest-answer) 3 number place (plain
     (goal.at.returns-in-Refused c).After-largest-answer number place says) says
+=======
+
+pub returns-in-Refused : goal.returns-in-Refused
+returns-in-Refused c =
+    let Allowed = LargestSays _ _ _ _ in
+    let says = said-by Allowed largest_said c.in-Refused.is c.largest-answer.ensures in
+    tells-refused Allowed 3 _ _ (largest-plain _ _ _ _ _ _ says) says
+>>>>>>> ec361928e9f203d0d7c6be547e4944f74db16ea4

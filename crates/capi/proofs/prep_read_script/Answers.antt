@@ -1,13 +1,9 @@
 -- `capi::prep_read_script` tells what reading a script says. Assumes nothing.
-use mathlib.Core.Path.{refl, sym, ap, ◌∙◌}
+use mathlib.Core.Path.{sym, ap, ◌∙◌}
 use Rattle.script.specs.Answer.{script_said}
 use Rattle.capi.proofs.Told.{equals-refused}
 use Rattle.capi.proofs.Refusals.{script-plain}
 use Rattle.capi.proofs.prep_read_script.Goals as goal
-
-pub returns-in-Counts : goal.returns-in-Counts
-returns-in-Counts c =
-    (sym (ap script_said c.in-Counts.is) ∙ c.read_script-answer.ensures, (refl, (refl, (refl, tt))))
 
 pub returns-in-Refused : goal.returns-in-Refused
 returns-in-Refused c =

@@ -1,13 +1,9 @@
 -- `capi::prep_read_template` tells what reading a template says. Assumes nothing.
-use mathlib.Core.Path.{refl, sym, ap, ◌∙◌}
+use mathlib.Core.Path.{sym, ap, ◌∙◌}
 use Rattle.template.specs.Answer.{template_said}
 use Rattle.capi.proofs.Told.{equals-refused}
 use Rattle.capi.proofs.Refusals.{template-plain}
 use Rattle.capi.proofs.prep_read_template.Goals as goal
-
-pub returns-in-Counts : goal.returns-in-Counts
-returns-in-Counts c =
-    (sym (ap template_said c.in-Counts.is) ∙ c.read_template-answer.ensures, (refl, (refl, (refl, tt))))
 
 pub returns-in-Refused : goal.returns-in-Refused
 returns-in-Refused c =
