@@ -27,8 +27,7 @@ use Rattle.capi.specs.declared.PrepBoth.{PrepBoth}
 use Rattle.capi.specs.declared.PrepJudge.{PrepJudge}
 use Rattle.capi.specs.declared.PrepWritten.{PrepWritten}
 use Rattle.capi.specs.Numbers.{Numbers, said, Tells, TellsBoth, copied, template_numbers, fit_numbers}
-use Rattle.capi.specs.Numbers.{script_numbers, largest_numbers, smallest_numbers, large_part, small_part}
-use Rattle.capi.specs.Numbers.{judge_numbers}
+use Rattle.capi.specs.Numbers.{script_numbers, largest_numbers, smallest_numbers, large_part, small_part, judge_numbers}
 use Rattle.capi.specs.Numbers.{written_numbers}
 use Rattle.capi.proofs.Told.{numbers-unique}
 
@@ -83,8 +82,7 @@ abbrev written_of : Numbers → PrepWritten
 written_of n = record { number = n.number; place = n.place; written = get_or n.found 0 0 }
 
 -- ---- the functions
-pub template-no-choice : (words : List ℕ) (a b : PrepTemplate) → Tells (λ x. x ≡ template_says words)
-    (template_numbers a)
+pub template-no-choice : (words : List ℕ) (a b : PrepTemplate) → Tells (λ x. x ≡ template_says words) (template_numbers a)
     → Tells (λ x. x ≡ template_says words) (template_numbers b) → a ≡ b
 template-no-choice words a b (x, p) (y, q) =
     ap template_of (numbers-unique (template_numbers a) (template_numbers b) refl (x ∙ sym y) p q)

@@ -4,13 +4,8 @@ use Rattle.capi.proofs.copy.Given as goal
 
 abbrev pub invariant-loop-i : goal.invariant-loop-i
 invariant-loop-i l =
-<<<<<<< HEAD
-    (l.i ≤ length l.from) × (l.i ≤ length l.to) × (length l.to ≡ length l.initial.to) × (l.to ≡ take l.i l.from ++
-    drop l.i l.initial.to)
-=======
     (l.i ≤ length l.from) × (l.i ≤ length l.to) × (length l.to ≡ length l.initial.to)
     × (l.to ≡ take l.i l.from ++ drop l.i l.initial.to)
->>>>>>> ec361928e9f203d0d7c6be547e4944f74db16ea4
 
 abbrev pub decreases-loop-i : goal.decreases-loop-i
 decreases-loop-i l = length l.initial.to - l.i
