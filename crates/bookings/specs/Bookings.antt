@@ -9,7 +9,8 @@
 -- Booked                    some booking of the desk is of the card and the shape
 -- desk_words                 the cards and shapes of a desk's bookings, in their order
 -- Assumes nothing.
-use Rattle.std.specs.Prelude.{ℕ, zero, suc, ◌+◌, ◌*◌, ◌<◌, ◌≡◌, Bool, false, not, ◌&&◌, ◌||◌, cond, List, [], ◌∷◌, length, get_or, ltb, leb, eqb}
+use Rattle.std.specs.Prelude.{ℕ, zero, suc, ◌+◌, ◌*◌, ◌<◌, ◌≡◌, Bool, false, not, ◌&&◌, ◌||◌, cond, List, [], ◌∷◌}
+use Rattle.std.specs.Prelude.{length, get_or, ltb, leb, eqb}
 use Rattle.words.specs.Limits.{max_bookings}
 use Rattle.words.specs.Reading.{Reading, accepted, refuse}
 

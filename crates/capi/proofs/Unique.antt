@@ -82,7 +82,8 @@ abbrev written_of : Numbers → PrepWritten
 written_of n = record { number = n.number; place = n.place; written = get_or n.found 0 0 }
 
 -- ---- the functions
-pub template-no-choice : (words : List ℕ) (a b : PrepTemplate) → Tells (λ x. x ≡ template_says words) (template_numbers a)
+pub template-no-choice : (words : List ℕ) (a b : PrepTemplate)
+    → Tells (λ x. x ≡ template_says words) (template_numbers a)
     → Tells (λ x. x ≡ template_says words) (template_numbers b) → a ≡ b
 template-no-choice words a b (x, p) (y, q) =
     ap template_of (numbers-unique (template_numbers a) (template_numbers b) refl (x ∙ sym y) p q)

@@ -1,5 +1,6 @@
 -- Pairs struck one at a time: orders on the worked sheet, and what is no order.
---   left_after, is_in_order   what strikes at some places leave; whether each is of a pair that is left and not met then
+--   left_after, is_in_order
+--                    what strikes at some places leave; whether each is of a pair that is left and not met then
 --   in_order, to_the_end   such strikes are a sequence; one that ends where the largest typing is left
 --   one-order        a sequence that strikes (1, 1) and (2, 0) last, where the rounds strike them first
 --   rounds-order     a sequence in the order of the rounds

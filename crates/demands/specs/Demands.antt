@@ -9,18 +9,19 @@
 --   Said                  what is said: values, or a refusal with its number and its place
 --   Reading               accepted with what was read, or turned_down with a refusal's number and place
 --   read_template, read_with, read_sheet, read_bookings, read_stored, fit_question, read_input, largest_reading,
---   smallest_reading, both_reading, desks_reading, tidy_reading   the tests of docs/FORMAT.md in their order, a line each:
---                         the first that finds a fault turns down. read_with is of a script with its template, read_sheet
---                         of both, read_stored of a stored list, the last five of a call
---   template_says, script_says, FitSays, LargestSays, SmallestSays, BothSays, DesksSays, JudgeSays, TidySays   what each
---                         operation may say and write; the judge of grids reads as the call for the smallest does, and
---                         writes nothing
+--   smallest_reading, both_reading, desks_reading, tidy_reading
+--                         the tests of docs/FORMAT.md in their order, a line each: the first that finds a fault turns
+--                         down. read_with is of a script with its template, read_sheet of both, read_stored of a
+--                         stored list, the last five of a call
+--   template_says, script_says, FitSays, LargestSays, SmallestSays, BothSays, DesksSays, JudgeSays, TidySays
+--                         what each operation may say and write; the judge of grids reads as the call for the
+--                         smallest does, and writes nothing
 --   card_links, links_start the words that "Links of a card" gives, and the word of the script at which they start.
 --                         card_words: the words of a card's links
 --   Template, Sheet       what is read of a template; of a template and a script. opens: whether a shape is open.
 --                         part_of: the part of a shape. neighbours_of: the labels and far cards of a card's links, from
 --                         either end, that a shape looks at. size: how many pairs there are
---   card_counts            the counts of a card's links: for each kind those from it, then for each kind those to it
+--   card_counts           the counts of a card's links: for each kind those from it, then for each kind those to it
 --   listed, seen          such a list as counts of labels; of counts those that a shape looks at, and 0 else
 --   Fits                  2.1: some bag of a part has just these counts
 --   Pairs, Has, on        a set of pairs of a card and a shape, by their places in a grid; it has a pair; the set of a
@@ -28,7 +29,7 @@
 --   Typing, SoundTyping   a grid of zeros and ones of the right length; a sound one
 --   Booked                some booking of the desk is of the card and the shape
 --   Holds, Below          a set has every booking; a set is in another
---   Largest, bare_cards    docs/FORMAT.md, "Largest": from every pair, r rounds of which the last strikes nothing and no
+--   Largest, bare_cards   docs/FORMAT.md, "Largest": from every pair, r rounds of which the last strikes nothing and no
 --                         other, with m pairs struck in all, lead to the set X; how many cards have some link and
 --                         no shape
 --   IsClosure, tally      "Smallest": a set is the closure of the bookings; how many pairs a set has
@@ -43,7 +44,8 @@
 --   Neighbourhood, RuleTwo, Belong, SecondDemand   the bag language and sound typings are the paper's
 --   LargestTyping, TwoTypings, ThirdDemand   the largest typing, and with it the smallest
 -- Assumes nothing.
-use Rattle.std.specs.Prelude.{ℕ, ◌+◌, ◌*◌, ◌≤◌, ◌<◌, ◌≡◌, ◌⊎◌, ◌↔◌, true, false, List, [], ◌∷◌, length, get_or, take, drop, replicate}
+use Rattle.std.specs.Prelude.{ℕ, ◌+◌, ◌*◌, ◌≤◌, ◌<◌, ◌≡◌, ◌⊎◌, ◌↔◌, true, false, List, [], ◌∷◌, length, get_or, take}
+use Rattle.std.specs.Prelude.{drop, replicate}
 use Rattle.words.specs.Limits.{max_count}
 use Rattle.words.specs.Said.{Said, values, refusal}
 use Rattle.words.specs.Reading.{accepted, turned_down}
@@ -170,7 +172,8 @@ pub record FirstDemand : Type 0 where
       → TidySays template script bookings before after said → (words : ℕ) × (said ≡ values (words ∷ []))
   -- ---- the links of a card are none where template or script is refused or there is no such card; else they are the
   -- words of the links that start at it, which stand side by side in the script
-  pub links-refused : (template script : List ℕ) (card number at : ℕ) → read_with template script ≡ turned_down number at
+  pub links-refused : (template script : List ℕ) (card number at : ℕ)
+      → read_with template script ≡ turned_down number at
       → card_links template script card ≡ []
   pub links-past : (template script : List ℕ) (s : Sheet) → Formed template script s
       → (card : ℕ) → s.cards ≤ card → card_links template script card ≡ []
@@ -208,7 +211,8 @@ pub record FirstDemand : Type 0 where
       → JudgeSays template script bookings desk grid (refusal number at) → JudgeListed number
   pub tidy-listed : (template script bookings before after : List ℕ) (number : ℕ) (at : List ℕ)
       → TidySays template script bookings before after (refusal number at) → TidyListed number × (after ≡ before)
-  pub printer-listed : (bytes : List ℕ) (number at : ℕ) → read_input bytes ≡ turned_down number at → PrinterListed number
+  pub printer-listed : (bytes : List ℕ) (number at : ℕ)
+      → read_input bytes ≡ turned_down number at → PrinterListed number
 
 -- ================ the second demand
 -- The paper's expression for what a card's links may count as under a typing (3.2): for each link one of the shapes

@@ -1,6 +1,6 @@
 -- The worked sheet as the printer takes and writes it (docs/FORMAT.md, "The printer").
--- worked_input, unmet_input, both_unmet_input   the bytes of template, script and bookings, each after its count of words,
---                                           low byte first
+-- worked_input, unmet_input, both_unmet_input   the bytes of template, script and bookings, each after its count of
+--                                              words, low byte first
 -- worked_text, unmet_text, both_unmet_text      the bytes that are printed for them
 -- Assumes nothing.
 use Rattle.std.specs.Prelude.{ℕ, List, [], ◌∷◌, ◌++◌}

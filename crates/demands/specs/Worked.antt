@@ -1,7 +1,7 @@
 -- The worked sheet of docs/FORMAT.md, "One sheet worked through": its files, and the answers that are right for it.
--- template, script               the sheet
--- met_bookings, unmet_bookings     radio books card 2 for shape 1, or card 0 for shape 0; both_unmet: both desks book the
---                                latter
+-- template, script                 the sheet
+-- met_bookings, unmet_bookings     radio books card 2 for shape 1, or card 0 for shape 0; both_unmet: both desks book
+--                                  the latter
 -- last_shape, no_shapes            the grids that are left: card 2 has shape 1, and no card has a shape
 -- largest_answer, smallest_answer, not_met_answer, none_answer   what is said
 -- Assumes nothing.

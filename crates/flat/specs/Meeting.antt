@@ -8,7 +8,8 @@
 -- LeavingAsked, LeavingAs   going along the links from a card
 -- LastLabels, ArrivingAsked, ArrivingAs   going along the counts of the last labels
 -- Assumes nothing.
-use Rattle.std.specs.Prelude.{ℕ, ◌+◌, ◌-◌, ◌*◌, ◌≤◌, ◌<◌, ◌≡◌, ◌↔◌, Bool, true, false, ◌&&◌, ◌||◌, List, length, get_or, ltb}
+use Rattle.std.specs.Prelude.{ℕ, ◌+◌, ◌-◌, ◌*◌, ◌≤◌, ◌<◌, ◌≡◌, ◌↔◌, Bool, true, false, ◌&&◌, ◌||◌, List, length}
+use Rattle.std.specs.Prelude.{get_or, ltb}
 use Rattle.words.specs.Limits.{max_kinds, max_labels}
 use Rattle.bags.specs.Part.{Part}
 use Rattle.bags.specs.Interval.{Interval, In, link_interval, interval, others_zero}

@@ -1,15 +1,16 @@
 -- Where the links of a flat part stand in a template's words; no part of a promise.
--- low_at, high_at   the low and the high of the link at a place
--- must            whether a label has a link that must be there: a place, and a low above 0
--- LinkPlaces      a list has the place of each label's link, or 0
--- Surveyed        a part is flat, its links are placed, and so many of them must be there
--- Standing        a part's words stand between two places, and the part obeys the format
+-- low_at, high_at  the low and the high of the link at a place
+-- must             whether a label has a link that must be there: a place, and a low above 0
+-- LinkPlaces       a list has the place of each label's link, or 0
+-- Surveyed         a part is flat, its links are placed, and so many of them must be there
+-- Standing         a part's words stand between two places, and the part obeys the format
 -- SurveyAsked, SurveyedAs   what a survey asks, and what its answer says
--- code_size, entered, must_at   what a step of a survey computes: the words of a code, the places with the one of a link,
---                             and 1 for a link that must be there
--- LinkRoom, EnterAsked        what a step asks
+-- code_size, entered, must_at   what a step of a survey computes: the words of a code, the places with the one of a
+--                               link, and 1 for a link that must be there
+-- LinkRoom, EnterAsked          what a step asks
 -- Assumes nothing.
-use Rattle.std.specs.Prelude.{ℕ, ◌+◌, ◌-◌, ◌≤◌, ◌<◌, ◌≡◌, Bool, ◌&&◌, cond, ◌↔◌, List, length, get_or, set, replicate, ltb, eqb}
+use Rattle.std.specs.Prelude.{ℕ, ◌+◌, ◌-◌, ◌≤◌, ◌<◌, ◌≡◌, Bool, ◌&&◌, cond, ◌↔◌, List, length, get_or, set, replicate}
+use Rattle.std.specs.Prelude.{ltb, eqb}
 use Rattle.words.specs.Limits.{max_labels, max_template}
 use Rattle.bags.specs.Part.{Limit, Part, Names, Single, limit_of}
 use Rattle.bags.specs.Flat.{Flat, Has}
@@ -39,7 +40,8 @@ pub record Surveyed (words : List ℕ) (p : Part) (places : List ℕ) (needed : 
   pub flat : Flat p
   pub placed : LinkPlaces words places
   pub links : (k low : ℕ) (high : Limit) → Has p k low high
-      ↔ ((0 < get_or places k 0) × (low ≡ low_at words (get_or places k 0)) × (high ≡ high_at words (get_or places k 0)))
+      ↔ ((0 < get_or places k 0) × (low ≡ low_at words (get_or places k 0))
+      × (high ≡ high_at words (get_or places k 0)))
   pub count : needed ≡ tally (must words places) max_labels
 
 -- The words of a part, exactly, from a place on up to another. No label stands twice, each has an entry, and numbers

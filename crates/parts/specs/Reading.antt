@@ -6,7 +6,8 @@
 -- read_run, read_part       a run of parts, and a part: each leads to the other
 -- A row has, for each label, the shape that the shape being read has named for it so far plus one, or 0.
 -- Assumes nothing.
-use Rattle.std.specs.Prelude.{ℕ, zero, suc, ◌+◌, ◌-◌, List, Bool, true, false, not, cond, get_or, set, replicate, ltb, leb, eqb}
+use Rattle.std.specs.Prelude.{ℕ, zero, suc, ◌+◌, ◌-◌, List, Bool, true, false, not, cond, get_or, set, replicate, ltb}
+use Rattle.std.specs.Prelude.{leb, eqb}
 use Rattle.words.specs.Limits.{max_labels, max_count, no_limit, min_group, max_group}
 use Rattle.words.specs.Reading.{Reading, accepted, turned_down, refuse, then, mapped}
 use Rattle.bags.specs.Label.{outgoing, incoming, first_label}

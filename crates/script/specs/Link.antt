@@ -8,7 +8,8 @@
 -- below                  how many links start at a card below a number
 -- linked                 whether a link touches a card
 -- Assumes nothing.
-use Rattle.std.specs.Prelude.{ℕ, zero, suc, ◌+◌, ◌*◌, List, [], ◌∷◌, ◌++◌, Bool, true, false, cond, ◌||◌, get_or, ltb, eqb}
+use Rattle.std.specs.Prelude.{ℕ, zero, suc, ◌+◌, ◌*◌, List, [], ◌∷◌, ◌++◌, Bool, true, false, cond, ◌||◌, get_or, ltb}
+use Rattle.std.specs.Prelude.{eqb}
 use Rattle.bags.specs.Label.{Way, outgoing, incoming, label_of}
 use Rattle.bags.specs.Choice.{Neighbour, to}
 

@@ -22,7 +22,8 @@ name_keys = max_kinds * max_shapes
 -- Shapes × kind + shape for a place that names a shape; a key of its own, past these, for one that does not.
 unfoldable pub entry_key : List ℕ → ℕ → ℕ → ℕ
 entry_key names start p =
-    cond (eqb (half_entry names start p) 0) (name_keys + p) (p % max_kinds * max_shapes + (half_entry names start p - 1))
+    cond (eqb (half_entry names start p) 0) (name_keys + p)
+    (p % max_kinds * max_shapes + (half_entry names start p - 1))
 
 -- A table of names with a row of labels for each shape. An entry is a shape plus one, or 0.
 pub record Table (names : List ℕ) (shapes : ℕ) : Type 0 where

@@ -46,7 +46,8 @@ pub record Effect (words : List ℕ) (start core : ℕ) (lowers frees : Bool) : 
 pub record FrontOf (words : List ℕ) (start most : ℕ) (front : Front) : Type 0 where
   pub order : start ≤ front.core
   pub few : front.core ≤ start + most
-  pub codes : (k : ℕ) → start ≤ k → k < front.core → (k < length words) × (1 ≤ get_or words k 0) × (get_or words k 0 ≤ 3)
+  pub codes : (k : ℕ) → start ≤ k → k < front.core
+      → (k < length words) × (1 ≤ get_or words k 0) × (get_or words k 0 ≤ 3)
   pub ends : front.core < start + most → front.core < length words →
       1 ≤ get_or words front.core 0 → 4 ≤ get_or words front.core 0
   pub effect : Effect words start front.core front.lowers front.frees

@@ -6,7 +6,8 @@
 -- has_named, end_test, link_test   a set has the pair that an entry asks for; that a link leads to, one way and both
 -- Ready        a script and a table of names that fit together
 -- Assumes nothing.
-use Rattle.std.specs.Prelude.{ℕ, zero, suc, ◌+◌, ◌*◌, ◌/◌, ◌%◌, ◌≤◌, ◌<◌, ◌≡◌, List, Bool, true, ◌&&◌, cond, length, get_or, eqb}
+use Rattle.std.specs.Prelude.{ℕ, zero, suc, ◌+◌, ◌*◌, ◌/◌, ◌%◌, ◌≤◌, ◌<◌, ◌≡◌, List, Bool, true, ◌&&◌, cond, length}
+use Rattle.std.specs.Prelude.{get_or, eqb}
 use Rattle.words.specs.Limits.{max_labels, max_shapes, max_cards, max_links}
 use Rattle.bags.specs.Label.{Way, outgoing, incoming}
 use Rattle.board.specs.Grid.{on}

@@ -33,7 +33,8 @@ pub record Starts (script starts : List ℕ) : Type 0 where
   pub cards : get_or script 0 0 < length starts
   pub within : (n : ℕ) → n ≤ get_or script 0 0 → get_or starts n 0 ≤ get_or script 1 0
   pub rising : (n : ℕ) → n < get_or script 0 0 → get_or starts n 0 ≤ get_or starts (n + 1) 0
-  pub right : (n i : ℕ) → n < get_or script 0 0 → get_or starts n 0 ≤ i → i < get_or starts (n + 1) 0 → from_at script i ≡ n
+  pub right : (n i : ℕ) → n < get_or script 0 0 → get_or starts n 0 ≤ i → i < get_or starts (n + 1) 0
+      → from_at script i ≡ n
   pub each : (i : ℕ) → i < get_or script 1 0
       → (get_or starts (from_at script i) 0 ≤ i) × (i < get_or starts (from_at script i + 1) 0)
 
