@@ -5,6 +5,7 @@ pub mod Bools
 pub mod Cells
 pub mod Places
 pub mod Chains
+pub mod Refused
 pub mod Writing
 pub mod Said
 pub mod Readings

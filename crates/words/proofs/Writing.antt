@@ -9,7 +9,7 @@
 --   wrote-writes                what was written from the start on is what a writer promises
 --   writes-front, writes-rest   its words are the buffer's front, and the rest is as before
 --   writes-unique               no choice is left by that promise
---   write-said-unique           and none of the enum's cases
+--   write-said-unique           nor by what an answer says
 -- Assumes nothing.
 use mathlib.Core.Path.{◌≡◌, refl, sym, ap, ◌∙◌, subst}
 use mathlib.Core.List.{List, [], ◌∷◌, ◌++◌, append_assoc}
@@ -21,9 +21,10 @@ use lib.Seq.{length-take-le, take_at, drop_at, drop-drop, take-suc, set_split}
 use Rattle.words.specs.Said.{Said, values}
 use Rattle.words.specs.Wrote.{Room, Wrote}
 use Rattle.words.specs.Writes.{Writes, write_said}
-use Rattle.words.specs.declared.WriteAnswer.{WriteAnswer}
-use Rattle.words.specs.declared.WriteAnswer.TheVariants as write
-use Rattle.words.proofs.Said.{one_value}
+use Rattle.words.specs.declared.refusal.Refusal.{Refusal}
+use Rattle.words.proofs.Said.{one_value, values-refusal}
+use Rattle.words.proofs.Refused.{said-by-unique}
+use Rattle.std.specs.Prelude.{Result}
 
 pub wrote_nothing : (b : List ℕ) (at : ℕ) → at ≤ length b → Wrote b at [] b at
 wrote_nothing b at h = record { room = h; moved = omega arith; holds = sym (take-append-drop at b) }
@@ -112,8 +113,5 @@ pub writes-unique : {words before g h : List ℕ} {a b : Said} → Writes words 
     → (a ≡ b) × (g ≡ h)
 writes-unique v w = (v.says ∙ sym w.says, v.writes ∙ sym w.writes)
 
-pub write-said-unique : (a b : WriteAnswer) → write_said a ≡ write_said b → a ≡ b
-write-said-unique (write.Written m) (write.Written k) e = cc
-write-said-unique (write.Written m) (write.Refused number at) e = cc
-write-said-unique (write.Refused number at) (write.Written m) e = cc
-write-said-unique (write.Refused number at) (write.Refused number' at') e = cc
+pub write-said-unique : (a b : Result ℕ Refusal) → write_said a ≡ write_said b → a ≡ b
+write-said-unique = said-by-unique _ (λ m k e. one_value e) (λ m r e. values-refusal e)

@@ -1,8 +1,13 @@
-// The format's limits, the numbers of cards, kinds and shapes, words and bytes as sizes, and the answer of what writes:
-// what every crate starts with.
+// The format's limits, the numbers of cards, kinds and shapes, and words and bytes as sizes: what every crate starts
+// with.
+//   refusal   what an operation refuses its input for
 #![tactic(auto)]
 
+mod refusal;
+
 ghost use Rattle.words.specs.Bounded.{Bounded};
+
+pub use refusal::{Fault, Refusal};
 
 // The limits, as specs/Limits and specs/Sizes have them.
 pub const MAX_KINDS: usize = 64;
@@ -46,13 +51,6 @@ pub struct Kind(pub u16);
 // The number of a shape: it counts the template's shapes from 0.
 #[derive(Clone, Copy)]
 pub struct Shape(pub u16);
-
-// What an operation answers that writes into a buffer: how many words or bytes it wrote, or number and place.
-#[derive(Clone, Copy)]
-pub enum WriteAnswer {
-    Written(usize),
-    Refused(u16, usize),
-}
 
 // A word as a size.
 pub fn wide(x: u16) -> usize
