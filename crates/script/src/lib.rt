@@ -13,7 +13,7 @@ use template::read_template;
 use words::{Card, Fault, MAX_CARDS, MAX_LINKS, Refusal, wide};
 
 // A script's counts of cards and of links.
-#[derive(Clone, Copy, Debug, PartialEq, Eq)]
+#[derive(Clone, Copy)]
 pub struct ScriptSizes {
     pub cards: u16,
     pub links: u16,
