@@ -19,8 +19,8 @@ struck_said r = values (r.rounds ∷ r.struck ∷ r.bare ∷ [])
 abbrev pub pair_said : ℕ → Card × Shape → Said
 pair_said number (card, shape) = refusal number (card.0 ∷ shape.0 ∷ [])
 
--- How a desk's bookings fared: the closure's number of pairs, or 50, with the card and the shape of its lowest pair that
--- is not met.
+-- How a desk's bookings fared: the closure's number of pairs, or 50, with the card and the shape of its lowest pair
+-- that is not met.
 abbrev pub settled_said : Result ℕ (Card × Shape) → Said
 settled_said (Ok pairs) = values (pairs ∷ [])
 settled_said (Err pair) = pair_said 50 pair
