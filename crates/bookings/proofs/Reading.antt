@@ -1,7 +1,7 @@
 -- What reading a list of bookings finds: a law for each answer, and the numbers of its refusals.
 --   list-empty, list-many, list-other   the refusals of any list, 30, 31 and 30
 --   list-listed                         its bookings one by one
---   counted-refused, counted-sized, counted-listed   these, by what looking at its count and its length found
+--   counted-listed                      these, by what looking at its count and its length found
 --   each_next, each-end                 the next booking, and none left
 --   rule-desk, rule-card, rule-shape, rule-repeat, rule-passed   one booking: 66, 32, 33, 65, or none of these
 --   ListNumber, list-numbers            30 to 33, with which any list is refused, beside what the rule refuses with
@@ -16,6 +16,7 @@ use native.Mathlib.Omega.{arith}
 use native.Mathlib.Numerals.{add-one}
 use lib.ListN.{length, get_or}
 use lib.Dec.{ltb, leb, eqb}
+use Rattle.std.specs.Prelude.{Ok}
 use borrow.Author.Tests.{le-leb, lt-leb, lt-ltb, le-ltb, eq-eqb, ne_eqb}
 use Rattle.words.specs.Limits.{max_bookings}
 use Rattle.words.specs.Reading.{Reading, accepted, turned_down}
@@ -24,8 +25,6 @@ use Rattle.bookings.specs.Bookings.{read_each, read_list, desk_index, card_index
 use Rattle.bookings.specs.Bookings.{shape_at}
 use Rattle.bookings.specs.Bookings.{booking_at, repeated, booking_rule, read_bookings}
 use Rattle.bookings.specs.Steps.{ListOf, CountRead}
-use Rattle.bookings.specs.declared.BookingRead.{BookingRead}
-use Rattle.bookings.specs.declared.BookingRead.TheVariants as list
 
 -- ---- any list
 module _ (width : ℕ) (rule : ℕ → Reading ℕ → Reading ℕ) (bookings : List ℕ) where
@@ -56,21 +55,13 @@ module _ (width : ℕ) (rule : ℕ → Reading ℕ → Reading ℕ) (bookings : 
     eq-eqb (length bookings) (1 + width * get_or bookings 0 0) sized.size,
   ) refl
 
--- By what looking at its count and its length found: it is refused, whatever the rule, or its bookings are read.
-module _ (width : ℕ) (bookings : List ℕ) {r : BookingRead} (h : CountRead width bookings r) where
-  pub counted-refused : (rule : ℕ → Reading ℕ → Reading ℕ) {number place : ℕ} → r ≡ list.Refused number place
-      → turned_down number place ≡ read_list width rule bookings
-  counted-refused rule q = sym (subst (CountRead width bookings) q h rule)
-
-  pub counted-sized : {count : ℕ} → r ≡ list.Count count → ListOf width bookings count
-  counted-sized q = let (sized, first) = subst (CountRead width bookings) q h in sized
-
-  pub counted-listed : (rule : ℕ → Reading ℕ → Reading ℕ) {count : ℕ} {reading : Reading ℕ} → r ≡ list.Count count
-      → reading ≡ read_each rule count 0 (accepted count) → reading ≡ read_list width rule bookings
-  counted-listed rule q each =
-      let (sized, first) = subst (CountRead width bookings) q h in
-      each ∙ ap (λ (n : ℕ). read_each rule n 0 (accepted n)) first
-      ∙ list-listed width rule bookings (subst (ListOf width bookings) first sized)
+-- By what looking at its count and its length found: its bookings are read.
+pub counted-listed : (width : ℕ) (bookings : List ℕ) (rule : ℕ → Reading ℕ → Reading ℕ) {count : ℕ}
+    {reading : Reading ℕ} → CountRead width bookings (Ok count) → reading ≡ read_each rule count 0 (accepted count)
+    → reading ≡ read_list width rule bookings
+counted-listed width bookings rule (sized, first) each =
+    each ∙ ap (λ (n : ℕ). read_each rule n 0 (accepted n)) first
+    ∙ list-listed width rule bookings (subst (ListOf width bookings) first sized)
 
 -- The bookings from booking i on.
 module _ (rule : ℕ → Reading ℕ → Reading ℕ) (count i : ℕ) (done : Reading ℕ) where

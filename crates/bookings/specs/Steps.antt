@@ -1,5 +1,4 @@
--- What the code's answer says of the reading of a booking list, and what its parts ask and leave; no part of a promise.
--- booking_reading   the reading that an answer stands for
+-- What the parts of the code ask and leave; no part of a promise.
 -- ListOf           a list that has the words of so many bookings, each of so many words
 -- WordsIn          the words of booking i stand in a list
 -- CountRead        what looking at a list's count and length finds
@@ -9,17 +8,13 @@
 -- Entered          what looking a booking up among them tells and leaves: it is there, or is chained too
 -- Assumes nothing.
 use Rattle.std.specs.Prelude.{ℕ, suc, ◌+◌, ◌*◌, ◌≤◌, ◌<◌, ◌≡◌, Bool, true, false, List, length, get_or}
+use Rattle.std.specs.Prelude.{Result, Ok, Err}
 use Rattle.words.specs.Limits.{max_bookings, max_cards}
-use Rattle.words.specs.Reading.{Reading, accepted, turned_down}
+use Rattle.words.specs.Reading.{Reading, turned_down}
+use Rattle.words.specs.Refused.{number}
+use Rattle.words.specs.declared.refusal.Refusal.{Refusal}
 use Rattle.words.specs.Chain.{Chained}
 use Rattle.bookings.specs.Bookings.{Booking, read_list, booking_at, card_at, shape_at, booked_before}
-use Rattle.bookings.specs.declared.BookingRead.{BookingRead}
-use Rattle.bookings.specs.declared.BookingRead.TheVariants as list
-
--- What reading the booking list finds.
-abbrev pub booking_reading : BookingRead → Reading ℕ
-booking_reading (list.Count count) = accepted count
-booking_reading (list.Refused number place) = turned_down number place
 
 -- The list has the words of so many bookings, and these are not too many.
 pub record ListOf (width : ℕ) (bookings : List ℕ) (count : ℕ) : Type 0 where
@@ -33,10 +28,10 @@ pub record WordsIn (width : ℕ) (bookings : List ℕ) (i : ℕ) : Type 0 where
 
 -- A list with the words that its count asks for, which is then read one by one; or one that is refused, whatever the
 -- rule for each booking.
-abbrev pub CountRead : ℕ → List ℕ → BookingRead → Type 0
-CountRead width bookings (list.Count count) = ListOf width bookings count × (count ≡ get_or bookings 0 0)
-CountRead width bookings (list.Refused number place) =
-    (rule : ℕ → Reading ℕ → Reading ℕ) → read_list width rule bookings ≡ turned_down number place
+abbrev pub CountRead : ℕ → List ℕ → Result ℕ Refusal → Type 0
+CountRead width bookings (Ok count) = ListOf width bookings count × (count ≡ get_or bookings 0 0)
+CountRead width bookings (Err r) =
+    (rule : ℕ → Reading ℕ → Reading ℕ) → read_list width rule bookings ≡ turned_down (number r.0) r.1
 
 -- A list of so many bookings; the cards are those of a script.
 pub record PairsAsked (cards : ℕ) (bookings : List ℕ) (count : ℕ) : Type 0 where

@@ -7,19 +7,13 @@ mod lookup;
 ghost use Rattle.std.specs.Prelude.{◌≡◌, ◌*◌, ◌≤◌};
 ghost use Rattle.words.specs.Limits.{max_cards, max_bookings};
 ghost use Rattle.words.specs.Reading.{accepted};
+ghost use Rattle.words.specs.Refused.{read_as};
 ghost use Rattle.bookings.specs.Bookings.{desk_index, card_index, shape_index, desk_at, card_at, shape_at};
 ghost use Rattle.bookings.specs.Bookings.{booking_rule, read_each, read_bookings};
-ghost use Rattle.bookings.specs.Steps.{booking_reading, WordsIn, CountRead, PairsAsked};
+ghost use Rattle.bookings.specs.Steps.{WordsIn, CountRead, PairsAsked};
 
 pub use lookup::enter_booking;
-use words::{Card, MAX_BOOKINGS, MAX_CARDS, Shape, wide};
-
-// What reading a booking list finds: its count, or number and place.
-#[derive(Clone, Copy)]
-pub enum BookingRead {
-    Count(u16),
-    Refused(u16, usize),
-}
+use words::{Card, Fault, MAX_BOOKINGS, MAX_CARDS, Refusal, Shape, wide};
 
 // Where the desk of booking i stands in the list.
 pub fn desk_index(i: usize) -> usize
@@ -70,62 +64,57 @@ pub fn shape_at(bookings: &[u16], i: usize) -> Shape
 }
 
 // The count of a list with so many words for each booking, where it has the words that the count asks for.
-pub fn list_count(width: usize, bookings: &[u16]) -> BookingRead
+pub fn list_count(width: usize, bookings: &[u16]) -> Result<u16, Refusal>
     requires { width ≤ 3 }
     ensures { CountRead width bookings.now result }
 {
     if bookings.len() == 0 {
-        return BookingRead::Refused(30, 0);
+        return Err(Refusal(Fault::ListLength, 0));
     }
     let count = bookings[0];
     if MAX_BOOKINGS < wide(count) {
-        return BookingRead::Refused(31, 0);
+        return Err(Refusal(Fault::BookingCount, 0));
     }
     if bookings.len() != 1 + width * wide(count) {
-        return BookingRead::Refused(30, 0);
+        return Err(Refusal(Fault::ListLength, 0));
     }
-    BookingRead::Count(count)
+    Ok(count)
 }
 
 // Reads so many bookings, one by one.
-fn read_pairs(cards: u16, shapes: u16, count: u16, bookings: &[u16]) -> BookingRead
+fn read_pairs(cards: u16, shapes: u16, count: u16, bookings: &[u16]) -> Result<u16, Refusal>
     requires { PairsAsked cards bookings.now count }
-    ensures { booking_reading result
+    ensures { read_as result
         ≡ read_each (booking_rule cards shapes bookings.now) count 0 (accepted count) }
 {
     let mut first = [0u16; MAX_CARDS];
     let mut next = [0u16; MAX_BOOKINGS];
     let pairs = wide(count);
-    let mut i = 0;
-    while i < pairs {
+    for i in 0..pairs {
         let desk = desk_at(bookings, i);
         if 1 < desk {
-            return BookingRead::Refused(66, desk_index(i));
+            return Err(Refusal(Fault::UnknownDesk, desk_index(i)));
         }
         let card = card_at(bookings, i);
         if cards <= card.0 {
-            return BookingRead::Refused(32, card_index(i));
+            return Err(Refusal(Fault::BookedCard, card_index(i)));
         }
         let shape = shape_at(bookings, i);
         if shapes <= shape.0 {
-            return BookingRead::Refused(33, shape_index(i));
+            return Err(Refusal(Fault::BookedShape, shape_index(i)));
         }
         if enter_booking(bookings, i, desk, card, shape, &mut first, &mut next) {
-            return BookingRead::Refused(65, card_index(i));
+            return Err(Refusal(Fault::RepeatedBooking, card_index(i)));
         }
-        i += 1;
     }
-    BookingRead::Count(count)
+    Ok(count)
 }
 
 // Reads a booking list for the cards of a script and so many shapes.
-pub fn read_bookings(cards: u16, shapes: u16, bookings: &[u16]) -> BookingRead
+pub fn read_bookings(cards: u16, shapes: u16, bookings: &[u16]) -> Result<u16, Refusal>
     requires { cards ≤ max_cards }
-    ensures { booking_reading result ≡ read_bookings cards shapes bookings.now }
+    ensures { read_as result ≡ read_bookings cards shapes bookings.now }
 {
-    let counted = list_count(3, bookings);
-    match counted {
-        BookingRead::Refused(number, place) => BookingRead::Refused(number, place),
-        BookingRead::Count(count) => read_pairs(cards, shapes, count, bookings),
-    }
+    let count = list_count(3, bookings)?;
+    read_pairs(cards, shapes, count, bookings)
 }

@@ -24,6 +24,7 @@ pub fn enter_booking(
     let n = wide(card.0);
     let last = first[n];
     let mut at = wide(last);
+    // a chain: each step follows the last by `next`
     while at != 0 {
         let j = at - 1;
         if shape_at(bookings, j).0 == shape.0 && desk_at(bookings, j) == desk {

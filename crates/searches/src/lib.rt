@@ -83,7 +83,7 @@ pub fn settle(
     );
     let unfit = first_unfit(grid, fitting, shapes);
     match unfit {
-        Unfit::Nowhere => Settled::Pairs(found),
-        Unfit::At(card, shape) => Settled::NotMet(card, shape),
+        Unfit::Nowhere => Ok(found),
+        Unfit::At(card, shape) => Err((card, shape)),
     }
 }

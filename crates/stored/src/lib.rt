@@ -6,13 +6,14 @@ mod tidying;
 
 ghost use Rattle.std.specs.Prelude.{◌≡◌};
 ghost use Rattle.words.specs.Reading.{accepted};
+ghost use Rattle.words.specs.Refused.{read_as};
 ghost use Rattle.bookings.specs.Bookings.{read_each};
-ghost use Rattle.bookings.specs.Steps.{booking_reading, WordsIn, ListOf};
+ghost use Rattle.bookings.specs.Steps.{WordsIn, ListOf};
 ghost use Rattle.stored.specs.Stored.{stored_card_at, stored_shape_at, stored_rule, read_stored};
 
-use bookings::{BookingRead, list_count};
+use bookings::list_count;
 pub use tidying::tidy;
-use words::{Card, Shape, wide};
+use words::{Card, Fault, Refusal, Shape, wide};
 
 // The card of booking i.
 fn stored_card_at(bookings: &[u16], i: usize) -> Card
@@ -31,32 +32,27 @@ fn stored_shape_at(bookings: &[u16], i: usize) -> Shape
 }
 
 // Reads so many bookings, one by one.
-fn read_stored_pairs(cards: u16, shapes: u16, count: u16, bookings: &[u16]) -> BookingRead
+fn read_stored_pairs(cards: u16, shapes: u16, count: u16, bookings: &[u16]) -> Result<u16, Refusal>
     requires { ListOf 2 bookings.now count }
-    ensures { booking_reading result
+    ensures { read_as result
         ≡ read_each (stored_rule cards shapes bookings.now) count 0 (accepted count) }
 {
     let pairs = wide(count);
-    let mut i = 0;
-    while i < pairs {
+    for i in 0..pairs {
         if cards <= stored_card_at(bookings, i).0 {
-            return BookingRead::Refused(32, 1 + 2 * i);
+            return Err(Refusal(Fault::BookedCard, 1 + 2 * i));
         }
         if shapes <= stored_shape_at(bookings, i).0 {
-            return BookingRead::Refused(33, 2 + 2 * i);
+            return Err(Refusal(Fault::BookedShape, 2 + 2 * i));
         }
-        i += 1;
     }
-    BookingRead::Count(count)
+    Ok(count)
 }
 
 // Reads a stored list for so many cards and shapes.
-pub fn read_stored(cards: u16, shapes: u16, bookings: &[u16]) -> BookingRead
-    ensures { booking_reading result ≡ read_stored cards shapes bookings.now }
+pub fn read_stored(cards: u16, shapes: u16, bookings: &[u16]) -> Result<u16, Refusal>
+    ensures { read_as result ≡ read_stored cards shapes bookings.now }
 {
-    let counted = list_count(2, bookings);
-    match counted {
-        BookingRead::Refused(number, place) => BookingRead::Refused(number, place),
-        BookingRead::Count(count) => read_stored_pairs(cards, shapes, count, bookings),
-    }
+    let count = list_count(2, bookings)?;
+    read_stored_pairs(cards, shapes, count, bookings)
 }

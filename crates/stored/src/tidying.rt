@@ -17,8 +17,7 @@ pub fn tidy(bookings: &[u16], count: u16, out: &mut [u16]) -> usize
     let mut next = [0u16; MAX_BOOKINGS];
     let pairs = wide(count);
     let mut kept = 0;
-    let mut i = 0;
-    while i < pairs {
+    for i in 0..pairs {
         let card = stored_card_at(bookings, i);
         let shape = stored_shape_at(bookings, i);
         if !enter_booking(out, kept, 0, card, shape, &mut first, &mut next) {
@@ -27,7 +26,6 @@ pub fn tidy(bookings: &[u16], count: u16, out: &mut [u16]) -> usize
             out[shape_index(kept)] = shape.0;
             kept += 1;
         }
-        i += 1;
     }
     out[0] = kept as u16;
     desk_index(kept)

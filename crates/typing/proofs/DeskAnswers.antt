@@ -4,19 +4,21 @@
 -- Assumes nothing.
 use Prim.Native.Nat.{ℕ}
 use mathlib.Core.Path.{◌≡◌, sym, ap, ◌∙◌}
-use mathlib.Core.List.{List, [], ◌∷◌}
+use mathlib.Core.List.{List}
 use native.Mathlib.Omega.{arith}
 use lib.ListN.{length}
-use Rattle.words.specs.Said.{Said, refusal}
+use Rattle.words.specs.Said.{Said}
 use Rattle.words.specs.Reading.{accepted, then}
 use Rattle.words.proofs.Said.{values-refusal}
 use Rattle.words.proofs.Answered.{answered-unique}
 use Rattle.sheet.specs.Sheet.{Sheet, size, read_sheet}
+use Rattle.std.specs.Prelude.{Result, Ok, Err}
+use Rattle.words.specs.declared.Card.{Card}
+use Rattle.words.specs.declared.Shape.{Shape}
+use Rattle.words.specs.declared.refusal.Refusal.{Refusal}
+use Rattle.words.proofs.Refused.{refused-unique}
 use Rattle.typing.specs.declared.Struck.{Struck}
-use Rattle.typing.specs.declared.Settled.{Settled}
 use Rattle.typing.specs.declared.Desks.{Desks}
-use Rattle.typing.specs.declared.DesksAnswer.{DesksAnswer}
-use Rattle.typing.specs.declared.DesksAnswer.TheVariants as desks
 use Rattle.typing.specs.Answer.{struck_said, settled_said, DesksSaid, desks_refused, desks_said}
 use Rattle.typing.specs.Calls.{listed_reading, with_grid, BothSays}
 use Rattle.typing.specs.Desks.{DeskGrids, desks_reading, DesksFound, DesksSays}
@@ -25,29 +27,25 @@ use Rattle.typing.proofs.Existence.{represented}
 use Rattle.typing.proofs.DesksApart.{both-asked}
 use Rattle.typing.proofs.Unique.{struck-unique, settled-unique, both-found-unique}
 
--- ---- of one saying one case of the enum
+-- ---- of one saying one answer
 desks-unique : (a b : Desks) → struck_said a.largest ≡ struck_said b.largest
     → settled_said a.radio ≡ settled_said b.radio → settled_said a.television ≡ settled_said b.television
     → a ≡ b
 desks-unique a b e f g =
     ap (λ (x : Struck). record { largest = x; radio = a.radio; television = a.television })
     (struck-unique a.largest b.largest e)
-    ∙ ap (λ (x : Settled). record { largest = b.largest; radio = x; television = a.television })
+    ∙ ap (λ (x : Result ℕ (Card × Shape)). record { largest = b.largest; radio = x; television = a.television })
     (settled-unique a.radio b.radio f)
-    ∙ ap (λ (x : Settled). record { largest = b.largest; radio = b.radio; television = x })
+    ∙ ap (λ (x : Result ℕ (Card × Shape)). record { largest = b.largest; radio = b.radio; television = x })
     (settled-unique a.television b.television g)
 
-desks-said-unique : (a b : DesksAnswer) → desks_said a ≡ desks_said b → a ≡ b
-desks-said-unique (desks.Typed x) (desks.Typed y) e =
-    ap desks.Typed (desks-unique x y (ap (λ (z : DesksSaid). z.largest) e) (ap (λ (z : DesksSaid). z.radio) e)
+desks-said-unique : (a b : Result Desks Refusal) → desks_said a ≡ desks_said b → a ≡ b
+desks-said-unique (Ok x) (Ok y) e =
+    ap Ok (desks-unique x y (ap (λ (z : DesksSaid). z.largest) e) (ap (λ (z : DesksSaid). z.radio) e)
     (ap (λ (z : DesksSaid). z.television) e))
-desks-said-unique (desks.Typed x) (desks.Refused number at) e =
-    values-refusal (ap (λ (z : DesksSaid). z.largest) e)
-desks-said-unique (desks.Refused number at) (desks.Typed x) e =
-    values-refusal (sym (ap (λ (z : DesksSaid). z.largest) e))
-desks-said-unique (desks.Refused number at) (desks.Refused number' at') e =
-    let same : refusal number (at ∷ []) ≡ refusal number' (at' ∷ []) = ap (λ (z : DesksSaid). z.largest) e in
-    cc
+desks-said-unique (Ok x) (Err q) e = values-refusal (ap (λ (z : DesksSaid). z.largest) e)
+desks-said-unique (Err p) (Ok x) e = values-refusal (sym (ap (λ (z : DesksSaid). z.largest) e))
+desks-said-unique (Err p) (Err q) e = ap Err (refused-unique p q (ap (λ (z : DesksSaid). z.largest) e))
 
 -- ---- of one sheet one answer
 saids-unique : {a b : DesksSaid} → a.largest ≡ b.largest → a.radio ≡ b.radio → a.television ≡ b.television
@@ -92,7 +90,7 @@ module _ (template script bookings : List ℕ) where
       answered-unique desks_refused (desks_reading template script bookings before) before g h a b
       (λ s r. found-unique s (lent before s r).0) x y
 
-  pub desks-no-choice : (before g h : DeskGrids) (a b : DesksAnswer)
+  pub desks-no-choice : (before g h : DeskGrids) (a b : Result Desks Refusal)
       → DesksSays template script bookings before g (desks_said a)
       → DesksSays template script bookings before h (desks_said b) → (a ≡ b) × (g ≡ h)
   desks-no-choice before g h a b x y =

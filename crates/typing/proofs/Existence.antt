@@ -23,9 +23,12 @@ use Rattle.board.proofs.Tally.{bit-true, bit-false}
 use Rattle.board.proofs.Grids.{on-yes, on-no}
 use Rattle.typing.specs.Needs.{board_of}
 use Rattle.words.proofs.Places.{place_in, card-of, shape_of}
-use Rattle.typing.specs.declared.LargestAnswer.{LargestAnswer}
-use Rattle.typing.specs.declared.SmallestAnswer.{SmallestAnswer}
-use Rattle.typing.specs.declared.BothAnswer.{BothAnswer}
+use Rattle.std.specs.Prelude.{Result}
+use Rattle.words.specs.declared.Card.{Card}
+use Rattle.words.specs.declared.Shape.{Shape}
+use Rattle.words.specs.declared.refusal.Refusal.{Refusal}
+use Rattle.typing.specs.declared.Struck.{Struck}
+use Rattle.typing.specs.declared.Both.{Both}
 use Rattle.sheet.specs.Sheet.{Sheet, part_of, opens_of, place, size, read_sheet}
 use Rattle.words.specs.Said.{Said}
 use Rattle.typing.specs.Answer.{BothSaid, largest_said, smallest_said, both_said}
@@ -123,14 +126,15 @@ module _ (template script : List ℕ) where
   both-one-answer = both-says-unique template script (represented template script)
 
   -- and of the answers
-  pub largest-no-choice : (before g h : List ℕ) (a b : LargestAnswer)
+  pub largest-no-choice : (before g h : List ℕ) (a b : Result Struck Refusal)
       → LargestSays template script before g (largest_said a) → LargestSays template script before h (largest_said b)
       → (a ≡ b) × (g ≡ h)
   largest-no-choice before g h a b x y =
       let (e, f) = largest-one-answer before g h (largest_said a) (largest_said b) x y in
       (largest-said-unique a b e, f)
 
-  pub smallest-no-choice : (bookings : List ℕ) (desk : ℕ) (before g h : List ℕ) (a b : SmallestAnswer)
+  pub smallest-no-choice : (bookings : List ℕ) (desk : ℕ) (before g h : List ℕ)
+      (a b : Result (Result ℕ (Card × Shape)) Refusal)
       → SmallestSays template script bookings desk before g (smallest_said a)
       → SmallestSays template script bookings desk before h (smallest_said b)
       → (a ≡ b) × (g ≡ h)
@@ -138,7 +142,7 @@ module _ (template script : List ℕ) where
       let (e, f) = smallest-one-answer bookings desk before g h (smallest_said a) (smallest_said b) x y in
       (smallest-said-unique a b e, f)
 
-  pub both-no-choice : (bookings : List ℕ) (desk : ℕ) (before g h : Grids) (a b : BothAnswer)
+  pub both-no-choice : (bookings : List ℕ) (desk : ℕ) (before g h : Grids) (a b : Result Both Refusal)
       → BothSays template script bookings desk before g (both_said a)
       → BothSays template script bookings desk before h (both_said b)
       → (a ≡ b) × (g ≡ h)

@@ -19,7 +19,10 @@ use Rattle.words.proofs.Answered.{answered-values, told-unique}
 use Rattle.board.specs.Grid.{on}
 use Rattle.sheet.specs.Sheet.{Sheet, read_sheet}
 use Rattle.bookings.specs.Bookings.{Booked}
-use Rattle.typing.specs.declared.JudgeAnswer.{JudgeAnswer}
+use Rattle.std.specs.Prelude.{Result}
+use Rattle.words.specs.declared.Card.{Card}
+use Rattle.words.specs.declared.Shape.{Shape}
+use Rattle.words.specs.declared.refusal.Refusal.{Refusal}
 use Rattle.typing.specs.Typing.{Below}
 use Rattle.typing.specs.Demand3.{Outcome, pairs, not_met, Refused}
 use Rattle.typing.specs.Answer.{BothSaid, judge_said}
@@ -48,8 +51,8 @@ module _ (template script bookings : List ℕ) (desk : ℕ) where
   judge-one-answer grid a b x y =
       told-unique (smallest_reading template script bookings desk grid) a b (λ s r. judge-found-unique) x y
 
-  pub judge-no-choice : (grid : List ℕ) (a b : JudgeAnswer) → JudgeSays template script bookings desk grid
-      (judge_said a)
+  pub judge-no-choice : (grid : List ℕ) (a b : Result (Result (Unit {0}) (Card × Shape)) Refusal)
+      → JudgeSays template script bookings desk grid (judge_said a)
       → JudgeSays template script bookings desk grid (judge_said b) → a ≡ b
   judge-no-choice grid a b x y =
       judge-said-unique a b (judge-one-answer grid (judge_said a) (judge_said b) x y)

@@ -15,7 +15,8 @@ use borrow.Author.Tests.{eq-eqb}
 use Rattle.words.specs.Said.{Said, values}
 use Rattle.words.specs.Reading.{accepted, then}
 use Rattle.words.specs.Writes.{write_said}
-use Rattle.words.specs.declared.WriteAnswer.{WriteAnswer}
+use Rattle.words.specs.declared.refusal.Refusal.{Refusal}
+use Rattle.std.specs.Prelude.{Result}
 use Rattle.words.proofs.Writing.{writes-front, writes-unique, write-said-unique}
 use Rattle.words.proofs.Readings.{then-accepted}
 use Rattle.words.proofs.Answered.{answered-values, answered-unique}
@@ -40,7 +41,7 @@ module _ (template script bookings : List ℕ) where
       answered-unique (λ refused. refused) (tidy_reading template script bookings before) before g h a b
       (λ s r. writes-unique {words = tidied bookings} {before = before}) x y
 
-  pub tidy-no-choice : (before g h : List ℕ) (a b : WriteAnswer)
+  pub tidy-no-choice : (before g h : List ℕ) (a b : Result ℕ Refusal)
       → TidySays template script bookings before g (write_said a)
       → TidySays template script bookings before h (write_said b) → (a ≡ b) × (g ≡ h)
   tidy-no-choice before g h a b x y =

@@ -1,16 +1,17 @@
 -- The contracts of the calls for the typings leave no choice: two answers to one call are the same.
 --   typing-unique           a typing is its pairs
 --   largest-found-unique, smallest-found-unique, both-found-unique   of one sheet there is one answer
---   card_unique, shape-unique   a card, and a shape, is its number
+--   pair-unique, pair-plain   a card and a shape are what is said of them, which is no refusal at one place
 --   struck-unique, settled-unique, both-unique                       of one saying one thing found
---   largest-said-unique, smallest-said-unique, both-said-unique      of one saying one case of the enum
+--   largest-said-unique, smallest-said-unique, both-said-unique      of one saying one answer
 --   largest-says-unique, smallest-says-unique, both-says-unique      of one input one answer and one grid
 -- Assumes nothing.
 use Prim.Native.Nat.{ℕ, ◌<◌}
 use mathlib.Core.Path.{◌≡◌, sym, ap, ◌∙◌}
 use mathlib.Core.Logic.{◌⊎◌, inl, inr}
-use mathlib.Core.List.{List, [], ◌∷◌}
+use mathlib.Core.List.{List}
 use native.Mathlib.Omega.{arith}
+use Rattle.std.specs.Prelude.{Result, Ok, Err}
 use lib.ListN.{get_or}
 use lib.Seq.{ext_get_or}
 use Rattle.board.specs.Grid.{on}
@@ -18,32 +19,27 @@ use Rattle.board.specs.Board.{Board}
 use Rattle.words.proofs.Bools.{neither-below}
 use Rattle.board.proofs.Grids.{on-yes, on-byte}
 use Rattle.board.proofs.Tally.{tally-ext}
-use Rattle.words.specs.Said.{Said, refusal}
+use Rattle.words.specs.Said.{Said}
 use Rattle.words.specs.declared.Shape.{Shape}
 use Rattle.words.specs.declared.Card.{Card}
 use Rattle.typing.specs.declared.Struck.{Struck}
-use Rattle.typing.specs.declared.Settled.{Settled}
-use Rattle.typing.specs.declared.Settled.TheVariants as settled
 use Rattle.typing.specs.declared.Both.{Both}
-use Rattle.typing.specs.declared.LargestAnswer.{LargestAnswer}
-use Rattle.typing.specs.declared.LargestAnswer.TheVariants as large
-use Rattle.typing.specs.declared.SmallestAnswer.{SmallestAnswer}
-use Rattle.typing.specs.declared.SmallestAnswer.TheVariants as small
-use Rattle.typing.specs.declared.BothAnswer.{BothAnswer}
-use Rattle.typing.specs.declared.BothAnswer.TheVariants as both
+use Rattle.words.specs.Refused.{refused}
+use Rattle.words.specs.declared.refusal.Refusal.{Refusal}
 use Rattle.words.specs.Reading.{Reading, accepted, then}
 use Rattle.sheet.specs.Sheet.{Sheet, place, size, read_sheet}
 use Rattle.typing.specs.Typing.{Typing}
 use Rattle.bookings.specs.Bookings.{Booked}
 use Rattle.typing.specs.Smallest.{Accepted, TurnedDown}
 use Rattle.typing.specs.Demand3.{Outcome, pairs, not_met}
-use Rattle.typing.specs.Answer.{struck_said, settled_said, largest_said, smallest_said}
+use Rattle.typing.specs.Answer.{struck_said, pair_said, settled_said, largest_said, smallest_said}
 use Rattle.typing.specs.Answer.{BothSaid, both_refused, both_said}
 use Rattle.typing.specs.Calls.{booked_reading, with_grid, largest_reading, smallest_reading, both_reading, Leaves}
 use Rattle.typing.specs.Calls.{outcome_said, Grids, LargestFound, LargestSays, SmallestFound, SmallestSays}
 use Rattle.typing.specs.Calls.{BothFound, BothSays}
 use Rattle.words.proofs.Places.{place-unique}
 use Rattle.words.proofs.Said.{values-refusal}
+use Rattle.words.proofs.Refused.{refused-unique, said-by-unique}
 use Rattle.words.proofs.Answered.{answered-unique}
 use Rattle.typing.proofs.Represents.{Represents, Alike}
 use Rattle.typing.proofs.Largest.{largest-unique, bare_alike}
@@ -116,12 +112,21 @@ module _ {s : Sheet} {B : Board} (rep : Represents s B) where
         let (m, em) = smallest-found-unique x.smallest y.smallest in
         (l, m, em, el)
 
--- ---- of one saying one case of the enum
-pub card_unique : {n m : Card} → n.0 ≡ m.0 → n ≡ m
+-- ---- of one saying one answer
+card_unique : {n m : Card} → n.0 ≡ m.0 → n ≡ m
 card_unique e = ap (λ (x : ℕ). record { 0 = x }) e
 
-pub shape-unique : {t u : Shape} → t.0 ≡ u.0 → t ≡ u
+shape-unique : {t u : Shape} → t.0 ≡ u.0 → t ≡ u
 shape-unique e = ap (λ (x : ℕ). record { 0 = x }) e
+
+pub pair-unique : (number : ℕ) (p q : Card × Shape) → pair_said number p ≡ pair_said number q → p ≡ q
+pair-unique number (n, t) (m, u) e =
+    let card : n ≡ m = card_unique (cc) in
+    let shape : t ≡ u = shape-unique (cc) in
+    cc
+
+pub pair-plain : (number : ℕ) (p : Card × Shape) (r : Refusal) → pair_said number p ≡ refused r → ⊥
+pair-plain number (n, t) r e = let z : ◌≡◌ {A = ℕ} 0 1 = cc in absurd (omega arith)
 
 pub struck-unique : (a b : Struck) → struck_said a ≡ struck_said b → a ≡ b
 struck-unique a b e =
@@ -132,45 +137,37 @@ struck-unique a b e =
     ∙ ap (λ (x : ℕ). record { rounds = b.rounds; struck = x; bare = a.bare }) struck
     ∙ ap (λ (x : ℕ). record { rounds = b.rounds; struck = b.struck; bare = x }) bare
 
-pub settled-unique : (a b : Settled) → settled_said a ≡ settled_said b → a ≡ b
-settled-unique (settled.Pairs m) (settled.Pairs k) e = cc
-settled-unique (settled.Pairs m) (settled.NotMet n t) e = cc
-settled-unique (settled.NotMet n t) (settled.Pairs m) e = cc
-settled-unique (settled.NotMet n t) (settled.NotMet n' t') e =
-    let card : n ≡ n' = card_unique (cc) in
-    let shape : t ≡ t' = shape-unique (cc) in
-    cc
+pub settled-unique : (a b : Result ℕ (Card × Shape)) → settled_said a ≡ settled_said b → a ≡ b
+settled-unique (Ok m) (Ok k) e = cc
+settled-unique (Ok m) (Err q) e = values-refusal e
+settled-unique (Err p) (Ok m) e = values-refusal (sym e)
+settled-unique (Err p) (Err q) e = ap Err (pair-unique 50 p q e)
 
 both-unique : (a b : Both) → struck_said a.largest ≡ struck_said b.largest
     → settled_said a.smallest ≡ settled_said b.smallest → a ≡ b
 both-unique a b e f =
     ap (λ (x : Struck). record { largest = x; smallest = a.smallest }) (struck-unique a.largest b.largest e)
-    ∙ ap (λ (x : Settled). record { largest = b.largest; smallest = x })
+    ∙ ap (λ (x : Result ℕ (Card × Shape)). record { largest = b.largest; smallest = x })
     (settled-unique a.smallest b.smallest f)
 
 -- how the bookings fared is no refusal at one place
-settled_plain : {A : Type 0} (r : Settled) {number at : ℕ} → settled_said r ≡ refusal number (at ∷ []) → A
-settled_plain (settled.Pairs m) e = values-refusal e
-settled_plain (settled.NotMet n t) e = let z : ◌≡◌ {A = ℕ} 0 1 = cc in absurd (omega arith)
+settled_plain : (a : Result ℕ (Card × Shape)) (r : Refusal) → settled_said a ≡ refused r → ⊥
+settled_plain (Ok m) r e = values-refusal e
+settled_plain (Err p) r e = pair-plain 50 p r e
 
-pub largest-said-unique : (a b : LargestAnswer) → largest_said a ≡ largest_said b → a ≡ b
-largest-said-unique (large.Typed x) (large.Typed y) e = ap large.Typed (struck-unique x y e)
-largest-said-unique (large.Typed x) (large.Refused number at) e = values-refusal e
-largest-said-unique (large.Refused number at) (large.Typed x) e = values-refusal (sym e)
-largest-said-unique (large.Refused number at) (large.Refused number' at') e = cc
+pub largest-said-unique : (a b : Result Struck Refusal) → largest_said a ≡ largest_said b → a ≡ b
+largest-said-unique = said-by-unique struck_said struck-unique (λ a r e. values-refusal e)
 
-pub smallest-said-unique : (a b : SmallestAnswer) → smallest_said a ≡ smallest_said b → a ≡ b
-smallest-said-unique (small.Settled x) (small.Settled y) e = ap small.Settled (settled-unique x y e)
-smallest-said-unique (small.Settled x) (small.Refused number at) e = settled_plain x e
-smallest-said-unique (small.Refused number at) (small.Settled x) e = settled_plain x (sym e)
-smallest-said-unique (small.Refused number at) (small.Refused number' at') e = cc
+pub smallest-said-unique : (a b : Result (Result ℕ (Card × Shape)) Refusal) → smallest_said a ≡ smallest_said b
+    → a ≡ b
+smallest-said-unique = said-by-unique settled_said settled-unique settled_plain
 
-pub both-said-unique : (a b : BothAnswer) → (both_said a).largest ≡ (both_said b).largest
+pub both-said-unique : (a b : Result Both Refusal) → (both_said a).largest ≡ (both_said b).largest
     → (both_said a).smallest ≡ (both_said b).smallest → a ≡ b
-both-said-unique (both.Typed x) (both.Typed y) e f = ap both.Typed (both-unique x y e f)
-both-said-unique (both.Typed x) (both.Refused number at) e f = values-refusal e
-both-said-unique (both.Refused number at) (both.Typed x) e f = values-refusal (sym e)
-both-said-unique (both.Refused number at) (both.Refused number' at') e f = cc
+both-said-unique (Ok x) (Ok y) e f = ap Ok (both-unique x y e f)
+both-said-unique (Ok x) (Err q) e f = values-refusal e
+both-said-unique (Err p) (Ok x) e f = values-refusal (sym e)
+both-said-unique (Err p) (Err q) e f = ap Err (refused-unique p q e)
 
 -- ---- of one input one answer and one grid
 -- A board stands for each sheet that a reading finds.

@@ -3,7 +3,7 @@
 --                                       where all are held
 --   over-unique, unmet-unique, unheld-unique   the first fault of a kind is one
 --   verdict-unique      two right verdicts are the same
---   judge-found-unique, judge-said-unique   so is what is said, and the case of the enum that says it
+--   judge-found-unique, judge-said-unique   so is what is said, and the answer that says it
 -- Assumes nothing.
 use Prim.Native.Nat.{ℕ}
 use mathlib.Core.Path.{◌≡◌, refl, sym, ap, ap₂, ◌∙◌}
@@ -16,13 +16,18 @@ use Rattle.words.proofs.Places.{place-unique}
 use Rattle.board.specs.Grid.{on}
 use Rattle.sheet.specs.Sheet.{Sheet, place}
 use Rattle.bookings.specs.Bookings.{card_at, shape_at, Booked}
-use Rattle.typing.specs.declared.JudgeAnswer.{JudgeAnswer}
-use Rattle.typing.specs.declared.JudgeAnswer.TheVariants as judge
+use Rattle.std.specs.Prelude.{Result, Ok, Err}
+use Rattle.words.specs.Refused.{refused}
+use Rattle.words.specs.declared.Card.{Card}
+use Rattle.words.specs.declared.Shape.{Shape}
+use Rattle.words.specs.declared.refusal.Refusal.{Refusal}
+use Rattle.words.proofs.Said.{values-refusal}
+use Rattle.words.proofs.Refused.{said-by-unique}
 use Rattle.typing.specs.Typing.{Holds, Typing, SoundTyping}
-use Rattle.typing.specs.Answer.{judge_said}
+use Rattle.typing.specs.Answer.{verdict_told, judge_said}
 use Rattle.typing.specs.Judge.{Verdict, over, unmet, unheld, passes, verdict_said, Over, Unmet, Unheld, Judged}
 use Rattle.typing.specs.Judge.{JudgeFound}
-use Rattle.typing.proofs.Unique.{card_unique, shape-unique}
+use Rattle.typing.proofs.Unique.{pair-unique, pair-plain}
 
 -- ---- what rules a verdict out, and the first of a kind
 module _ {s : Sheet} {grid : List ℕ} where
@@ -81,16 +86,17 @@ judge-found-unique {s} {bookings} {desk} {grid} x y =
     let same = verdict-unique s bookings desk grid x.verdict y.verdict x.right y.right in
     x.says ∙ ap verdict_said same ∙ sym y.says
 
-pub judge-said-unique : (a b : JudgeAnswer) → judge_said a ≡ judge_said b → a ≡ b
-judge-said-unique judge.Accepted judge.Accepted e = cc
-judge-said-unique judge.Accepted (judge.NotMet n t) e = cc
-judge-said-unique judge.Accepted (judge.Refused number at) e = cc
-judge-said-unique (judge.NotMet n t) judge.Accepted e = cc
-judge-said-unique (judge.NotMet n t) (judge.NotMet n' t') e =
-    let card : n ≡ n' = card_unique (cc) in
-    let shape : t ≡ t' = shape-unique (cc) in
-    cc
-judge-said-unique (judge.NotMet n t) (judge.Refused number at) e = cc
-judge-said-unique (judge.Refused number at) judge.Accepted e = cc
-judge-said-unique (judge.Refused number at) (judge.NotMet n t) e = cc
-judge-said-unique (judge.Refused number at) (judge.Refused number' at') e = cc
+told-unique : (a b : Result (Unit {0}) (Card × Shape)) → verdict_told a ≡ verdict_told b → a ≡ b
+told-unique (Ok _) (Ok _) e = refl
+told-unique (Ok _) (Err q) e = values-refusal e
+told-unique (Err p) (Ok _) e = values-refusal (sym e)
+told-unique (Err p) (Err q) e = ap Err (pair-unique 62 p q e)
+
+-- a verdict is no refusal at one place
+told-plain : (a : Result (Unit {0}) (Card × Shape)) (r : Refusal) → verdict_told a ≡ refused r → ⊥
+told-plain (Ok _) r e = values-refusal e
+told-plain (Err p) r e = pair-plain 62 p r e
+
+pub judge-said-unique : (a b : Result (Result (Unit {0}) (Card × Shape)) Refusal) → judge_said a ≡ judge_said b
+    → a ≡ b
+judge-said-unique = said-by-unique verdict_told told-unique told-plain

@@ -22,6 +22,3 @@ pub record ReadTo (cards shapes count : ℕ) (bookings : List ℕ) (pairs : ℕ)
 abbrev pub invariant-loop-i : goal.invariant-loop-i
 invariant-loop-i l =
     ReadTo l.cards l.shapes l.count l.bookings l.pairs l.first l.next l.i
-
-abbrev pub decreases-loop-i : goal.decreases-loop-i
-decreases-loop-i l = l.pairs - l.i

@@ -16,6 +16,3 @@ pub record ReadTo (cards shapes count : ℕ) (bookings : List ℕ) (pairs i : �
 
 abbrev pub invariant-loop-i : goal.invariant-loop-i
 invariant-loop-i l = ReadTo l.cards l.shapes l.count l.bookings l.pairs l.i
-
-abbrev pub decreases-loop-i : goal.decreases-loop-i
-decreases-loop-i l = l.pairs - l.i

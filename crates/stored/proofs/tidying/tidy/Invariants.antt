@@ -20,6 +20,3 @@ pub record TidiedTo (bookings before : List ℕ) (pairs : ℕ) (out first next :
 abbrev pub invariant-loop-i : goal.invariant-loop-i
 invariant-loop-i l =
     TidiedTo l.bookings l.initial.out l.pairs l.out l.first l.next l.kept l.i
-
-abbrev pub decreases-loop-i : goal.decreases-loop-i
-decreases-loop-i l = l.pairs - l.i
