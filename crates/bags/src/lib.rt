@@ -1,10 +1,10 @@
 // Intervals of repetitions as two numbers (docs/FORMAT.md, "Bags and counts"; section 8.2 of the paper).
 #![tactic(auto)]
 
-ghost use Rattle.std.specs.Prelude.{◌≡◌, cond, ℕ, ◌+◌, min, max};
-ghost use Rattle.bags.specs.Interval.{inside, meet, add, low_room, high_room, link_interval, lowered};
+ghost use Rattle.std.specs.Prelude.{◌≡◌, ℕ, ◌+◌};
+ghost use Rattle.bags.specs.Interval.{inside, meet, add, low_room, high_room, link_interval};
 ghost use Rattle.bags.specs.Interval.{wrap_interval};
-ghost use Rattle.bags.specs.Span.{top, view, Small, Addable};
+ghost use Rattle.bags.specs.Span.{view, Small, Addable};
 ghost use Rattle.bags.specs.Part.{Limit, limit_of};
 
 use words::NO_LIMIT;
