@@ -10,7 +10,7 @@ use Rattle.script.proofs.Cards.{below-le, below-rises}
 use Rattle.links.proofs.index.link_starts.Goals as goal
 
 pub loop-c-init : goal.loop-c-init
-loop-c-init c = (omega arith, omega arith, refl, λ k l. absurd (omega arith))
+loop-c-init c = (omega arith, refl, λ k l. absurd (omega arith))
 
 pub overflow_cast-starts : goal.overflow_cast-starts
 overflow_cast-starts c =
@@ -19,13 +19,12 @@ overflow_cast-starts c =
 pub loop-c-preserved : goal.loop-c-preserved
 loop-c-preserved c =
     let rise = starts-rise _ _ c.requires.ascending in (
-      omega arith,
       omega (arith, c.skip_below-i.ensures, below-rises c.args.script.now c.args.links rise c.loop-c.c),
-      simp length-set c.loop-c.invariant.2,
+      simp length-set c.loop-c.invariant.1,
       cells-more (λ k. below c.args.script.now k c.args.links) c.loop-c.starts c.loop-c.c
-          c.skip_below-i.result (omega arith) c.skip_below-i.ensures c.loop-c.invariant.3,
+          c.skip_below-i.result (omega arith) c.skip_below-i.ensures c.loop-c.invariant.2,
     )
 
 pub returns : goal.returns
 returns c =
-    record { room = omega (arith, c.loop-c.invariant.2); exact = λ k h. c.loop-c.invariant.3 k (omega arith) }
+    record { room = omega (arith, c.loop-c.invariant.1); exact = λ k h. c.loop-c.invariant.2 k (omega arith) }
