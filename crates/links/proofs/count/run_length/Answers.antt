@@ -30,6 +30,12 @@ loop-next-preserved c = (
       (sym (kind-is (goal.at.loop-next-preserved c).At-loop-next first e) ∙ c.if-links-next.false),
 )
 
+pub returns-else-links-next : goal.returns-else-links-next
+returns-else-links-next c = λ first e.
+    let rise = c.requires.rise in
+    let last = sym (kind-is (goal.at.returns-else-links-next c).At-loop-next first e) ∙ c.if-links-next.false in
+    run_ends rise (run_more rise (c.loop-next.invariant.1 first e) (omega arith) last) (λ h q. omega (arith, rise.size))
+
 pub returns : goal.returns
 returns c =
     let rise = c.requires.rise in

@@ -57,8 +57,8 @@ bounds-linked-to c = simp length-set (to_in c)
 pub loop-i-preserved : goal.loop-i-preserved
 loop-i-preserved c =
     marked_more _ c.loop-i.linked c.loop-i.i _ c.from-from.result c.from-to.result (from_is
-        (goal.at.loop-i-preserved c).After-from-from) (to_is c)
-        (from_in (goal.at.loop-i-preserved c).After-from-from) (to_in c) c.loop-i.invariant
+    (goal.at.loop-i-preserved c).After-from-from) (to_is c)
+    (from_in (goal.at.loop-i-preserved c).After-from-from) (to_in c) c.loop-i.invariant
 
 pub shape_of-linked : goal.shape_of-linked
 shape_of-linked c = c.loop-i.invariant.size ∙ lent (goal.at.shape_of-linked c).At-loop-i
