@@ -33,10 +33,7 @@ fn start_of(before: KindCount, kind: u16) -> usize
     ensures { (links : List ℕ) → KindsPassed links (before.kind + 1) before.next →
         KindsPassed links kind result }
 {
-    if before.kind < kind {
-        return before.next;
-    }
-    1
+    if before.kind < kind { before.next } else { 1 }
 }
 
 // How many of a card's links, sorted by kind, have a kind. The first kind above it is the end of them.

@@ -4,7 +4,7 @@ use mathlib.Core.Path.{◌≡◌, sym, ◌∙◌}
 use native.Mathlib.Omega.{arith}
 use lib.ListN.{get_or}
 use Rattle.links.specs.Runs.{kind_in}
-use Rattle.links.proofs.Runs.{kind_at, run-start, run_more, run_ends}
+use Rattle.links.proofs.Runs.{kind_at, run_more, run_ends}
 use Rattle.links.proofs.count.run_length.Goals as goal
 use Rattle.links.proofs.count.run_length.Goals.{At-loop-next}
 
@@ -13,9 +13,6 @@ kind-is : (l : At-loop-next) (first : ℕ) → l.args.at ≡ 1 + 3 * first
     → get_or l.args.links.now l.loop-next.next 0
     ≡ kind_in l.args.links.now (first + l.loop-next.count)
 kind-is l first e = kind_at _ _ _ (omega arith)
-
-pub loop-next-init : goal.loop-next-init
-loop-next-init c = (omega arith, λ first e. run-start c.requires first e)
 
 pub returns-then-links-next : goal.returns-then-links-next
 returns-then-links-next c =

@@ -1,7 +1,7 @@
 -- `links::chain` chains the links: after i turns those below i.
 -- Assumes nothing.
 use Prim.Native.Nat.{◌<◌}
-use mathlib.Core.Path.{◌≡◌, refl}
+use mathlib.Core.Path.{refl}
 use native.Mathlib.Omega.{arith}
 use lib.ListN.{length, length-set}
 use Rattle.script.specs.Link.{to_at}
@@ -19,14 +19,8 @@ card-in a =
 pub loop-i-init : goal.loop-i-init
 loop-i-init c = record { chained = chained-none _ _ _ c.requires.blank.zeros; sizes = (refl, refl) }
 
-pub offset_bounds-first-to : goal.offset_bounds-first-to
-offset_bounds-first-to c = omega (arith, card-in c, c.loop-i.invariant.sizes.0)
-
 pub bounds-first-to : goal.bounds-first-to
 bounds-first-to c = card-in (goal.at.bounds-first-to c).After-from-to
-
-pub offset_bounds-first-to-in-loop-i : goal.offset_bounds-first-to-in-loop-i
-offset_bounds-first-to-in-loop-i c = omega (arith, card-in (goal.at.offset_bounds-first-to-in-loop-i c).After-from-to)
 
 pub bounds-first-to-in-loop-i : goal.bounds-first-to-in-loop-i
 bounds-first-to-in-loop-i c = card-in (goal.at.bounds-first-to-in-loop-i c).After-from-to

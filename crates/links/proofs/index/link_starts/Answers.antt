@@ -1,6 +1,5 @@
 -- `links::link_starts` fills the table of starts: after c turns the cards below c have theirs.
 -- Assumes nothing.
-use mathlib.Core.Path.{refl}
 use native.Mathlib.Omega.{arith}
 use lib.ListN.{length-set}
 use Rattle.script.specs.Link.{below}
@@ -8,9 +7,6 @@ use Rattle.words.proofs.Cells.{cells-more}
 use Rattle.script.proofs.Order.{starts-rise}
 use Rattle.script.proofs.Cards.{below-le, below-rises}
 use Rattle.links.proofs.index.link_starts.Goals as goal
-
-pub loop-c-init : goal.loop-c-init
-loop-c-init c = (omega arith, refl, λ k l. absurd (omega arith))
 
 pub overflow_cast-starts : goal.overflow_cast-starts
 overflow_cast-starts c =
@@ -24,7 +20,3 @@ loop-c-preserved c =
       cells-more (λ k. below c.args.script.now k c.args.links) c.loop-c.starts c.loop-c.c
           c.skip_below-i.result (omega arith) c.skip_below-i.ensures c.loop-c.invariant.2,
     )
-
-pub returns : goal.returns
-returns c =
-    record { room = omega (arith, c.loop-c.invariant.1); exact = λ k h. c.loop-c.invariant.2 k (omega arith) }

@@ -59,11 +59,3 @@ loop-i-preserved c =
     marked_more _ c.loop-i.linked c.loop-i.i _ c.from-from.result c.from-to.result (from_is
     (goal.at.loop-i-preserved c).After-from-from) (to_is c)
     (from_in (goal.at.loop-i-preserved c).After-from-from) (to_in c) c.loop-i.invariant
-
-pub shape_of-linked : goal.shape_of-linked
-shape_of-linked c = c.loop-i.invariant.size ∙ lent (goal.at.shape_of-linked c).At-loop-i
-
-pub returns : goal.returns
-returns c =
-    let all-links : c.loop-i.i ≡ c.args.links = omega arith in
-    rw (all-links, lent (goal.at.returns c).At-loop-i) at c.loop-i.invariant
