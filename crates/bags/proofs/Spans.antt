@@ -5,18 +5,22 @@
 --   meet-view, meet-small, add-view, ..  one for each way that an operation returns
 -- Assumes nothing.
 use Prim.Native.Nat.{ℕ, zero, suc, ◌+◌, ◌-◌, ◌/◌, ◌≤◌, ◌<◌, min, max}
-use mathlib.Core.Path.{◌≡◌, refl, sym, ◌∙◌, ap, ap₂}
-use mathlib.Core.Logic.{◌⊎◌, ⊎_elim}
+use mathlib.Core.Path.{◌≡◌, refl, sym, ◌∙◌, ap, ap₂, subst}
+use mathlib.Core.Logic.{◌⊎◌, inl, inr, ⊎_elim}
 use mathlib.Core.Bool.{Bool, true, false, ◌&&◌, cond}
 use native.Mathlib.Omega.{arith}
 use native.Mathlib.Nat.{not-suc-le-zero, div-le_self, div-lt_iff_lt-mul}
 use native.Mathlib.Decide.{ℕ_discrete}
 use lib.Dec.{ltb, leb, eqb}
 use borrow.Author.Tests.{ltb-true, ltb-false, lt-ltb, le-ltb, eqb-true, eqb-false, eq-eqb, ne_eqb, le-leb, lt-leb}
+use Rattle.std.specs.Prelude.{MatchBool}
+use Rattle.std.specs.Int.{div_ceil}
+use Rattle.std.proofs.lemmas.Grind.{div_ceil_times}
+use Rattle.std.proofs.lemmas.Nat.{le-div}
 use Rattle.bags.specs.Part.{Limit, at_most, no-limit, limit_unless, limit_of}
 use Rattle.bags.specs.Interval.{Interval, empty, within, from, inside, keep, range, meet, add, low_room}
 use Rattle.bags.specs.Interval.{high_room, link_interval, lowered, wrap_interval}
-use Rattle.bags.specs.Span.{top, seen_as, view, Small}
+use Rattle.bags.specs.Span.{top, seen_as, view, Small, Addable}
 use Rattle.bags.specs.declared.Span.{Span}
 
 abbrev pub span : ℕ → ℕ → Span
@@ -134,11 +138,11 @@ add_right x y h = let e = view-empty y h in e ∙ sym (ap (add (view x)) e ∙ a
 pub add-lo-bound : (x y : Span) → Small 1000000000 x → Small 1000000000 y → x.lo + y.lo < top
 add-lo-bound x y a b = omega (arith, small-lo 1000000000 x a, small-lo 1000000000 y b)
 
-pub add-hi-bound : (x y : Span) → Small 1000000000 x → Small 1000000000 y → (x.hi ≡ top → ⊥) → (y.hi ≡ top → ⊥)
+add-hi-bound : (x y : Span) → Small 1000000000 x → Small 1000000000 y → (x.hi ≡ top → ⊥) → (y.hi ≡ top → ⊥)
     → x.hi + y.hi < top
 add-hi-bound x y a b dx dy = omega (arith, small-hi 1000000000 x a dx, small-hi 1000000000 y b dy)
 
-pub add-top : (x y : Span) → x.lo ≤ x.hi → y.lo ≤ y.hi → (x.hi ≡ top) ⊎ (y.hi ≡ top) → x.lo + y.lo < top
+add-top : (x y : Span) → x.lo ≤ x.hi → y.lo ≤ y.hi → (x.hi ≡ top) ⊎ (y.hi ≡ top) → x.lo + y.lo < top
     → view (span (x.lo + y.lo) top) ≡ add (view x) (view y)
 add-top x y hx hy t h = view-from (span (x.lo + y.lo) top) (omega arith) refl ∙ sym (by-seen (seen x) (seen y) t)
   where
@@ -151,7 +155,7 @@ add-top x y hx hy t h = view-from (span (x.lo + y.lo) top) (omega arith) refl �
     by-seen (is_within g k d) (is-from f r q) t = ap₂ add d q
     by-seen (is_within g k d) (is_within f r q) t = absurd (⊎_elim k r t)
 
-pub add-ends : (x y : Span) → x.lo ≤ x.hi → y.lo ≤ y.hi → (x.hi ≡ top → ⊥) → (y.hi ≡ top → ⊥)
+add-ends : (x y : Span) → x.lo ≤ x.hi → y.lo ≤ y.hi → (x.hi ≡ top → ⊥) → (y.hi ≡ top → ⊥)
     → x.hi + y.hi < top → view (span (x.lo + y.lo) (x.hi + y.hi)) ≡ add (view x) (view y)
 add-ends x y hx hy dx dy h =
     view-within (span (x.lo + y.lo) (x.hi + y.hi)) (omega arith)
@@ -164,16 +168,40 @@ add-small-left m n x = small-more m (m + n) x (omega arith)
 pub add-small-right : (m n : ℕ) (y : Span) → Small n y → Small (m + n) y
 add-small-right m n y = small-more n (m + n) y (omega arith)
 
-pub add-small-top : (m n : ℕ) (x y : Span) → Small m x → Small n y → Small (m + n) (span (x.lo + y.lo) top)
+add-small-top : (m n : ℕ) (x y : Span) → Small m x → Small n y → Small (m + n) (span (x.lo + y.lo) top)
 add-small-top m n x y a b =
     small-up (m + n) (x.lo + y.lo) (omega (arith, small-lo m x a, small-lo n y b))
 
-pub add-small-ends : (m n : ℕ) (x y : Span) → (x.hi ≡ top → ⊥) → (y.hi ≡ top → ⊥) → Small m x → Small n y
+add-small-ends : (m n : ℕ) (x y : Span) → (x.hi ≡ top → ⊥) → (y.hi ≡ top → ⊥) → Small m x → Small n y
     → Small (m + n) (span (x.lo + y.lo) (x.hi + y.hi))
 add-small-ends m n x y dx dy a b =
     small-ends (m + n) (x.lo + y.lo) (x.hi + y.hi)
     (omega (arith, small-lo m x a, small-lo n y b))
     (omega (arith, small-hi m x a dx, small-hi n y b dy))
+
+-- Above, the sum stops at the top.
+pub add-sum : (x y : Span) (hi : ℕ) → Addable x y → x.lo ≤ x.hi → y.lo ≤ y.hi → x.hi ≤ top → y.hi ≤ top
+    → hi ≡ min (x.hi + y.hi) top → (view (span (x.lo + y.lo) hi) ≡ add (view x) (view y))
+    × ((m n : ℕ) → Small m x → Small n y → Small (m + n) (span (x.lo + y.lo) hi))
+add-sum x y hi both hx hy tx ty e = by-limits (ℕ_discrete x.hi top) (ℕ_discrete y.hi top)
+  where
+    Sum : ℕ → Type 0
+    Sum h = (view (span (x.lo + y.lo) h) ≡ add (view x) (view y))
+        × ((m n : ℕ) → Small m x → Small n y → Small (m + n) (span (x.lo + y.lo) h))
+
+    topped : (x.hi ≡ top) ⊎ (y.hi ≡ top) → hi ≡ top → Sum hi
+    topped t f = subst Sum (sym f) (
+      add-top x y hx hy t (add-lo-bound x y both.first both.second),
+      λ m n. add-small-top m n x y,
+    )
+
+    by-limits : Dec (x.hi ≡ top) → Dec (y.hi ≡ top) → Sum hi
+    by-limits (yes h) d = topped (inl h) (omega arith)
+    by-limits (no g) (yes h) = topped (inr h) (omega arith)
+    by-limits (no g) (no h) =
+        let small = add-hi-bound x y both.first both.second g h in
+        let sum : x.hi + y.hi ≡ hi = omega arith in
+        subst Sum sum (add-ends x y hx hy g h small, λ m n. add-small-ends m n x y g h)
 
 -- low_room.
 pub low-none : (w low : ℕ) → low ≡ 0 → view (span 0 top) ≡ low_room w low
@@ -234,12 +262,20 @@ high-never w high e f =
     let r : high_room w (limit_of high) ≡ empty = ap (high_room w) l ∙ zero_room w high e false d in
     (view-empty (span 1 0) (omega arith) ∙ sym r, small-ends w 1 0 (omega arith) (omega arith))
 
-pub high-some : (w high lo : ℕ) → (high ≡ 65535 → ⊥) → 0 < high → w < top → lo ≡ (w + (high - 1)) / high
+-- A quotient rounded up.
+rounded-up : (w h : ℕ) → 0 < h → div_ceil w h ≡ (w + (h - 1)) / h
+rounded-up w h g =
+    let times = div_ceil_times w h g in
+    let above : div_ceil w h ≤ (w + (h - 1)) / h = le-div (div_ceil w h) (w + (h - 1)) h g (omega arith) in
+    let below : (w + (h - 1)) / h < div_ceil w h + 1 = (div-lt_iff_lt-mul {k = h} g).1 (omega arith) in
+    omega arith
+
+pub high-some : (w high lo : ℕ) → (high ≡ 65535 → ⊥) → 0 < high → w < top → lo ≡ div_ceil w high
     → (view (span lo top) ≡ high_room w (limit_of high)) × Small w (span lo top)
 high-some w high lo d h t e =
-    let b : lo ≤ w = omega (arith, some-room-small w high h) in (
+    let b : lo ≤ w = omega (arith, rounded-up w high h, some-room-small w high h) in (
       view-from (span lo top) (omega arith) refl
-          ∙ ap from e
+          ∙ ap from (e ∙ rounded-up w high h)
           ∙ sym (ap (high_room w) (limit-some high d) ∙ some-room w high h),
       small-up w lo b,
     )
@@ -305,18 +341,18 @@ wrap-small a false x lo hi n el eh s =
     (omega (arith, lowered-le a x.lo), λ d. let h : x.hi ≤ n = s.1 (λ q. d (eh ∙ q)) in omega arith)
 
 -- has_one.
-pub one-above : (x : Span) → 1 < x.lo → false ≡ inside 1 (view x)
-one-above x h = sym (by-seen (seen x))
+pub one-inside : (x : Span) (found : Bool) → MatchBool found ((x.lo ≤ 1) × (1 ≤ x.hi)) ((1 < x.lo) ⊎ (x.hi < 1))
+    → found ≡ inside 1 (view x)
+one-inside x found told = sym (by-seen (seen x) found told)
   where
-    by-seen : Seen x → inside 1 (view x) ≡ false
-    by-seen (is-empty g d) = ap (inside 1) d
-    by-seen (is-from g k d) = ap (inside 1) d ∙ lt-leb x.lo 1 h
-    by-seen (is_within g k d) = ap (inside 1) d ∙ ap (λ (t : Bool). t && leb 1 x.hi) (lt-leb x.lo 1 h)
-
-pub one-not-above : (x : Span) → x.lo ≤ 1 → leb 1 x.hi ≡ inside 1 (view x)
-one-not-above x h = sym (by-seen (seen x))
-  where
-    by-seen : Seen x → inside 1 (view x) ≡ leb 1 x.hi
-    by-seen (is-empty g d) = ap (inside 1) d ∙ sym (lt-leb 1 x.hi (omega arith))
-    by-seen (is-from g k d) = ap (inside 1) d ∙ le-leb x.lo 1 h ∙ sym (le-leb 1 x.hi (omega arith))
-    by-seen (is_within g k d) = ap (inside 1) d ∙ ap (λ (t : Bool). t && leb 1 x.hi) (le-leb x.lo 1 h)
+    by-seen : Seen x → (t : Bool) → MatchBool t ((x.lo ≤ 1) × (1 ≤ x.hi)) ((1 < x.lo) ⊎ (x.hi < 1))
+        → inside 1 (view x) ≡ t
+    by-seen (is-empty g d) true (l, h) = absurd (omega arith)
+    by-seen (is-empty g d) false w = ap (inside 1) d
+    by-seen (is-from g k d) true (l, h) = ap (inside 1) d ∙ le-leb x.lo 1 l
+    by-seen (is-from g k d) false (inl l) = ap (inside 1) d ∙ lt-leb x.lo 1 l
+    by-seen (is-from g k d) false (inr h) = absurd (omega arith)
+    by-seen (is_within g k d) true (l, h) = ap (inside 1) d ∙ ap₂ ◌&&◌ (le-leb x.lo 1 l) (le-leb 1 x.hi h)
+    by-seen (is_within g k d) false (inl l) = ap (inside 1) d ∙ ap (λ (t : Bool). t && leb 1 x.hi) (lt-leb x.lo 1 l)
+    by-seen (is_within g k d) false (inr h) =
+        ap (inside 1) d ∙ ap₂ ◌&&◌ (le-leb x.lo 1 (omega arith)) (lt-leb 1 x.hi h)

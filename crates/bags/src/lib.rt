@@ -1,10 +1,10 @@
 // Intervals of repetitions as two numbers (docs/FORMAT.md, "Bags and counts"; section 8.2 of the paper).
 #![tactic(auto)]
 
-ghost use Rattle.std.specs.Prelude.{◌≡◌, cond, ℕ, ◌+◌, min, max};
-ghost use Rattle.bags.specs.Interval.{inside, meet, add, low_room, high_room, link_interval, lowered};
+ghost use Rattle.std.specs.Prelude.{◌≡◌, ℕ, ◌+◌};
+ghost use Rattle.bags.specs.Interval.{inside, meet, add, low_room, high_room, link_interval};
 ghost use Rattle.bags.specs.Interval.{wrap_interval};
-ghost use Rattle.bags.specs.Span.{top, view, Small, Addable};
+ghost use Rattle.bags.specs.Span.{view, Small, Addable};
 ghost use Rattle.bags.specs.Part.{Limit, limit_of};
 
 use words::NO_LIMIT;
@@ -17,25 +17,10 @@ pub struct Span {
 }
 
 // The hi of a span that has no limit.
-pub const TOP: u32 = 4294967295;
+pub const TOP: u32 = u32::MAX;
 
-fn wide(x: u16) -> u32
-    ensures { result ≡ x }
-{
-    x as u32
-}
-
-fn larger(a: u32, b: u32) -> u32
-    ensures { result ≡ max a b }
-{
-    if a < b { b } else { a }
-}
-
-fn smaller(a: u32, b: u32) -> u32
-    ensures { result ≡ min a b }
-{
-    if a < b { a } else { b }
-}
+// The span of every number.
+const ANY: Span = Span { lo: 0, hi: TOP };
 
 // The numbers of both.
 pub fn meet_span(x: Span, y: Span) -> Span
@@ -43,8 +28,8 @@ pub fn meet_span(x: Span, y: Span) -> Span
     ensures small { (n : ℕ) → Small n x → Small n y → Small n result }
 {
     Span {
-        lo: larger(x.lo, y.lo),
-        hi: smaller(x.hi, y.hi),
+        lo: x.lo.max(y.lo),
+        hi: x.hi.min(y.hi),
     }
 }
 
@@ -60,16 +45,9 @@ pub fn add_span(x: Span, y: Span) -> Span
     if y.hi < y.lo {
         return y;
     }
-    let lo = x.lo + y.lo;
-    if x.hi == TOP {
-        return Span { lo, hi: TOP };
-    }
-    if y.hi == TOP {
-        return Span { lo, hi: TOP };
-    }
     Span {
-        lo,
-        hi: x.hi + y.hi,
+        lo: x.lo + y.lo,
+        hi: x.hi.saturating_add(y.hi),
     }
 }
 
@@ -79,11 +57,11 @@ fn low_room(count: u16, low: u16) -> Span
     ensures small { Small count result }
 {
     if low == 0 {
-        return Span { lo: 0, hi: TOP };
+        return ANY;
     }
     Span {
         lo: 0,
-        hi: wide(count / low),
+        hi: u32::from(count / low),
     }
 }
 
@@ -92,21 +70,17 @@ fn high_room(count: u16, high: u16) -> Span
     ensures view { view result ≡ high_room count (limit_of high) }
     ensures small { Small count result }
 {
-    if high == NO_LIMIT {
-        return Span {
-            lo: smaller(wide(count), 1),
+    match high {
+        NO_LIMIT => Span {
+            lo: u32::from(count.min(1)),
             hi: TOP,
-        };
-    }
-    if high == 0 {
-        if count == 0 {
-            return Span { lo: 0, hi: TOP };
-        }
-        return Span { lo: 1, hi: 0 };
-    }
-    Span {
-        lo: (wide(count) + (wide(high) - 1)) / wide(high),
-        hi: TOP,
+        },
+        0 if count == 0 => ANY,
+        0 => Span { lo: 1, hi: 0 },
+        _ => Span {
+            lo: u32::from(count.div_ceil(high)),
+            hi: TOP,
+        },
     }
 }
 
@@ -124,33 +98,13 @@ pub fn zero_span(low: u16) -> Span
     ensures small { Small 0 result }
 {
     if low == 0 {
-        return Span { lo: 0, hi: TOP };
+        return ANY;
     }
     Span { lo: 0, hi: 0 }
 }
 
-// The lo of a span below wrappers: below a star or a plus what is above 1 falls to 1.
-fn low_end(lowers: bool, lo: u32) -> u32
-    ensures { result ≡ lowered lowers lo }
-{
-    if lowers {
-        return smaller(lo, 1);
-    }
-    lo
-}
-
-// The hi of a span below wrappers: below a star or an optional it has no limit.
-fn high_end(frees: bool, hi: u32) -> u32
-    ensures { result ≡ cond frees top hi }
-{
-    if frees {
-        return TOP;
-    }
-    hi
-}
-
-// The span of a part below stars, pluses and optionals, from its own: whether one of them is a star or a plus, and
-// whether one is a star or an optional.
+// The span of a part below stars, pluses and optionals, from its own: whether one of them is a star or a plus, which
+// lower what is above 1 to 1, and whether one is a star or an optional, which free it of a limit.
 pub fn wrap_span(lowers: bool, frees: bool, x: Span) -> Span
     ensures view { view result ≡ wrap_interval lowers frees (view x) }
     ensures small { (n : ℕ) → Small n x → Small n result }
@@ -158,18 +112,14 @@ pub fn wrap_span(lowers: bool, frees: bool, x: Span) -> Span
     if x.hi < x.lo {
         return x;
     }
-    Span {
-        lo: low_end(lowers, x.lo),
-        hi: high_end(frees, x.hi),
-    }
+    let lo = if lowers { x.lo.min(1) } else { x.lo };
+    let hi = if frees { TOP } else { x.hi };
+    Span { lo, hi }
 }
 
 // Whether 1 is inside.
 pub fn has_one(x: Span) -> bool
     ensures { result ≡ inside 1 (view x) }
 {
-    if 1 < x.lo {
-        return false;
-    }
-    1 <= x.hi
+    (x.lo..=x.hi).contains(&1)
 }

@@ -3,12 +3,12 @@
 -- kinds-none, kinds-some   how many have a kind: none where no link has it, one at least
 -- RunTo               the links counted of a run; run-start, run_more, run_ends: the first, one more, the whole run
 -- run-counted         the first run of a kind is all that have it
--- passed_none, passed-more   no link is passed; a higher bound
--- CountedOff          where counting a kind stands; off-start, off-same, off-other, off-above, off-done: its steps
+-- passed-more   what is passed, by a higher bound
+-- CountedOff          where counting a kind stands; off-start, off-same, off-other, off-above, off-end: its steps
 -- amount-counted, amount-listed   the count of a label
 -- Assumes nothing.
 use Prim.Native.Nat.{ℕ, zero, suc, ◌+◌, ◌-◌, ◌*◌, ◌/◌, ◌≤◌, ◌<◌}
-use mathlib.Core.Path.{◌≡◌, refl, sym, ap, ◌∙◌}
+use mathlib.Core.Path.{◌≡◌, refl, sym, ap, ◌∙◌, subst}
 use mathlib.Core.Logic.{⊎_elim}
 use mathlib.Core.Bool.{Bool, true, false}
 use mathlib.Core.List.{List}
@@ -22,7 +22,7 @@ use Rattle.words.specs.Limits.{max_labels, max_links}
 use Rattle.words.proofs.Bools.{le-or-lt, last-or-below}
 use Rattle.board.specs.Grid.{tally}
 use Rattle.board.proofs.Tally.{tally-hit, tally-miss, tally-le, tally-none, tally-pos}
-use Rattle.links.specs.Runs.{kind_in, kinds_in, amount, KindsRise, KindsPassed, RunOf, RunAsked}
+use Rattle.links.specs.Runs.{kind_in, kinds_in, amount, KindsRise, KindsPassed, RunOf, RunAsked, CountOf}
 
 -- ---- how many have a kind
 -- Three words are a link.
@@ -130,11 +130,6 @@ run-counted links r first kind count run before =
     kinds-all links r kind ∙ sym (ap (tally p) e) ∙ omega (arith, past, row, none_before)
 
 -- ---- counting a kind off
--- No link is passed yet.
-pub passed_none : (links : List ℕ) (bound next : ℕ) → next ≡ 1 → KindsPassed links bound next
-passed_none links bound next e =
-    record { link = 0; place = e; inside = omega arith; under = λ i l. absurd (omega arith) }
-
 -- What was passed has kinds below any higher number too.
 abbrev pub passed-more : (links : List ℕ) (low high next : ℕ) → low ≤ high → KindsPassed links low next
     → KindsPassed links high next
@@ -206,7 +201,7 @@ module _ {links : List ℕ} {kind found at : ℕ} (rise : KindsRise links) (off 
         rise.few,
       )
 
-  -- At a link whose kind is above, and past the last link, all are found.
+  -- At a link whose kind is above all are found.
   pub off-above : at < length links → kind < get_or links at 0 → found ≡ kinds_in links kind
   off-above l h =
       let i = off.passed.link in
@@ -218,10 +213,15 @@ module _ {links : List ℕ} {kind found at : ℕ} (rise : KindsRise links) (off 
       ne_eqb (kind_in links j) kind (λ q. omega (arith, kind_at links i at off.passed.place)) in
       off.counted ∙ sym (tally-past p i (rise.many - i) after) ∙ ap (tally p) e ∙ sym (kinds-all links rise kind)
 
-  pub off-done : length links ≤ at → found ≡ kinds_in links kind
-  off-done l =
+  -- So are they past the last link, at its end.
+  pub off-end : length links ≤ at
+      → CountOf links kind (record { next = length links + 1; kind = kind; count = found })
+  off-end l =
       let e : off.passed.link ≡ rise.many = omega (arith, off.passed.place, off.passed.inside, rise.size) in
-      off.counted ∙ ap (tally (of_kind links kind)) e ∙ sym (kinds-all links rise kind)
+      let end : at ≡ length links + 1 = omega (arith, off.passed.place, off.passed.inside, rise.size) in record {
+        exact = off.counted ∙ ap (tally (of_kind links kind)) e ∙ sym (kinds-all links rise kind);
+        passed = subst (KindsPassed links (kind + 1)) end off.passed;
+      }
 
 -- ---- the count of a label
 -- It is counted off the links or listed, and is a word.

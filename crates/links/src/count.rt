@@ -3,8 +3,6 @@ ghost use Rattle.std.specs.Prelude.{ℕ, ◌+◌, ◌*◌, ◌≡◌, List};
 ghost use Rattle.links.specs.Index.{CountArrivingAsked, ArrivingCounted};
 ghost use Rattle.links.specs.Runs.{KindsPassed, RunAsked, RunOf, CountOnAsked, CountOf};
 
-use words::wide;
-
 // How many of a card's links, sorted by kind, are of the kind of the link whose kind stands at the place `at`, from
 // there on.
 pub fn run_length(links: &[u16], at: usize, kind: u16) -> usize
@@ -12,13 +10,11 @@ pub fn run_length(links: &[u16], at: usize, kind: u16) -> usize
     ensures { (first : ℕ) → at ≡ 1 + 3 * first → RunOf links.now first kind result }
 {
     let mut count = 1;
-    let mut next = at + 3;
-    while next < links.len() {
+    for next in (at + 3..links.len()).step_by(3) {
         if links[next] != kind {
             return count;
         }
         count += 1;
-        next += 3;
     }
     count
 }
@@ -37,10 +33,7 @@ fn start_of(before: KindCount, kind: u16) -> usize
     ensures { (links : List ℕ) → KindsPassed links (before.kind + 1) before.next →
         KindsPassed links kind result }
 {
-    if before.kind < kind {
-        return before.next;
-    }
-    1
+    if before.kind < kind { before.next } else { 1 }
 }
 
 // How many of a card's links, sorted by kind, have a kind. The first kind above it is the end of them.
@@ -48,26 +41,17 @@ pub fn count_on(links: &[u16], before: KindCount, kind: u16) -> KindCount
     requires { CountOnAsked links.now before }
     ensures { CountOf links.now kind result }
 {
-    let mut next = start_of(before, kind);
-    let mut found = 0;
-    while next < links.len() {
-        if kind <= links[next] {
-            if kind < links[next] {
-                return KindCount {
-                    next,
-                    kind,
-                    count: found,
-                };
-            }
-            found += 1;
+    let mut count = 0;
+    for next in (start_of(before, kind)..links.len()).step_by(3) {
+        if kind < links[next] {
+            return KindCount { next, kind, count };
         }
-        next += 3;
+        if kind == links[next] {
+            count += 1;
+        }
     }
-    KindCount {
-        next,
-        kind,
-        count: found,
-    }
+    let next = links.len() + 1;
+    KindCount { next, kind, count }
 }
 
 // How many of the links to a card have each kind. The counts are all 0 before.
@@ -82,11 +66,12 @@ pub fn count_arriving(
     requires { CountArrivingAsked script.now first.now next.now links card counts.old }
     ensures { ArrivingCounted script.now links card counts.old counts.new }
 {
-    let mut at = wide(first[card]);
+    // a chain: each link says which is the next
+    let mut at = usize::from(first[card]);
     while 0 < at {
         let i = at - 1;
-        let kind = wide(script[3 + 3 * i]);
+        let kind = usize::from(script[3 + 3 * i]);
         counts[kind] += 1;
-        at = wide(next[i]);
+        at = usize::from(next[i]);
     }
 }

@@ -4,21 +4,17 @@ ghost use Rattle.script.specs.Link.{card_words, below};
 ghost use Rattle.links.specs.Index.{StartsOf, StartsAsked, SkipAsked, LeavingOf, LeavingLinksAsked};
 ghost use Rattle.links.specs.Index.{ChainAsked, ChainLeft};
 
-use words::wide;
-
 // The first link from link `from` on that does not start at a card below `card`.
 fn skip_below(script: &[u16], links: usize, card: usize, from: usize) -> usize
     requires { SkipAsked script.now links card from }
     ensures { result ≡ below script.now card links }
 {
-    let mut i = from;
-    while i < links {
-        if card <= wide(script[2 + 3 * i]) {
+    for i in from..links {
+        if card <= usize::from(script[2 + 3 * i]) {
             return i;
         }
-        i += 1;
     }
-    i
+    links
 }
 
 // Where the links of each card start: `starts[c]` is how many start at a card below c. The links of c end where those
@@ -28,11 +24,9 @@ pub fn link_starts(script: &[u16], links: usize, cards: usize, starts: &mut [u16
     ensures { StartsOf script.now starts.new cards links }
 {
     let mut i = 0;
-    let mut c = 0;
-    while c <= cards {
+    for c in 0..=cards {
         i = skip_below(script, links, c, i);
         starts[c] = i as u16;
-        c += 1;
     }
 }
 
@@ -42,8 +36,8 @@ pub fn leaving_links<'s, 't>(script: &'s [u16], starts: &'t [u16], n: usize) -> 
     ensures { (links : ℕ) → LeavingOf script.now starts.now (n + 1) links →
         result.now ≡ card_words script.now n links }
 {
-    let lo = 2 + 3 * wide(starts[n]);
-    let hi = 2 + 3 * wide(starts[n + 1]);
+    let lo = 2 + 3 * usize::from(starts[n]);
+    let hi = 2 + 3 * usize::from(starts[n + 1]);
     &script[lo..hi]
 }
 
@@ -54,11 +48,9 @@ pub fn chain(script: &[u16], links: usize, first: &mut [u16], next: &mut [u16])
     ensures { ChainLeft script.now links first.old next.old
         first.new next.new }
 {
-    let mut i = 0;
-    while i < links {
-        let to = wide(script[4 + 3 * i]);
+    for i in 0..links {
+        let to = usize::from(script[4 + 3 * i]);
         next[i] = first[to];
         first[to] = (i + 1) as u16;
-        i += 1;
     }
 }

@@ -3,7 +3,6 @@ ghost use Rattle.std.specs.Prelude.{length};
 ghost use Rattle.links.specs.Marks.{LinksAmong, LinkedMarked};
 
 use board::fill;
-use words::wide;
 
 // Marks the cards that a link touches: 1 where one starts at the card or leads to it, else 0, whatever it was before.
 pub fn mark_linked(script: &[u16], links: usize, linked: &mut [u8])
@@ -11,12 +10,10 @@ pub fn mark_linked(script: &[u16], links: usize, linked: &mut [u8])
     ensures { LinkedMarked script.now links (length linked.old) linked.new }
 {
     fill(linked, 0);
-    let mut i = 0;
-    while i < links {
-        let from = wide(script[2 + 3 * i]);
+    for i in 0..links {
+        let from = usize::from(script[2 + 3 * i]);
         linked[from] = 1;
-        let to = wide(script[4 + 3 * i]);
+        let to = usize::from(script[4 + 3 * i]);
         linked[to] = 1;
-        i += 1;
     }
 }

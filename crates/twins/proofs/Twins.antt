@@ -1,7 +1,7 @@
 -- Cards whose links have the same kinds.
--- SameTo      where comparing the kinds of two cards' links stands; same_start, same_more, same-done: its steps
+-- SameTo      where comparing the kinds of two cards' links stands; same_more, same-done: its steps
 -- MarksBelow  the table of marks has no other cards than those passed; marks-start, marks-more: its steps
--- twin-self, twin-alike   a card is its own twin, and two cards with as many links of each kind are twins
+-- twin-alike   two cards with as many links of each kind are twins
 -- TwinsTo     the cards passed have their twins; twins-start, twins-more: its steps
 -- Assumes nothing.
 use Prim.Native.Nat.{ℕ, ◌+◌, ◌*◌, ◌/◌, ◌≤◌, ◌<◌}
@@ -32,10 +32,7 @@ pub record SameTo (a b : List ℕ) (at : ℕ) : Type 0 where
   pub same : (i : ℕ) → i < link → kind_in a i ≡ kind_in b i
 
 module _ (a b : List ℕ) where
-  -- No link is compared yet, and one link more.
-  pub same_start : SameTo a b 1
-  same_start = record { link = 0; place = refl; same = λ i l. absurd (omega arith) }
-
+  -- One link more is compared.
   pub same_more : (at : ℕ) → SameTo a b at → get_or a at 0 ≡ get_or b at 0 → SameTo a b (at + 3)
   same_more at s e = record {
     link = s.link + 1;
@@ -83,10 +80,6 @@ marks-more last n mark l f = record {
 }
 
 -- ---- twins
--- A card is its own twin.
-pub twin-self : (script : List ℕ) (links n : ℕ) → TwinOf script links n n
-twin-self script links n = record { before = omega arith; alike = λ k. refl }
-
 -- Two cards whose links have as many of each kind are twins.
 pub twin-alike : (script : List ℕ) (links : ℕ) → Ascending script links → (m n : ℕ) → m ≤ n → (a b : List ℕ)
     → a ≡ card_words script m links → b ≡ card_words script n links

@@ -3,7 +3,7 @@
 -- TwinOf      a card that is no later and has as many links of each kind; TwinAsked: what finding one asks
 -- TwinsOf     such a card for each card; TwinsAsked, TwinsLeft: what finding them asks and leaves
 -- Assumes nothing.
-use Rattle.std.specs.Prelude.{ℕ, ◌+◌, ◌≤◌, ◌<◌, ◌≡◌, List, length, get_or}
+use Rattle.std.specs.Prelude.{ℕ, ◌+◌, ◌≤◌, ◌<◌, ◌≡◌, List, length, get_or, Option, IfSome}
 use Rattle.words.specs.Limits.{max_cards}
 use Rattle.bags.specs.Label.{outgoing}
 use Rattle.links.specs.Counts.{way_count}
@@ -18,12 +18,12 @@ pub record TwinOf (script : List ℕ) (links n m : ℕ) : Type 0 where
   pub before : m ≤ n
   pub alike : (k : ℕ) → way_count outgoing script m k links ≡ way_count outgoing script n k links
 
--- Where the links of the cards up to n start, and one more than a card before n, or 0.
-pub record TwinAsked (script starts : List ℕ) (seen n : ℕ) : Type 0 where
+-- Where the links of the cards up to n start, and a card before n, if there is one.
+pub record TwinAsked (script starts : List ℕ) (seen : Option ℕ) (n : ℕ) : Type 0 where
   pub links : ℕ
   pub leaving : LeavingOf script starts (n + 1) links
   pub few : n < max_cards
-  pub before : seen ≤ n
+  pub before : IfSome seen (λ m. m < n)
 
 -- Each card has such a card, which may be itself.
 pub record TwinsOf (script : List ℕ) (cards links : ℕ) (twins : List ℕ) : Type 0 where

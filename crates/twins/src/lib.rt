@@ -8,7 +8,6 @@ ghost use Rattle.links.specs.Runs.{kinds_in};
 ghost use Rattle.twins.specs.Twins.{marks, TwinAsked, TwinOf, TwinsAsked, TwinsLeft};
 
 use links::leaving_links;
-use words::wide;
 
 // How many marks there are.
 const MARKS: usize = 1024;
@@ -18,10 +17,8 @@ fn mark_of(links: &[u16]) -> usize
     ensures { result < marks }
 {
     let mut mark = 0;
-    let mut next = 1;
-    while next < links.len() {
-        mark = (mark * 133 + wide(links[next]) + 1) % MARKS;
-        next += 3;
+    for next in (1..links.len()).step_by(3) {
+        mark = (mark * 133 + usize::from(links[next]) + 1) % MARKS;
     }
     mark
 }
@@ -33,31 +30,27 @@ fn same_kinds(a: &[u16], b: &[u16]) -> bool
     if a.len() != b.len() {
         return false;
     }
-    let mut at = 1;
-    while at < a.len() {
+    for at in (1..a.len()).step_by(3) {
         if a[at] != b[at] {
             return false;
         }
-        at += 3;
     }
     true
 }
 
-// The twin of card n: the card that `seen` is one more than, if there is one and its links have the same kinds; else
-// card n itself.
-fn twin_of(script: &[u16], starts: &[u16], seen: usize, n: usize) -> u16
+// The twin of card n: the earlier card that was seen, if there is one and its links have the same kinds; else card n
+// itself.
+fn twin_of(script: &[u16], starts: &[u16], seen: Option<u16>, n: usize) -> u16
     requires { TwinAsked script.now starts.now seen n }
     ensures { (links : ℕ) → LeavingOf script.now starts.now (n + 1) links →
         TwinOf script.now links n result }
 {
-    if seen == 0 {
-        return n as u16;
-    }
-    let m = seen - 1;
-    let earlier = leaving_links(script, starts, m);
-    let own = leaving_links(script, starts, n);
-    if same_kinds(earlier, own) {
-        return m as u16;
+    if let Some(m) = seen {
+        let earlier = leaving_links(script, starts, usize::from(m));
+        let own = leaving_links(script, starts, n);
+        if same_kinds(earlier, own) {
+            return m;
+        }
     }
     n as u16
 }
@@ -70,12 +63,10 @@ pub fn find_twins(script: &[u16], starts: &[u16], cards: usize, twins: &mut [u16
         twins.new }
 {
     let mut last = [0u16; MARKS];
-    let mut n = 0;
-    while n < cards {
+    for n in 0..cards {
         let own = leaving_links(script, starts, n);
         let mark = mark_of(own);
-        twins[n] = twin_of(script, starts, wide(last[mark]), n);
-        n += 1;
-        last[mark] = n as u16;
+        twins[n] = twin_of(script, starts, last[mark].checked_sub(1), n);
+        last[mark] = (n + 1) as u16;
     }
 }

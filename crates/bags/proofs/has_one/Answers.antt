@@ -1,11 +1,8 @@
 -- `bags::has_one` meets its contract.
 -- Assumes nothing.
-use native.Mathlib.Omega.{arith}
-use Rattle.bags.proofs.Spans.{one-above, one-not-above}
+use Rattle.std.proofs.Common.{rules}
+use Rattle.bags.proofs.Spans.{one-inside}
 use Rattle.bags.proofs.has_one.Goals as goal
 
-pub returns-then-x-gt1 : goal.returns-then-x-gt1
-returns-then-x-gt1 c = one-above _ (omega arith)
-
 pub returns : goal.returns
-returns c = one-not-above _ (omega arith)
+returns c = one-inside c.args.x c.contains.result (search rules)

@@ -15,5 +15,5 @@ returns-then-low-eq0 c =
 pub returns : goal.returns
 returns c =
     let a = c.args in
-    let told = low-some a.count a.low c.wide.result (omega arith) c.wide.ensures (omega arith) in
+    let told = low-some a.count a.low c.from.result (omega arith) c.from.ensures (omega arith) in
     record { view = told.0; small = told.1 }

@@ -7,7 +7,7 @@ use Rattle.bags.proofs.meet_span.Goals as goal
 pub returns : goal.returns
 returns c = record {
   view =
-      meet-view _ _ _ _ c.larger.ensures c.smaller.ensures (omega arith) (omega arith);
+      meet-view _ _ _ _ c.max.ensures c.min.ensures (omega arith) (omega arith);
   small =
-      λ n h g. meet-small _ _ _ _ n c.larger.ensures c.smaller.ensures (omega arith) (omega arith) h g;
+      λ n h g. meet-small _ _ _ _ n c.max.ensures c.min.ensures (omega arith) (omega arith) h g;
 }

@@ -1,28 +1,12 @@
 -- `twins::find_twins` meets its contract. The invariant: the cards before the loop's have their twins, and the table
--- of marks has no other card. The measure is the count of cards left. Assumes nothing.
+-- of marks has no other card. Assumes nothing.
 use mathlib.Core.Path.{refl}
 use native.Mathlib.Omega.{arith}
-use Rattle.links.proofs.Leaving.{leaving-fewer}
 use Rattle.twins.proofs.Twins.{twins-start, twins-more}
 use Rattle.twins.proofs.find_twins.Goals as goal
 
 pub loop-n-init : goal.loop-n-init
 loop-n-init c = twins-start _ _ _ _ _ refl
-
-pub leaving_links-own-requires : goal.leaving_links-own-requires
-leaving_links-own-requires c =
-    let p = c.requires in
-    record { links = p.links; leaving = leaving-fewer p.leaving _ (omega arith) }
-
-pub twin_of-requires : goal.twin_of-requires
-twin_of-requires c =
-    let p = c.requires in
-    record {
-      links = p.links;
-      leaving = leaving-fewer p.leaving _ (omega arith);
-      few = omega (arith, p.few);
-      before = omega (arith, c.wide.ensures.same, c.loop-n.invariant.table.each _ c.mark_of-mark.ensures);
-    }
 
 pub loop-n-preserved : goal.loop-n-preserved
 loop-n-preserved c =

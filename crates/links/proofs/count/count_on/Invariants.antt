@@ -5,7 +5,7 @@ use Rattle.links.proofs.Runs.{CountedOff}
 use Rattle.links.proofs.count.count_on.Given as goal
 
 abbrev pub invariant-loop-next : goal.invariant-loop-next
-invariant-loop-next l = CountedOff l.links l.kind l.found l.next
+invariant-loop-next l = CountedOff l.links l.kind l.count l.next
 
 abbrev pub decreases-loop-next : goal.decreases-loop-next
 decreases-loop-next l = length l.links + 3 - l.next

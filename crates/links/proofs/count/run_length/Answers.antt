@@ -4,7 +4,7 @@ use mathlib.Core.Path.{◌≡◌, sym, ◌∙◌}
 use native.Mathlib.Omega.{arith}
 use lib.ListN.{get_or}
 use Rattle.links.specs.Runs.{kind_in}
-use Rattle.links.proofs.Runs.{kind_at, run-start, run_more, run_ends}
+use Rattle.links.proofs.Runs.{kind_at, run_more, run_ends}
 use Rattle.links.proofs.count.run_length.Goals as goal
 use Rattle.links.proofs.count.run_length.Goals.{At-loop-next}
 
@@ -13,9 +13,6 @@ kind-is : (l : At-loop-next) (first : ℕ) → l.args.at ≡ 1 + 3 * first
     → get_or l.args.links.now l.loop-next.next 0
     ≡ kind_in l.args.links.now (first + l.loop-next.count)
 kind-is l first e = kind_at _ _ _ (omega arith)
-
-pub loop-next-init : goal.loop-next-init
-loop-next-init c = (omega arith, λ first e. run-start c.requires first e)
 
 pub returns-then-links-next : goal.returns-then-links-next
 returns-then-links-next c =
@@ -29,6 +26,12 @@ loop-next-preserved c = (
       run_more c.requires.rise (c.loop-next.invariant.1 first e) (omega arith)
       (sym (kind-is (goal.at.loop-next-preserved c).At-loop-next first e) ∙ c.if-links-next.false),
 )
+
+pub returns-else-links-next : goal.returns-else-links-next
+returns-else-links-next c = λ first e.
+    let rise = c.requires.rise in
+    let last = sym (kind-is (goal.at.returns-else-links-next c).At-loop-next first e) ∙ c.if-links-next.false in
+    run_ends rise (run_more rise (c.loop-next.invariant.1 first e) (omega arith) last) (λ h q. omega (arith, rise.size))
 
 pub returns : goal.returns
 returns c =

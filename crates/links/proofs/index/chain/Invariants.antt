@@ -1,12 +1,7 @@
 -- `links::chain` chains the links: after i turns those below i.
 -- Assumes nothing.
-use Prim.Native.Nat.{◌-◌, ◌≤◌}
 use Rattle.links.specs.Index.{ChainLeft}
 use Rattle.links.proofs.index.chain.Given as goal
 
 abbrev pub invariant-loop-i : goal.invariant-loop-i
-invariant-loop-i l =
-    (l.i ≤ l.links) × ChainLeft l.script l.i l.initial.first l.initial.next l.first l.next
-
-abbrev pub decreases-loop-i : goal.decreases-loop-i
-decreases-loop-i l = l.links - l.i
+invariant-loop-i l = ChainLeft l.script l.i l.initial.first l.initial.next l.first l.next

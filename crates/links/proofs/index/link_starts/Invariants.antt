@@ -1,6 +1,6 @@
 -- `links::link_starts` fills the table of starts: after c turns the cards below c have theirs.
 -- Assumes nothing.
-use Prim.Native.Nat.{ℕ, ◌+◌, ◌-◌, ◌≤◌, ◌<◌}
+use Prim.Native.Nat.{ℕ, ◌≤◌, ◌<◌}
 use mathlib.Core.Path.{◌≡◌}
 use lib.ListN.{length, get_or}
 use Rattle.script.specs.Link.{below}
@@ -8,10 +8,6 @@ use Rattle.links.proofs.index.link_starts.Given as goal
 
 abbrev pub invariant-loop-c : goal.invariant-loop-c
 invariant-loop-c l =
-    (l.c ≤ l.cards + 1)
-    × (l.i ≤ below l.script l.c l.links)
+    (l.i ≤ below l.script l.c l.links)
     × (length l.starts ≡ length l.initial.starts)
     × ((k : ℕ) → k < l.c → get_or l.starts k 0 ≡ below l.script k l.links)
-
-abbrev pub decreases-loop-c : goal.decreases-loop-c
-decreases-loop-c l = l.cards + 1 - l.c

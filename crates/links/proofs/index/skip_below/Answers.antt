@@ -8,9 +8,9 @@ use Rattle.script.proofs.Order.{starts-rise}
 use Rattle.script.proofs.Cards.{below-le, below-low, below-high}
 use Rattle.links.proofs.index.skip_below.Goals as goal
 
-pub returns-then-card-wide : goal.returns-then-card-wide
+pub returns-then-card-from : goal.returns-then-card-from
 unfolding from_at
-returns-then-card-wide c =
+returns-then-card-from c =
     let rise = starts-rise _ _ c.requires.ascending in
     ⊎_elim (λ h. omega arith) (λ h. absurd (omega (arith, below-low _ _ rise c.args.card c.loop-i.i h)))
     (le-or-lt (below c.args.script.now c.args.card c.args.links) c.loop-i.i)

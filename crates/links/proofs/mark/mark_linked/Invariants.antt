@@ -1,11 +1,7 @@
 -- `links::mark_linked` marks cards: before link i the marks are those of the links below i. Assumes nothing.
-use Prim.Native.Nat.{◌-◌, ◌≤◌}
 use lib.ListN.{length}
 use Rattle.links.specs.Marks.{LinkedMarked}
 use Rattle.links.proofs.mark.mark_linked.Given as goal
 
 abbrev pub invariant-loop-i : goal.invariant-loop-i
-invariant-loop-i l = (l.i ≤ l.links) × LinkedMarked l.script l.i (length l.initial.linked) l.linked
-
-abbrev pub decreases-loop-i : goal.decreases-loop-i
-decreases-loop-i l = l.links - l.i
+invariant-loop-i l = LinkedMarked l.script l.i (length l.initial.linked) l.linked
