@@ -8,7 +8,6 @@ use native.Mathlib.Omega.{arith}
 use lib.ListN.{length, get_or}
 use Rattle.words.specs.Limits.{max_kinds, max_links}
 use Rattle.words.proofs.Bools.{never_both, false_of_not}
-use Rattle.flat.specs.Meeting.{LinkAsked}
 use Rattle.flat.proofs.MeetingCards.{met-few, demand-few}
 use Rattle.flat.proofs.Along.{walked_start, walked-kind, walked-asked, walked-few, walked-unnamed}
 use Rattle.flat.proofs.Along.{walked_next, walked-done}
@@ -25,13 +24,6 @@ place_is : (a : After-wide-place)
 place_is a =
     a.wide-place.ensures.same
     ∙ ap (λ (k : ℕ). get_or a.args.places.now k 0) a.wide.ensures.same
-
-link-asked : (a : After-wide-place)
-    → LinkAsked a.args.words.now a.wide-place.result
-link-asked a l =
-    let placed = a.requires.placed in
-    let e = place_is a in
-    omega (arith, placed.inside (kind (goal.at.After-wide-place a).In-loop-at) (omega arith))
 
 -- A closed shape has a link for the kind.
 named : (c : Joined-else-place-eq0) → c.args.is_open ≡ false
@@ -71,12 +63,6 @@ run_length-count-requires c =
 
 pub overflow_cast-count : goal.overflow_cast-count
 overflow_cast-count c = omega (arith, few c)
-
-pub meet_link-span-requires : goal.meet_link-span-requires
-meet_link-span-requires c = link-asked (goal.at.meet_link-span-requires c).After-wide-place
-
-pub must-found-requires : goal.must-found-requires
-must-found-requires c = link-asked (goal.at.must-found-requires c).After-wide-place
 
 pub overflow_add-found : goal.overflow_add-found
 overflow_add-found c =

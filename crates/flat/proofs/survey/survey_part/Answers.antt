@@ -1,7 +1,7 @@
 -- `flat::survey_part` surveys a part. The invariant: of every part that stands there some run is left. The measure is
 -- the number of words that are left. Assumes nothing.
 use Prim.Native.Nat.{ℕ, ◌+◌}
-use mathlib.Core.Path.{◌≡◌, sym, ◌∙◌, ap}
+use mathlib.Core.Path.{◌≡◌, ◌∙◌, ap}
 use mathlib.Core.List.{List}
 use native.Mathlib.Omega.{arith}
 use lib.ListN.{length, get_or, length-replicate}
@@ -56,14 +56,6 @@ loop-at-init c = (
   ),
 )
 
-pub shape_of-places-then-size-eq0 : goal.shape_of-places-then-size-eq0
-shape_of-places-then-size-eq0 c =
-    (left (goal.at.shape_of-places-then-size-eq0 c).At-loop-at).1.placed.full ∙ sym (full
-    (goal.at.shape_of-places-then-size-eq0 c).Start)
-
-pub returns-then-size-eq0 : goal.returns-then-size-eq0
-returns-then-size-eq0 c p standing = tt
-
 pub enter-requires : goal.enter-requires
 enter-requires c =
     record {
@@ -96,15 +88,8 @@ overflow_add-at c =
     let run = next c c.requires.part c.requires.standing in
     omega (arith, run.1.standing.ends, c.requires.end-in, c.requires.short)
 
-pub loop-at-smaller : goal.loop-at-smaller
-loop-at-smaller c = omega (arith, c.if-size-eq0.false, c.loop-at-test.true)
-
 pub loop-at-preserved : goal.loop-at-preserved
 loop-at-preserved c = (omega (arith, c.loop-at.invariant.0), next c)
-
-pub shape_of-places : goal.shape_of-places
-shape_of-places c = (left (goal.at.shape_of-places c).At-loop-at).1.placed.full ∙ sym (full
-    (goal.at.shape_of-places c).Start)
 
 pub returns : goal.returns
 returns c p standing =
