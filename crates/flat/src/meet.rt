@@ -18,7 +18,8 @@ struct Found {
     found: usize,
 }
 
-// The interval of the link at a place, for a count, met into another; there is no link at 0, as in the table of places.
+// The interval of the link at a place, for a count, met into another. There is no link at 0, as in the table of places,
+// which is fixed memory; an Option would only be made and matched again at each step.
 fn meet_link(words: &[u16], place: usize, count: u16, span: Span) -> Span
     requires { LinkAsked words.now place }
     ensures { LinkMet words.now place count span result }

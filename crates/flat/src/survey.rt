@@ -1,21 +1,22 @@
 // Whether a part is flat, and where its links stand.
-ghost use Rattle.std.specs.Prelude.{◌≡◌};
+ghost use Rattle.std.specs.Prelude.{◌<◌, ◌≡◌, SomeIff};
 ghost use Rattle.bags.specs.Part.{Part};
 ghost use Rattle.flat.specs.Places.{Standing, SurveyAsked, SurveyedAs};
 ghost use Rattle.flat.specs.Places.{code_size, LinkRoom, EnterAsked, entered, must_at};
 
 use words::wide;
 
-// How many words a code takes with what belongs to it: nothing 1, all 2, a link 4; 0 for the codes of other parts.
+// How many words a code takes with what belongs to it: nothing 1, all 2, a link 4; the codes of other parts have no
+// size here.
 #[tactic(auto, unfolding(crate::specs::Places::code_size))]
-fn code_size(code: u16) -> usize
-    ensures { result ≡ code_size code }
+fn code_size(code: u16) -> Option<usize>
+    ensures { SomeIff result (0 < code_size code) (code_size code) }
 {
     match code {
-        0 => 1,
-        17 => 2,
-        256..=383 => 4,
-        _ => 0,
+        0 => Some(1),
+        17 => Some(2),
+        256..=383 => Some(4),
+        _ => None,
     }
 }
 
@@ -50,10 +51,7 @@ pub fn survey_part(words: &[u16], core: usize, end: usize, places: &mut [u16]) -
     let mut needed = 0;
     // a cursor: each step's width depends on the code at it
     while at < end {
-        let size = code_size(words[at]);
-        if size == 0 {
-            return None;
-        }
+        let size = code_size(words[at])?;
         enter(words, at, places);
         needed += must_at(words, at);
         at += size;

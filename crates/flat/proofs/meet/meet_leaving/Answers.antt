@@ -2,12 +2,10 @@
 -- Assumes nothing.
 use Prim.Native.Nat.{ℕ, ◌+◌, ◌*◌, ◌≤◌, ◌<◌}
 use mathlib.Core.Path.{◌≡◌, refl, ◌∙◌, ap}
-use mathlib.Core.Logic.{⊎_elim}
 use mathlib.Core.Bool.{false}
 use native.Mathlib.Omega.{arith}
 use lib.ListN.{length, get_or}
 use Rattle.words.specs.Limits.{max_kinds, max_links}
-use Rattle.words.proofs.Bools.{never_both, false_of_not}
 use Rattle.flat.proofs.MeetingCards.{met-few, demand-few}
 use Rattle.flat.proofs.Along.{walked_start, walked-kind, walked-asked, walked-few, walked-unnamed}
 use Rattle.flat.proofs.Along.{walked_next, walked-done}
@@ -28,7 +26,7 @@ place_is a =
 -- A closed shape has a link for the kind.
 named : (c : Joined-else-place-eq0) → c.args.is_open ≡ false
     → 0 < c.wide-place.result
-named c shut = ⊎_elim (λ w. never_both w.if-not-is_open.false shut) (λ w. omega arith) c.else-place-eq0.branch-raw
+named c shut = grind arith
 
 -- The run is of so many links, and ends with them.
 few : (c : After-run_length-count)
@@ -54,7 +52,7 @@ pub returns-then-not-is_open : goal.returns-then-not-is_open
 returns-then-not-is_open c =
     walked-unnamed c.requires c.loop-at.invariant c.loop-at-test.true (kind (goal.at.returns-then-not-is_open
     c).In-loop-at) refl _ (place_is (goal.at.returns-then-not-is_open c).After-wide-place)
-    (false_of_not c.if-not-is_open.true-raw) c.if-place-eq0.true
+    (grind arith) c.if-place-eq0.true
 
 pub run_length-count-requires : goal.run_length-count-requires
 run_length-count-requires c =

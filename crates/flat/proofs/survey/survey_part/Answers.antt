@@ -29,18 +29,18 @@ left : (l : At-loop-at) → (ps : Parts)
 left l = l.loop-at.invariant.1 l.requires.part l.requires.standing
 
 -- what a turn does, and what is left after it
-step : (c : After-must_at-needed) → Step c.args.words.now c.loop-at.at c.loop-at.places c.code_size-size.result
+step : (c : After-must_at-needed) → Step c.args.words.now c.loop-at.at c.loop-at.places c.in_ok-size.size
     c.enter.new.places c.must_at-needed.result
 step c = record {
-  sized = c.code_size-size.ensures;
-  some = c.if-size-eq0.false;
+  sized = c.in_ok-size.ensures.1;
+  some = λ e. absurd (omega (arith, c.in_ok-size.ensures.0, c.in_ok-size.ensures.1));
   entry = c.enter.ensures;
   must = c.must_at-needed.ensures;
 }
 
 next : (c : After-must_at-needed) (p : Part) → Standing c.args.words.now c.args.core c.args.end p → (ps : Parts)
     × Pending c.args.words.now c.args.end p
-    (c.loop-at.at + c.code_size-size.result) c.enter.new.places
+    (c.loop-at.at + c.in_ok-size.size) c.enter.new.places
     (c.loop-at.needed + c.must_at-needed.result) ps
 next c p standing =
     let before = c.loop-at.invariant.1 p standing in
@@ -61,7 +61,7 @@ enter-requires c =
     record {
       inside = omega (arith, c.requires.end-in);
       label = λ _. link-size (get_or c.args.words.now c.loop-at.at 0)
-          (λ e. c.if-size-eq0.false (c.code_size-size.ensures ∙ e));
+          (λ e. absurd (omega (arith, c.in_ok-size.ensures.0)));
       full = (left (goal.at.enter-requires c).At-loop-at).1.placed.full;
       short = c.requires.short;
     }
