@@ -98,16 +98,7 @@ fn join_link(words: &[u16], at: usize, count: u16, code: u16, x: Span) -> Span
 fn is_link(words: &[u16], at: usize) -> bool
     ensures { result ≡ true → LinkHere words.now at }
 {
-    if words.len() < 4 {
-        return false;
-    }
-    if words.len() - 4 < at {
-        return false;
-    }
-    if words[at] < 256 {
-        return false;
-    }
-    words[at] < 384
+    at < words.len().saturating_sub(3) && (256..384).contains(&words[at])
 }
 
 // Takes the links that come next in a choice (16) or an all (17), so many parts at most, together with the parts
@@ -125,28 +116,23 @@ pub fn take_links(
     ensures { TakesLinks (amount links.now listed.now) words.now left parts code
         before result }
 {
-    let mut next = before.next;
-    let mut span = before.span;
-    let mut count = 0;
-    let mut counted = uncounted();
     if left == 0 {
         return Taken {
             eval: before,
-            count,
+            count: 0,
         };
     }
-    while count < parts {
-        if !is_link(words, next) {
-            let eval = Eval { next, span };
+    let mut eval = before;
+    let mut counted = uncounted();
+    for count in 0..parts {
+        if !is_link(words, eval.next) {
             return Taken { eval, count };
         }
-        counted = count_next(links, listed, counted, words[next] - 256);
-        span = join_link(words, next, counted.count, code, span);
-        next += 4;
-        count += 1;
+        counted = count_next(links, listed, counted, words[eval.next] - 256);
+        eval.span = join_link(words, eval.next, counted.count, code, eval.span);
+        eval.next += 4;
     }
-    let eval = Eval { next, span };
-    Taken { eval, count }
+    Taken { eval, count: parts }
 }
 
 // The parts of a choice (16) or of all (17) so far, with one more.
@@ -154,11 +140,8 @@ pub fn join(code: u16, before: Eval, part: Eval) -> Eval
     requires { Addable before.span part.span }
     ensures { JoinedPart code before part result }
 {
-    let x = before.span;
-    let y = part.span;
-    let span = join_span(code, x, y);
     Eval {
         next: part.next,
-        span,
+        span: join_span(code, before.span, part.span),
     }
 }
