@@ -1,17 +1,14 @@
 -- `join_span` meets its contract. Assumes nothing.
 use Prim.Native.Nat.{◌+◌}
-use mathlib.Core.Path.{sym, ◌∙◌}
-use Rattle.joins.proofs.Joined.{joined-all}
-use Rattle.bags.specs.Span.{view}
 use Rattle.bags.proofs.Spans.{add-small-left, add-small-right}
 use Rattle.joins.proofs.join_span.Goals as goal
 
-pub returns : goal.returns
-returns c =
+pub returns-in-All : goal.returns-in-All
+returns-in-All c =
     let a = c.args in
     let met = c.meet_span.ensures.view in
     let small = c.meet_span.ensures.small in
-    λ n y. record {
-      span = met ∙ sym (joined-all a.code (view a.x) (view a.y) c.if-code-eq16.false);
+    rw c.in-All.is (λ n y. record {
+      span = met;
       small = λ m x. small (m + n) (add-small-left m n a.x x) (add-small-right m n a.y y);
-    }
+    })
