@@ -62,18 +62,10 @@ module _ (w : ℕ → ℕ) (at : ℕ) where
     small = small-more c (65535 * (at + 4 - at)) x (omega arith) s;
   }
 
-  -- No parts of a choice, and of all.
-  module _ (code next : ℕ) where
-    pub none-choice :
-        code ≡ 16 → Evaluates w at (onto (gathered code) (placed Parts.none next)) (eval next (span 0 0))
-    unfolding view Small
-    none-choice h =
-        rw (eq-eqb code 16 h) (record { next = refl; span = refl; small = (omega arith, λ d. omega arith) })
-
-    pub none-all :
-        (e : Eval) → (code ≡ 16 → ⊥) → Evaluates w at (placed Part.nothing next) e →
-        Evaluates w at (onto (gathered code) (placed Parts.none next)) e
-    none-all e d v = rw (ne_eqb code 16 d) (record { next = v.next; span = v.span; small = v.small })
+  -- No parts of a choice.
+  pub none-choice : (next : ℕ) → Evaluates w at (placed (Part.choice Parts.none) next) (eval next (span 0 0))
+  unfolding view Small
+  none-choice next = record { next = refl; span = refl; small = (omega arith, λ d. omega arith) }
 
 -- 1 is in the interval that the evaluator found.
 pub inside_one :

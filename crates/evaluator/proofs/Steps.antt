@@ -13,7 +13,7 @@ use borrow.Author.Tests.{eqb-true, eqb-false}
 use lib.ListN.{length, get_or}
 use lib.Dec.{eqb}
 use Rattle.words.proofs.Bools.{bool_case, eq-or-ne}
-use Rattle.bags.specs.Part.{Part}
+use Rattle.bags.specs.Part.{Part, Parts}
 use Rattle.bags.specs.Interval.{interval, wrap_interval}
 use Rattle.bags.proofs.Spans.{small-more}
 use Rattle.parts.specs.Reading.{Code, code_of, gathered}
@@ -69,13 +69,15 @@ module _ (w : ℕ → ℕ) (words : List ℕ) (left at : ℕ) (e : Eval) where
     part-high a v = by_code Code.unknown (code-high _ a) v
 
     pub part-group :
-        (parts : ℕ) → parts ≡ get_or words (at + 1) 0 → 16 ≤ get_or words at 0 → get_or words at 0 ≤ 17 →
-        Evaluates w (at + 2) (onto (gathered (get_or words at 0)) (trees_at (tree_at (left - 1) words) parts (at +
-        2))) e →
+        (parts code : ℕ) → parts ≡ get_or words (at + 1) 0 → 16 ≤ get_or words at 0 → get_or words at 0 ≤ 17 →
+        ((ps : Parts) → gathered code ps ≡ gathered (get_or words at 0) ps) →
+        Evaluates w (at + 2) (onto (gathered code) (trees_at (tree_at (left - 1) words) parts (at + 2))) e →
         Evaluates w at (tree_at left words at) e
-    part-group parts q a b v =
+    part-group parts code q a b same v =
+        let run = trees_at (tree_at (left - 1) words) parts (at + 2) in
+        let here = evaluates-as w (at + 2) _ _ e (ap (λ (p : Part). placed p run.next) (same run.value)) v in
         by_code (Code.group (gathered (get_or words at 0))) (code-group _ a b)
-        (evaluates-from w at (at + 2) _ e (omega arith) (rw q at v))
+        (evaluates-from w at (at + 2) _ e (omega arith) (rw q at here))
 
     pub part-link :
         (label : ℕ) → label ≡ get_or words at 0 - 256 → 256 ≤ get_or words at 0 → get_or words at 0 ≤ 383 →

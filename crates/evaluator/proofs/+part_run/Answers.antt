@@ -5,7 +5,7 @@ use Prim.Native.Nat.{ℕ}
 use mathlib.Core.Path.{refl}
 use native.Mathlib.Omega.{arith}
 use Rattle.links.specs.Runs.{amount}
-use Rattle.joins.specs.Evaluation.{Begins}
+use Rattle.joins.specs.Evaluation.{Begins, group_code}
 use Rattle.evaluator.proofs.Steps.{part-deep, part-past, part_low, part-middle, part-high, part-group, part-link}
 use Rattle.evaluator.proofs.Steps.{wrapped-part}
 use Prim.Native.Nat.{ℕ}
@@ -46,8 +46,8 @@ part-link-requires t c =
 pub part-returns-in-16-to-17 : goal.part-returns-in-16-to-17
 part-returns-in-16-to-17 t c =
     wrapped-part _ _ _ _ _ _ _ _ c.front_of-front.ensures refl
-    (part-group _ _ _ _ _ (omega arith) (omega arith) _ c.word-parts.ensures (omega arith)
-    (omega arith) c.run-inner.ensures) c.wrapped-in-16-to-17.ensures
+    (part-group _ _ _ _ _ (omega arith) (omega arith) _ _ c.word-parts.ensures (omega arith)
+    (omega arith) c.group_of-group.ensures c.run-inner.ensures) c.wrapped-in-16-to-17.ensures
 
 pub part-returns-in-256-to-319 : goal.part-returns-in-256-to-319
 part-returns-in-256-to-319 t c =
@@ -127,5 +127,5 @@ run-returns t c =
     let a = c.args in
     let all : c.loop-done.done ≡ a.parts = omega (arith, c.loop-done.invariant.few) in
     begins-all _ _ _ _ _ _ _
-    (subst (λ (n : ℕ). Begins (amount a.links.now a.listed.now) a.words.now a.left a.at a.code n
+    (subst (λ (n : ℕ). Begins (amount a.links.now a.listed.now) a.words.now a.left a.at (group_code a.group) n
     c.loop-done.whole) all c.loop-done.invariant.begun)

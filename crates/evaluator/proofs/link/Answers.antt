@@ -3,8 +3,8 @@ use Rattle.evaluator.proofs.Evaluations.{link-evaluates}
 use borrow.Author.Rules.{rules}
 use Rattle.evaluator.proofs.link.Goals as goal
 
-pub count_next-counted-requires : goal.count_next-counted-requires
-count_next-counted-requires c =
+pub count_next-count-requires : goal.count_next-count-requires
+count_next-count-requires c =
     record { source = c.requires.source; passed = c.uncounted.ensures _ }
 
 pub returns : goal.returns
@@ -12,4 +12,4 @@ returns c =
     let viewed = c.link_span-span.ensures.view in
     let small = c.link_span-span.ensures.small in
     rw (← c.word.ensures, ← c.word-2.ensures)
-    (link-evaluates _ _ _ _ _ _ _ _ c.count_next-counted.ensures.exact (search rules) viewed small)
+    (link-evaluates _ _ _ _ _ _ _ _ c.count_next-count.ensures.exact (search rules) viewed small)
