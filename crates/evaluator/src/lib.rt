@@ -84,10 +84,7 @@ fn part(words: &[u16], links: &[u16], listed: &[u16], at: usize, left: usize) ->
     let front = front_of(words, at, left);
     let core = front.core;
     let levels = left - (core - at);
-    if levels == 0 {
-        return wrapped(front, nothing(core));
-    }
-    if words.len() <= core {
+    if levels == 0 || words.len() <= core {
         return wrapped(front, nothing(core));
     }
     let code = words[core];
@@ -98,8 +95,8 @@ fn part(words: &[u16], links: &[u16], listed: &[u16], at: usize, left: usize) ->
             let inner = run(words, links, listed, core + 2, levels - 1, parts, group);
             wrapped(front, inner)
         }
-        256..=319 | 320..=383 => wrapped(front, link(words, links, listed, core, code - 256)),
-        0..=15 | 18..=255 | 384..=65535 => wrapped(front, nothing(core + 1)),
+        256..=383 => wrapped(front, link(words, links, listed, core, code - 256)),
+        _ => wrapped(front, nothing(core + 1)),
     }
 }
 

@@ -3,10 +3,6 @@ use Rattle.evaluator.proofs.Evaluations.{link-evaluates}
 use borrow.Author.Rules.{rules}
 use Rattle.evaluator.proofs.link.Goals as goal
 
-pub count_next-count-requires : goal.count_next-count-requires
-count_next-count-requires c =
-    record { source = c.requires.source; passed = c.uncounted.ensures _ }
-
 pub returns : goal.returns
 returns c =
     let viewed = c.link_span-span.ensures.view in
