@@ -1,24 +1,20 @@
 -- What the evaluator's steps answer for the tree at a place.
 -- evaluates-as, evaluates-from   the same answer for an equal tree, and from a place before
 -- part_small                     a span is small enough to be added
--- inside_one                     whether 1 is in the interval of a part
 -- nothing-.., link-.., none-..   the answer of each leaf, from what its span stands for
 -- Assumes nothing.
 use mathlib.Core.Path.{◌≡◌, refl, ap, ◌∙◌, subst}
-use mathlib.Core.Bool.{Bool}
 use mathlib.Core.List.{List}
 use Prim.Native.Nat.{ℕ, ◌+◌, ◌-◌, ◌*◌, ◌≤◌, ◌<◌}
 use native.Mathlib.Omega.{arith}
-use borrow.Author.Tests.{eq-eqb, ne_eqb}
 use lib.ListN.{length}
 use Rattle.words.specs.Limits.{max_template}
 use Rattle.bags.specs.Part.{Part, Parts, Limit}
-use Rattle.bags.specs.Interval.{link_interval, interval, inside}
+use Rattle.bags.specs.Interval.{link_interval}
 use Rattle.bags.specs.Span.{view, Small}
 use Rattle.bags.specs.declared.Span.{Span}
 use Rattle.bags.proofs.Spans.{span, small-more, small-up}
-use Rattle.parts.specs.Reading.{gathered}
-use Rattle.parts.specs.Placed.{Placed, placed, onto}
+use Rattle.parts.specs.Placed.{Placed, placed}
 use Rattle.trees.specs.Trees.{tree_at}
 use Rattle.trees.proofs.Sizes.{next-bound}
 use Rattle.joins.specs.declared.Eval.{Eval}
@@ -62,21 +58,7 @@ module _ (w : ℕ → ℕ) (at : ℕ) where
     small = small-more c (65535 * (at + 4 - at)) x (omega arith) s;
   }
 
-  -- No parts of a choice, and of all.
-  module _ (code next : ℕ) where
-    pub none-choice :
-        code ≡ 16 → Evaluates w at (onto (gathered code) (placed Parts.none next)) (eval next (span 0 0))
-    unfolding view Small
-    none-choice h =
-        rw (eq-eqb code 16 h) (record { next = refl; span = refl; small = (omega arith, λ d. omega arith) })
-
-    pub none-all :
-        (e : Eval) → (code ≡ 16 → ⊥) → Evaluates w at (placed Part.nothing next) e →
-        Evaluates w at (onto (gathered code) (placed Parts.none next)) e
-    none-all e d v = rw (ne_eqb code 16 d) (record { next = v.next; span = v.span; small = v.small })
-
--- 1 is in the interval that the evaluator found.
-pub inside_one :
-    (w : ℕ → ℕ) (at : ℕ) (t : Placed Part) (e : Eval) (one : Bool) → Evaluates w at t e →
-    one ≡ inside 1 (view e.span) → one ≡ inside 1 (interval t.value w)
-inside_one w at t e one v h = h ∙ ap (inside 1) v.span
+  -- No parts of a choice.
+  pub none-choice : (next : ℕ) → Evaluates w at (placed (Part.choice Parts.none) next) (eval next (span 0 0))
+  unfolding view Small
+  none-choice next = record { next = refl; span = refl; small = (omega arith, λ d. omega arith) }

@@ -1,6 +1,6 @@
 -- The ways of a part: what each answers is the answer for the tree at its place.
 -- part-deep, part-past      where no level is left, and past the words' end
--- part_low, part-middle, part-high   where a code stands that is no part's, or nothing's
+-- part-other                where a code stands that is no part's, or nothing's
 -- part-group, part-link     for a choice or an all, and for a link
 -- wrapped-part              for a part with wrappers, from the answer for its core
 -- Assumes nothing.
@@ -9,11 +9,9 @@ use mathlib.Core.List.{List}
 use mathlib.Core.Logic.{⊎_elim}
 use Prim.Native.Nat.{ℕ, ◌+◌, ◌-◌, ◌*◌, ◌≤◌, ◌<◌}
 use native.Mathlib.Omega.{arith}
-use borrow.Author.Tests.{eqb-true, eqb-false}
 use lib.ListN.{length, get_or}
-use lib.Dec.{eqb}
-use Rattle.words.proofs.Bools.{bool_case, eq-or-ne}
-use Rattle.bags.specs.Part.{Part}
+use Rattle.words.proofs.Bools.{eq-or-ne, le-or-lt}
+use Rattle.bags.specs.Part.{Part, Parts}
 use Rattle.bags.specs.Interval.{interval, wrap_interval}
 use Rattle.bags.proofs.Spans.{small-more}
 use Rattle.parts.specs.Reading.{Code, code_of, gathered}
@@ -45,37 +43,37 @@ module _ (w : ℕ → ℕ) (words : List ℕ) (left at : ℕ) (e : Eval) where
         Evaluates w at (tree_at left words at) e
     by_code k c v = evaluates-as w at _ _ e (tree-by words at left p h k c) v
 
-    pub part-middle :
-        18 ≤ get_or words at 0 → get_or words at 0 ≤ 255 → Evaluates w at (placed Part.nothing (at + 1)) e →
-        Evaluates w at (tree_at left words at) e
-    part-middle a b v = bool_case (eqb (get_or words at 0) 18)
-        (λ e. by_code Code.opening (code-open (get_or words at 0) (eqb-true (get_or words at 0) 18 e)) v)
-        (λ e.
-        let over : 19 ≤ get_or words at 0 = omega (arith, eqb-false (get_or words at 0) 18 e) in
-        by_code Code.unknown (code-middle _ over b) v)
-
     -- nothing stands there, or no part
-    pub part_low :
-        (1 ≤ get_or words at 0 → 4 ≤ get_or words at 0) → get_or words at 0 ≤ 15 →
+    pub part-other :
+        (1 ≤ get_or words at 0 → 4 ≤ get_or words at 0) → (16 ≤ get_or words at 0 → 18 ≤ get_or words at 0) →
+        (256 ≤ get_or words at 0 → 384 ≤ get_or words at 0) →
         Evaluates w at (placed Part.nothing (at + 1)) e → Evaluates w at (tree_at left words at) e
-    part_low no-wrapper b v = ⊎_elim
-        (λ zero. by_code Code.nothing (code-nothing _ zero) v)
-        (λ some. by_code Code.unknown (code-low _ (no-wrapper (omega (arith, some))) b) v)
-        (eq-or-ne (get_or words at 0) 0)
-
-    pub part-high :
-        384 ≤ get_or words at 0 → Evaluates w at (placed Part.nothing (at + 1)) e →
-        Evaluates w at (tree_at left words at) e
-    part-high a v = by_code Code.unknown (code-high _ a) v
+    part-other no-wrapper no-group no-link v =
+        let code = get_or words at 0 in
+        ⊎_elim
+        (λ (low : code ≤ 15). ⊎_elim
+        (λ zero. by_code Code.nothing (code-nothing code zero) v)
+        (λ some. by_code Code.unknown (code-low code (no-wrapper (omega (arith, some))) low) v)
+        (eq-or-ne code 0))
+        (λ (h : 15 < code). ⊎_elim
+        (λ (low : code ≤ 255). ⊎_elim
+        (λ opening. by_code Code.opening (code-open code opening) v)
+        (λ other. by_code Code.unknown (code-middle code (omega (arith, other, no-group (omega arith))) low) v)
+        (eq-or-ne code 18))
+        (λ (g : 255 < code). by_code Code.unknown (code-high code (no-link (omega arith))) v)
+        (le-or-lt code 255))
+        (le-or-lt code 15)
 
     pub part-group :
-        (parts : ℕ) → parts ≡ get_or words (at + 1) 0 → 16 ≤ get_or words at 0 → get_or words at 0 ≤ 17 →
-        Evaluates w (at + 2) (onto (gathered (get_or words at 0)) (trees_at (tree_at (left - 1) words) parts (at +
-        2))) e →
+        (parts code : ℕ) → parts ≡ get_or words (at + 1) 0 → 16 ≤ get_or words at 0 → get_or words at 0 ≤ 17 →
+        ((ps : Parts) → gathered code ps ≡ gathered (get_or words at 0) ps) →
+        Evaluates w (at + 2) (onto (gathered code) (trees_at (tree_at (left - 1) words) parts (at + 2))) e →
         Evaluates w at (tree_at left words at) e
-    part-group parts q a b v =
+    part-group parts code q a b same v =
+        let run = trees_at (tree_at (left - 1) words) parts (at + 2) in
+        let here = evaluates-as w (at + 2) _ _ e (ap (λ (p : Part). placed p run.next) (same run.value)) v in
         by_code (Code.group (gathered (get_or words at 0))) (code-group _ a b)
-        (evaluates-from w at (at + 2) _ e (omega arith) (rw q at v))
+        (evaluates-from w at (at + 2) _ e (omega arith) (rw q at here))
 
     pub part-link :
         (label : ℕ) → label ≡ get_or words at 0 - 256 → 256 ≤ get_or words at 0 → get_or words at 0 ≤ 383 →

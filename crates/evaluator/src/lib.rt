@@ -10,11 +10,11 @@ ghost use Rattle.parts.specs.Reading.{gathered};
 ghost use Rattle.parts.specs.Placed.{placed, onto};
 ghost use Rattle.links.specs.Runs.{amount};
 ghost use Rattle.trees.specs.Trees.{link_at, tree_at, trees_at};
-ghost use Rattle.joins.specs.Evaluation.{Evaluates};
+ghost use Rattle.joins.specs.Evaluation.{Evaluates, group_code};
 ghost use Rattle.evaluator.specs.Machine.{Evaluable, LinkEvaluable, Wrapped};
 
 use bags::{Span, TOP, has_one, link_span, wrap_span};
-use joins::{Eval, count_next, join, take_links, uncounted};
+use joins::{Eval, Group, count_next, join, take_links, uncounted};
 use trees::{Front, front_of, word};
 use words::MAX_DEPTH;
 
@@ -28,16 +28,28 @@ fn nothing(next: usize) -> Eval
     }
 }
 
-// No parts of a choice (16) or of all (17), before the place `next`.
-fn none(code: u16, next: usize) -> Eval
-    ensures { (w : ℕ → ℕ) (at : ℕ) → Evaluates w at (onto (gathered code) (placed Parts.none next)) result }
+// The group that a code of one (16 or 17) starts.
+fn group_of(code: u16) -> Group
+    ensures { (ps : Parts) → gathered (group_code result) ps ≡ gathered code ps }
 {
-    if code != 16 {
-        return nothing(next);
+    if code == 16 {
+        Group::Choice
+    } else {
+        Group::All
     }
-    Eval {
-        next,
-        span: Span { lo: 0, hi: 0 },
+}
+
+// No parts of a group, before the place `next`.
+fn none(group: Group, next: usize) -> Eval
+    ensures { (w : ℕ → ℕ) (at : ℕ) →
+        Evaluates w at (onto (gathered (group_code group)) (placed Parts.none next)) result }
+{
+    match group {
+        Group::Choice => Eval {
+            next,
+            span: Span { lo: 0, hi: 0 },
+        },
+        Group::All => nothing(next),
     }
 }
 
@@ -47,8 +59,7 @@ fn link(words: &[u16], links: &[u16], listed: &[u16], at: usize, label: u16) -> 
     ensures { Evaluates (amount links.now listed.now) at
         (link_at words.now at label) result }
 {
-    let counted = count_next(links, listed, uncounted(), label);
-    let count = counted.count;
+    let count = count_next(links, listed, uncounted(), label).count;
     let span = link_span(count, word(words, at + 2), word(words, at + 3));
     Eval { next: at + 4, span }
 }
@@ -57,11 +68,9 @@ fn link(words: &[u16], links: &[u16], listed: &[u16], at: usize, label: u16) -> 
 fn wrapped(front: Front, core: Eval) -> Eval
     ensures { Wrapped front core result }
 {
-    let x = core.span;
-    let span = wrap_span(front.lowers, front.frees, x);
     Eval {
         next: core.next,
-        span,
+        span: wrap_span(front.lowers, front.frees, core.span),
     }
 }
 
@@ -75,25 +84,23 @@ fn part(words: &[u16], links: &[u16], listed: &[u16], at: usize, left: usize) ->
     let front = front_of(words, at, left);
     let core = front.core;
     let levels = left - (core - at);
-    if levels == 0 {
-        return wrapped(front, nothing(core));
-    }
-    if words.len() <= core {
+    if levels == 0 || words.len() <= core {
         return wrapped(front, nothing(core));
     }
     let code = words[core];
     match code {
         16..=17 => {
             let parts = word(words, core + 1);
-            let inner = run(words, links, listed, core + 2, levels - 1, parts, code);
+            let group = group_of(code);
+            let inner = run(words, links, listed, core + 2, levels - 1, parts, group);
             wrapped(front, inner)
         }
-        256..=319 | 320..=383 => wrapped(front, link(words, links, listed, core, code - 256)),
-        0..=15 | 18..=255 | 384..=65535 => wrapped(front, nothing(core + 1)),
+        256..=383 => wrapped(front, link(words, links, listed, core, code - 256)),
+        _ => wrapped(front, nothing(core + 1)),
     }
 }
 
-// So many parts of a choice (16) or of all (17), one after the other. Links that stand side by side are taken together.
+// So many parts of a group, one after the other. Links that stand side by side are taken together.
 #[cycle(part_run)]
 fn run(
     words: &[u16],
@@ -102,20 +109,20 @@ fn run(
     at: usize,
     left: usize,
     parts: u16,
-    code: u16,
+    group: Group,
 ) -> Eval
     requires { Evaluable words.now links.now listed.now }
     ensures { Evaluates (amount links.now listed.now) at
-        (onto (gathered code) (trees_at (tree_at left words.now) parts at)) result }
+        (onto (gathered (group_code group)) (trees_at (tree_at left words.now) parts at)) result }
 {
-    let mut whole = none(code, at);
+    let mut whole = none(group, at);
     let mut done = 0;
+    // a cursor: each turn takes a part, or as many links as stand there
     while done < parts {
-        let some = take_links(words, links, listed, left, parts - done, code, whole);
+        let some = take_links(words, links, listed, left, parts - done, group, whole);
         if some.count == 0 {
-            let next = whole.next;
-            let first = part(words, links, listed, next, left);
-            whole = join(code, whole, first);
+            let first = part(words, links, listed, whole.next, left);
+            whole = join(group, whole, first);
             done += 1;
         } else {
             whole = some.eval;
@@ -132,6 +139,5 @@ pub fn part_fits(words: &[u16], links: &[u16], listed: &[u16], at: usize) -> boo
         (amount links.now listed.now)) }
 {
     let whole = part(words, links, listed, at, MAX_DEPTH);
-    let span = whole.span;
-    has_one(span)
+    has_one(whole.span)
 }

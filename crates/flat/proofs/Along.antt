@@ -18,6 +18,7 @@ use mathlib.Core.List.{List}
 use native.Mathlib.Omega.{arith}
 use native.Mathlib.Nat.{add-zero}
 use lib.ListN.{length, get_or}
+use Rattle.std.specs.Prelude.{Some, None}
 use Rattle.words.specs.Limits.{max_kinds, max_labels, max_links}
 use Rattle.words.proofs.Bools.{le-or-lt, bool_case, or_left, or_right}
 use Rattle.bags.specs.Part.{Part}
@@ -31,8 +32,6 @@ use Rattle.flat.specs.Places.{Surveyed}
 use Rattle.flat.specs.Meeting.{MeetAsked, KindsUnder, MetAs, demanded, MetBelow, LinkMet, AllMet, LeavingAsked}
 use Rattle.flat.specs.Meeting.{LeavingAs, ArrivingAsked, ArrivingAs, LastLabels}
 use Rattle.flat.specs.declared.meet.Found.{Found}
-use Rattle.flat.specs.declared.meet.Leaving.TheVariants as leaving
-use Rattle.flat.specs.declared.meet.Meeting.TheVariants as meeting
 use Rattle.flat.proofs.MeetingCards.{demand-few, met-none, met_next, met-skip, met-alike, met-few, interval-met}
 use Rattle.flat.proofs.MeetingCards.{unnamed-counts, named-counts}
 
@@ -85,7 +84,7 @@ module _ {words places : List ℕ} {is_open : Bool} {links : List ℕ} {at : ℕ
     }
 
     module _ (place : ℕ) (place_is : place ≡ get_or places kind 0) where
-      pub walked-unnamed : is_open ≡ false → place ≡ 0 → LeavingAs words places is_open links leaving.Unnamed
+      pub walked-unnamed : is_open ≡ false → place ≡ 0 → LeavingAs words places is_open links None
       walked-unnamed shut e = (
         shut,
         (
@@ -142,7 +141,7 @@ module _ {words places : List ℕ} {is_open : Bool} {links : List ℕ} {at : ℕ
             }
 
   pub walked-done : length links ≤ at
-      → LeavingAs words places is_open links (leaving.Met (record { span = before; found = found }))
+      → LeavingAs words places is_open links (Some (record { span = before; found = found }))
   walked-done past =
       let end : length links ≡ 3 * walked.link = omega (arith, walked.place, walked.inside, asked.rise.size) in (
         met-skip max_kinds walked.outgoing walked.met (λ k a b. kinds-none links asked.rise k (λ i l e.
@@ -213,22 +212,22 @@ module _ {words places links arriving : List ℕ} (asked : MeetAsked words place
   pub leaving-asked : LeavingAsked words places links
   leaving-asked = record { placed = asked.placed; rise = asked.rise; leaving = asked.leaving }
 
-  pub arriving-asked : {is_open : Bool} (first : Found) → LeavingAs words places is_open links (leaving.Met first)
+  pub arriving-asked : {is_open : Bool} (first : Found) → LeavingAs words places is_open links (Some first)
       → ArrivingAsked words places arriving first.found
   arriving-asked first h = record { placed = asked.placed; few = asked.few; found-few = met-few h.0 }
 
   module _ (is_open : Bool) (needed : ℕ) (p : Part) (kinds : ℕ) (surveyed : Surveyed words p places needed)
       (under : KindsUnder links kinds) where
-    pub card-unnamed : LeavingAs words places is_open links leaving.Unnamed
-        → MetAs is_open kinds p (amount links arriving) meeting.Unnamed
+    pub card-unnamed : LeavingAs words places is_open links None
+        → MetAs is_open kinds p (amount links arriving) None
     card-unnamed h =
         let (shut, some) = h in
         let (i, l, e) = some in
         (shut, unnamed-counts surveyed links arriving asked.rise asked.few kinds under i l e)
 
-    pub card-met : (first both : Found) (after : Span) → LeavingAs words places is_open links (leaving.Met first)
+    pub card-met : (first both : Found) (after : Span) → LeavingAs words places is_open links (Some first)
         → ArrivingAs words places arriving first both → AllMet needed both.found both.span after
-        → MetAs is_open kinds p (amount links arriving) (meeting.Met after)
+        → MetAs is_open kinds p (amount links arriving) (Some after)
     card-met first both after h arrived left =
         let w = amount links arriving in
         let met = arrived w (amount-last links arriving) (leaving-met arriving leaving-asked asked.few h.0) in (

@@ -1,6 +1,6 @@
 -- Meeting the interval of a flat part, label by label.
 --   link-none, link-some           no link at a place, or one that is met: a `return` of meet_link each
---   demand-none, demand-low, demand-some   whether a link must be there: a `return` of must each; demand-few: 1 at most
+--   demand-none, demand-few         no link needs to be there where there is none; it counts 1 at most
 --   all_found, one-missing         no link is missing, or one is: a `return` of all_met each
 --   met-none, met_next, met-skip   no label is met yet; the label at the bound; labels that count 0
 --   met-alike, met-few             other counts that are the same below the bound; no more links than labels
@@ -63,18 +63,6 @@ link-some words place count before one after e f p = record {
 pub demand-none : (words : List ℕ) (place : ℕ) → place ≡ 0 → 0 ≡ demanded words place
 unfolding demanded bit
 demand-none words place e = rw e refl
-
-pub demand-low : (words : List ℕ) (place : ℕ) → low_at words place ≡ 0 → 0 ≡ demanded words place
-unfolding demanded
-demand-low words place e =
-    sym (bit-false (ltb 0 place && ltb 0 (low_at words place)) (is_false (λ t.
-    let h = ltb-true 0 (low_at words place) (and_second (ltb 0 place) (ltb 0 (low_at words place)) t) in omega arith)))
-
-pub demand-some : (words : List ℕ) (place : ℕ) → 0 < place → 0 < low_at words place → 1 ≡ demanded words place
-unfolding demanded
-demand-some words place p l =
-    sym (bit-true (ltb 0 place && ltb 0 (low_at words place))
-    (and_both (ltb 0 place) (ltb 0 (low_at words place)) (lt-ltb 0 place p) (lt-ltb 0 (low_at words place) l)))
 
 pub demand-few : (words : List ℕ) (place : ℕ) → demanded words place ≤ 1
 unfolding demanded

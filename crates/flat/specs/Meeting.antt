@@ -9,7 +9,7 @@
 -- LastLabels, ArrivingAsked, ArrivingAs   going along the counts of the last labels
 -- Assumes nothing.
 use Rattle.std.specs.Prelude.{ℕ, ◌+◌, ◌-◌, ◌*◌, ◌≤◌, ◌<◌, ◌≡◌, ◌↔◌, Bool, true, false, ◌&&◌, ◌||◌, List, length}
-use Rattle.std.specs.Prelude.{get_or, ltb}
+use Rattle.std.specs.Prelude.{get_or, ltb, Option, Some, None}
 use Rattle.words.specs.Limits.{max_kinds, max_labels}
 use Rattle.bags.specs.Part.{Part}
 use Rattle.bags.specs.Interval.{Interval, In, link_interval, interval, others_zero}
@@ -19,10 +19,6 @@ use Rattle.board.specs.Grid.{bit, tally}
 use Rattle.links.specs.Runs.{kind_in, kinds_in, KindsRise}
 use Rattle.flat.specs.Places.{low_at, high_at, must, LinkPlaces}
 use Rattle.flat.specs.declared.meet.Found.{Found}
-use Rattle.flat.specs.declared.meet.Leaving.{Leaving}
-use Rattle.flat.specs.declared.meet.Leaving.TheVariants as leaving
-use Rattle.flat.specs.declared.meet.Meeting.{Meeting}
-use Rattle.flat.specs.declared.meet.Meeting.TheVariants as meeting
 
 -- The places of links, a card's links sorted by kind, each of an outgoing kind, and counts of incoming kinds at most.
 pub record MeetAsked (words places links arriving : List ℕ) : Type 0 where
@@ -38,9 +34,9 @@ pub record KindsUnder (links : List ℕ) (kinds : ℕ) : Type 0 where
 
 -- A closed shape does not name a kind that counts; or this is the part's interval, and the shape is open or the kinds
 -- that it does not name count 0.
-abbrev pub MetAs : Bool → ℕ → Part → (ℕ → ℕ) → Meeting → Type 0
-MetAs is_open kinds p w meeting.Unnamed = (is_open ≡ false) × (others_zero kinds p w ≡ false)
-MetAs is_open kinds p w (meeting.Met span) =
+abbrev pub MetAs : Bool → ℕ → Part → (ℕ → ℕ) → Option Span → Type 0
+MetAs is_open kinds p w None = (is_open ≡ false) × (others_zero kinds p w ≡ false)
+MetAs is_open kinds p w (Some span) =
     (view span ≡ interval p w) × ((is_open || others_zero kinds p w) ≡ true)
 
 -- ---- the steps
@@ -80,10 +76,10 @@ pub record LeavingAsked (words places links : List ℕ) : Type 0 where
 
 -- A closed shape has no link for a kind of the card's; or the outgoing labels are met, and a closed shape has a link
 -- for each kind of the card's.
-abbrev pub LeavingAs : List ℕ → List ℕ → Bool → List ℕ → Leaving → Type 0
-LeavingAs words places is_open links leaving.Unnamed =
+abbrev pub LeavingAs : List ℕ → List ℕ → Bool → List ℕ → Option Found → Type 0
+LeavingAs words places is_open links None =
     (is_open ≡ false) × ((i : ℕ) × (3 * i < length links) × (get_or places (kind_in links i) 0 ≡ 0))
-LeavingAs words places is_open links (leaving.Met first) =
+LeavingAs words places is_open links (Some first) =
     MetBelow words places (kinds_in links) max_kinds first.span first.found
     × (is_open ≡ false → (i : ℕ) → 3 * i < length links → 0 < get_or places (kind_in links i) 0)
 

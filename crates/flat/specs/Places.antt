@@ -10,14 +10,12 @@
 -- LinkRoom, EnterAsked          what a step asks
 -- Assumes nothing.
 use Rattle.std.specs.Prelude.{ℕ, ◌+◌, ◌-◌, ◌≤◌, ◌<◌, ◌≡◌, Bool, ◌&&◌, cond, ◌↔◌, List, length, get_or, set, replicate}
-use Rattle.std.specs.Prelude.{ltb, eqb}
+use Rattle.std.specs.Prelude.{ltb, eqb, Option, Some, None}
 use Rattle.words.specs.Limits.{max_labels, max_template}
 use Rattle.bags.specs.Part.{Limit, Part, Names, Single, limit_of}
 use Rattle.bags.specs.Flat.{Flat, Has}
 use Rattle.board.specs.Grid.{bit, tally}
 use Rattle.parts.specs.Writer.{write_part, WithinLimits}
-use Rattle.flat.specs.declared.survey.Survey.{Survey}
-use Rattle.flat.specs.declared.survey.Survey.TheVariants as survey
 
 -- The low and the high of the link whose code is at a place.
 abbrev pub low_at : List ℕ → ℕ → ℕ
@@ -63,9 +61,9 @@ pub record SurveyAsked (words : List ℕ) (core end : ℕ) (places : List ℕ) :
   pub blank : places ≡ replicate max_labels 0
 
 -- The part is flat, with so many links that must be there; nothing is said of any other.
-abbrev pub SurveyedAs : List ℕ → Part → List ℕ → Survey → Type 0
-SurveyedAs words p places (survey.Flat needed) = Surveyed words p places needed
-SurveyedAs words p places survey.Other = Unit {0}
+abbrev pub SurveyedAs : List ℕ → Part → List ℕ → Option ℕ → Type 0
+SurveyedAs words p places (Some needed) = Surveyed words p places needed
+SurveyedAs words p places None = Unit {0}
 
 -- ---- the steps of a survey
 

@@ -7,5 +7,5 @@
 mod meet;
 mod survey;
 
-pub use meet::{Meeting, meet_card};
-pub use survey::{Survey, survey_part};
+pub use meet::meet_card;
+pub use survey::survey_part;

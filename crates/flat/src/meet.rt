@@ -18,21 +18,8 @@ struct Found {
     found: usize,
 }
 
-// What the links from a card come to: a closed shape does not name one of their kinds, or the interval so far.
-#[derive(Clone, Copy)]
-enum Leaving {
-    Unnamed,
-    Met(Found),
-}
-
-// What a card's links come to: a closed shape does not name one of their kinds, or the part's interval.
-#[derive(Clone, Copy)]
-pub enum Meeting {
-    Unnamed,
-    Met(Span),
-}
-
-// The interval of the link at a place, for a count, met into another; there is no link at 0.
+// The interval of the link at a place, for a count, met into another. There is no link at 0, as in the table of places,
+// which is fixed memory; an Option would only be made and matched again at each step.
 fn meet_link(words: &[u16], place: usize, count: u16, span: Span) -> Span
     requires { LinkAsked words.now place }
     ensures { LinkMet words.now place count span result }
@@ -44,39 +31,35 @@ fn meet_link(words: &[u16], place: usize, count: u16, span: Span) -> Span
 }
 
 // 1 if the link at a place must be there, else 0; there is no link at 0.
+#[tactic(auto, unfolding(crate::specs::Meeting::demanded, board::specs::Grid::bit))]
 fn must(words: &[u16], place: usize) -> usize
     requires { LinkAsked words.now place }
     ensures { result ≡ demanded words.now place }
 {
-    if place == 0 {
-        return 0;
-    }
-    if words[place + 2] == 0 {
-        return 0;
-    }
-    1
+    usize::from(0 < place && 0 < words[place + 2])
 }
 
-// Goes along the links from a card, run by run.
-fn meet_leaving(words: &[u16], places: &[u16], is_open: bool, links: &[u16]) -> Leaving
+// Goes along the links from a card, run by run; nothing if a closed shape does not name one of their kinds.
+fn meet_leaving(words: &[u16], places: &[u16], is_open: bool, links: &[u16]) -> Option<Found>
     requires { LeavingAsked words.now places.now links.now }
     ensures { LeavingAs words.now places.now is_open links.now result }
 {
     let mut span = Span { lo: 0, hi: TOP };
     let mut found = 0;
     let mut at = 1;
+    // a cursor: each step's width depends on the run at it
     while at < links.len() {
         let kind = links[at];
         let place = wide(places[wide(kind)]);
         if place == 0 && !is_open {
-            return Leaving::Unnamed;
+            return None;
         }
         let count = run_length(links, at, kind);
         span = meet_link(words, place, count as u16, span);
         found += must(words, place);
         at += 3 * count;
     }
-    Leaving::Met(Found { span, found })
+    Some(Found { span, found })
 }
 
 // The place of a label's link, but 0 if the label counts 0.
@@ -98,13 +81,10 @@ fn meet_arriving(words: &[u16], places: &[u16], arriving: &[u16], before: Found)
     let mut span = before.span;
     let mut found = before.found;
     let first = MAX_LABELS - arriving.len();
-    let mut k = 0;
-    while k < arriving.len() {
-        let count = arriving[k];
-        let place = place_of(places[first + k], count);
-        span = meet_link(words, place, count, span);
+    for (k, count) in arriving.iter().enumerate() {
+        let place = place_of(places[first + k], *count);
+        span = meet_link(words, place, *count, span);
         found += must(words, place);
-        k += 1;
     }
     Found { span, found }
 }
@@ -120,7 +100,8 @@ fn all_met(needed: usize, met: Found) -> Span
     span
 }
 
-// The interval of a flat part for a card: its links in order, and the counts of the last labels.
+// The interval of a flat part for a card: its links in order, and the counts of the last labels; nothing if a closed
+// shape does not name the kind of one of its links.
 pub fn meet_card(
     words: &[u16],
     places: &[u16],
@@ -128,18 +109,13 @@ pub fn meet_card(
     needed: usize,
     links: &[u16],
     arriving: &[u16],
-) -> Meeting
+) -> Option<Span>
     requires { MeetAsked words.now places.now links.now arriving.now }
     ensures { (p : Part) (kinds : ℕ) → Surveyed words.now p places.now needed →
         KindsUnder links.now kinds →
         MetAs is_open kinds p (amount links.now arriving.now) result }
 {
-    let leaving = meet_leaving(words, places, is_open, links);
-    match leaving {
-        Leaving::Unnamed => Meeting::Unnamed,
-        Leaving::Met(first) => {
-            let both = meet_arriving(words, places, arriving, first);
-            Meeting::Met(all_met(needed, both))
-        }
-    }
+    let leaving = meet_leaving(words, places, is_open, links)?;
+    let both = meet_arriving(words, places, arriving, leaving);
+    Some(all_met(needed, both))
 }

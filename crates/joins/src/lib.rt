@@ -1,5 +1,5 @@
-// Parts of a choice (16) or of an all (17), joined one after the other: what the first parts of a run come to. The
-// count of a label stands in a list, or is counted off the links of a card.
+// Parts of a choice or of an all, joined one after the other: what the first parts of a run come to. The count of a
+// label stands in a list, or is counted off the links of a card.
 #![tactic(auto)]
 
 ghost use Rattle.std.specs.Prelude.{◌≡◌, true, List, ℕ, ◌+◌};
@@ -7,13 +7,20 @@ ghost use Rattle.bags.specs.Part.{Limit};
 ghost use Rattle.bags.specs.Interval.{link_interval};
 ghost use Rattle.bags.specs.Span.{view, Small, Addable};
 ghost use Rattle.links.specs.Runs.{amount, KindsPassed};
-ghost use Rattle.joins.specs.Evaluation.{link_interval_at, JoinedWith, JoinedPart, LinkHere, TakesLinks};
+ghost use Rattle.joins.specs.Evaluation.{group_code, link_interval_at, JoinedWith, JoinedPart, LinkHere, TakesLinks};
 ghost use Rattle.joins.specs.Machine.{CountAsked, LabelCounted, JoinAsked, TakeAsked};
 
 use bags::{Span, add_span, link_span, meet_span, wrap_span, zero_span};
 use links::{KindCount, count_on};
 use trees::word;
 use words::{MAX_LABELS, wide};
+
+// What a run of parts makes.
+#[derive(Clone, Copy)]
+pub enum Group {
+    Choice,
+    All,
+}
 
 // What evaluating a part finds: the next place, and its interval.
 #[derive(Clone, Copy)]
@@ -58,107 +65,87 @@ pub fn count_next(links: &[u16], listed: &[u16], before: KindCount, label: u16) 
     }
 }
 
-// Two parts of a choice (16) or of all (17), or two runs of them.
-fn join_span(code: u16, x: Span, y: Span) -> Span
+// Two parts of a group, or two runs of them.
+fn join_span(group: Group, x: Span, y: Span) -> Span
     requires { Addable x y }
-    ensures { (n : ℕ) → Small n y → JoinedWith code x (view y) n result }
+    ensures { (n : ℕ) → Small n y → JoinedWith (group_code group) x (view y) n result }
 {
-    if code == 16 {
-        return add_span(x, y);
+    match group {
+        Group::Choice => add_span(x, y),
+        Group::All => meet_span(x, y),
     }
-    meet_span(x, y)
 }
 
 // The same, where the second is a link whose label counts 0.
-fn join_zero(code: u16, x: Span, low: u16) -> Span
-    ensures { (high : Limit) → JoinedWith code x (link_interval 0 low high) 0 result }
+fn join_zero(group: Group, x: Span, low: u16) -> Span
+    ensures { (high : Limit) → JoinedWith (group_code group) x (link_interval 0 low high) 0 result }
 {
-    if code != 16 {
-        return meet_span(x, zero_span(low));
+    match group {
+        Group::Choice if low == 0 => wrap_span(false, true, x),
+        Group::Choice => x,
+        Group::All => meet_span(x, zero_span(low)),
     }
-    if low == 0 {
-        return wrap_span(false, true, x);
-    }
-    x
 }
 
 // The same, where the second is the link at a place, whose label counts so many.
-fn join_link(words: &[u16], at: usize, count: u16, code: u16, x: Span) -> Span
+fn join_link(words: &[u16], at: usize, count: u16, group: Group, x: Span) -> Span
     requires { JoinAsked words.now at x }
-    ensures { JoinedWith code x (link_interval_at words.now at count) count result }
+    ensures { JoinedWith (group_code group) x (link_interval_at words.now at count) count result }
 {
     let low = words[at + 2];
     if count == 0 {
-        return join_zero(code, x, low);
+        return join_zero(group, x, low);
     }
-    join_span(code, x, link_span(count, low, words[at + 3]))
+    join_span(group, x, link_span(count, low, words[at + 3]))
 }
 
 // Whether a whole link stands at a place.
 fn is_link(words: &[u16], at: usize) -> bool
     ensures { result ≡ true → LinkHere words.now at }
 {
-    if words.len() < 4 {
-        return false;
-    }
-    if words.len() - 4 < at {
-        return false;
-    }
-    if words[at] < 256 {
-        return false;
-    }
-    words[at] < 384
+    at < words.len().saturating_sub(3) && (256..384).contains(&words[at])
 }
 
-// Takes the links that come next in a choice (16) or an all (17), so many parts at most, together with the parts
-// before them.
+// Takes the links that come next in a group, so many parts at most, together with the parts before them.
 pub fn take_links(
     words: &[u16],
     links: &[u16],
     listed: &[u16],
     left: usize,
     parts: u16,
-    code: u16,
+    group: Group,
     before: Eval,
 ) -> Taken
-    requires { TakeAsked words.now links.now listed.now left code before }
-    ensures { TakesLinks (amount links.now listed.now) words.now left parts code
+    requires { TakeAsked words.now links.now listed.now left (group_code group) before }
+    ensures { TakesLinks (amount links.now listed.now) words.now left parts (group_code group)
         before result }
 {
-    let mut next = before.next;
-    let mut span = before.span;
-    let mut count = 0;
-    let mut counted = uncounted();
     if left == 0 {
         return Taken {
             eval: before,
-            count,
+            count: 0,
         };
     }
-    while count < parts {
-        if !is_link(words, next) {
-            let eval = Eval { next, span };
+    let mut eval = before;
+    let mut counted = uncounted();
+    for count in 0..parts {
+        if !is_link(words, eval.next) {
             return Taken { eval, count };
         }
-        counted = count_next(links, listed, counted, words[next] - 256);
-        span = join_link(words, next, counted.count, code, span);
-        next += 4;
-        count += 1;
+        counted = count_next(links, listed, counted, words[eval.next] - 256);
+        eval.span = join_link(words, eval.next, counted.count, group, eval.span);
+        eval.next += 4;
     }
-    let eval = Eval { next, span };
-    Taken { eval, count }
+    Taken { eval, count: parts }
 }
 
-// The parts of a choice (16) or of all (17) so far, with one more.
-pub fn join(code: u16, before: Eval, part: Eval) -> Eval
+// The parts of a group so far, with one more.
+pub fn join(group: Group, before: Eval, part: Eval) -> Eval
     requires { Addable before.span part.span }
-    ensures { JoinedPart code before part result }
+    ensures { JoinedPart (group_code group) before part result }
 {
-    let x = before.span;
-    let y = part.span;
-    let span = join_span(code, x, y);
     Eval {
         next: part.next,
-        span,
+        span: join_span(group, before.span, part.span),
     }
 }

@@ -23,37 +23,21 @@ pub struct Front {
 pub fn word(words: &[u16], at: usize) -> u16
     ensures { result ≡ get_or words.now at 0 }
 {
-    if at < words.len() { words[at] } else { 0 }
-}
-
-// Whether one of two holds.
-fn either(a: bool, b: bool) -> bool
-    ensures { result ≡ (a || b) }
-{
-    if a { true } else { b }
+    words.get(at).copied().unwrap_or(0)
 }
 
 // Whether a code is that of a star (1), a plus (2) or an optional (3).
 fn is_wrapper(code: u16) -> bool
     ensures { WrapperTold code result }
 {
-    if code == 0 {
-        return false;
-    }
-    code < 4
+    matches!(code, 1..=3)
 }
 
 // Where so many words from `start` on end, or the words do.
 fn end_of(length: usize, start: usize, most: usize) -> usize
     ensures { EndOf length start most result }
 {
-    if length <= start {
-        return start;
-    }
-    if length - start < most {
-        return length;
-    }
-    start + most
+    start + usize::min(length.saturating_sub(start), most)
 }
 
 // The wrappers from `start` on, so many at most.
@@ -61,10 +45,9 @@ pub fn front_of(words: &[u16], start: usize, most: usize) -> Front
     ensures { FrontOf words.now start most result }
 {
     let end = end_of(words.len(), start, most);
-    let mut core = start;
     let mut lowers = false;
     let mut frees = false;
-    while core < end {
+    for core in start..end {
         let code = words[core];
         if !is_wrapper(code) {
             return Front {
@@ -73,12 +56,11 @@ pub fn front_of(words: &[u16], start: usize, most: usize) -> Front
                 frees,
             };
         }
-        lowers = either(lowers, code != 3);
-        frees = either(frees, code != 2);
-        core += 1;
+        lowers |= code != 3;
+        frees |= code != 2;
     }
     Front {
-        core,
+        core: end,
         lowers,
         frees,
     }

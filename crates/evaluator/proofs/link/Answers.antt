@@ -3,13 +3,9 @@ use Rattle.evaluator.proofs.Evaluations.{link-evaluates}
 use borrow.Author.Rules.{rules}
 use Rattle.evaluator.proofs.link.Goals as goal
 
-pub count_next-counted-requires : goal.count_next-counted-requires
-count_next-counted-requires c =
-    record { source = c.requires.source; passed = c.uncounted.ensures _ }
-
 pub returns : goal.returns
 returns c =
     let viewed = c.link_span-span.ensures.view in
     let small = c.link_span-span.ensures.small in
     rw (← c.word.ensures, ← c.word-2.ensures)
-    (link-evaluates _ _ _ _ _ _ _ _ c.count_next-counted.ensures.exact (search rules) viewed small)
+    (link-evaluates _ _ _ _ _ _ _ _ c.count_next-count.ensures.exact (search rules) viewed small)

@@ -1,10 +1,11 @@
--- `take_links` meets its contract. The invariant: the parts before, with the links taken, are first parts of a run. The
--- measure is the count of parts left. Assumes nothing.
-use Prim.Native.Nat.{ℕ, ◌+◌, ◌-◌, ◌≤◌}
+-- `take_links` meets its contract. The invariant: the parts before, with the links taken, are first parts of a run.
+-- Assumes nothing.
+use Prim.Native.Nat.{ℕ, ◌+◌, ◌≤◌}
 use mathlib.Core.List.{List}
 use Rattle.links.specs.Runs.{amount, KindsPassed}
 use Rattle.joins.specs.declared.Eval.{Eval}
-use Rattle.joins.proofs.Beginnings.{eval, Grows}
+use Rattle.joins.specs.Evaluation.{group_code}
+use Rattle.joins.proofs.Beginnings.{Grows}
 use Rattle.joins.proofs.take_links.Given as goal
 
 -- So many links are taken, and a kind is counted up to a place.
@@ -16,8 +17,4 @@ pub record Taking (words links listed : List ℕ) (left parts code : ℕ) (befor
 
 abbrev pub invariant-loop-count : goal.invariant-loop-count
 invariant-loop-count l =
-    Taking l.words l.links l.listed l.left l.parts l.code (eval l.initial.next l.initial.span) (eval l.next l.span)
-    l.count l.counted.kind l.counted.next
-
-abbrev pub decreases-loop-count : goal.decreases-loop-count
-decreases-loop-count l = l.parts - l.count
+    Taking l.words l.links l.listed l.left l.parts (group_code l.group) l.initial.eval l.eval l.count l.counted.kind l.counted.next

@@ -2,13 +2,10 @@
 -- Assumes nothing.
 use Prim.Native.Nat.{ℕ, ◌+◌, ◌*◌, ◌≤◌, ◌<◌}
 use mathlib.Core.Path.{◌≡◌, refl, ◌∙◌, ap}
-use mathlib.Core.Logic.{⊎_elim}
 use mathlib.Core.Bool.{false}
 use native.Mathlib.Omega.{arith}
 use lib.ListN.{length, get_or}
 use Rattle.words.specs.Limits.{max_kinds, max_links}
-use Rattle.words.proofs.Bools.{never_both, false_of_not}
-use Rattle.flat.specs.Meeting.{LinkAsked}
 use Rattle.flat.proofs.MeetingCards.{met-few, demand-few}
 use Rattle.flat.proofs.Along.{walked_start, walked-kind, walked-asked, walked-few, walked-unnamed}
 use Rattle.flat.proofs.Along.{walked_next, walked-done}
@@ -26,17 +23,10 @@ place_is a =
     a.wide-place.ensures.same
     ∙ ap (λ (k : ℕ). get_or a.args.places.now k 0) a.wide.ensures.same
 
-link-asked : (a : After-wide-place)
-    → LinkAsked a.args.words.now a.wide-place.result
-link-asked a l =
-    let placed = a.requires.placed in
-    let e = place_is a in
-    omega (arith, placed.inside (kind (goal.at.After-wide-place a).In-loop-at) (omega arith))
-
 -- A closed shape has a link for the kind.
 named : (c : Joined-else-place-eq0) → c.args.is_open ≡ false
     → 0 < c.wide-place.result
-named c shut = ⊎_elim (λ w. never_both w.if-not-is_open.false shut) (λ w. omega arith) c.else-place-eq0.branch-raw
+named c shut = grind arith
 
 -- The run is of so many links, and ends with them.
 few : (c : After-run_length-count)
@@ -62,7 +52,7 @@ pub returns-then-not-is_open : goal.returns-then-not-is_open
 returns-then-not-is_open c =
     walked-unnamed c.requires c.loop-at.invariant c.loop-at-test.true (kind (goal.at.returns-then-not-is_open
     c).In-loop-at) refl _ (place_is (goal.at.returns-then-not-is_open c).After-wide-place)
-    (false_of_not c.if-not-is_open.true-raw) c.if-place-eq0.true
+    (grind arith) c.if-place-eq0.true
 
 pub run_length-count-requires : goal.run_length-count-requires
 run_length-count-requires c =
@@ -71,12 +61,6 @@ run_length-count-requires c =
 
 pub overflow_cast-count : goal.overflow_cast-count
 overflow_cast-count c = omega (arith, few c)
-
-pub meet_link-span-requires : goal.meet_link-span-requires
-meet_link-span-requires c = link-asked (goal.at.meet_link-span-requires c).After-wide-place
-
-pub must-found-requires : goal.must-found-requires
-must-found-requires c = link-asked (goal.at.must-found-requires c).After-wide-place
 
 pub overflow_add-found : goal.overflow_add-found
 overflow_add-found c =

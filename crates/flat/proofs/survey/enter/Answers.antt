@@ -6,10 +6,6 @@ use lib.ListN.{set}
 use Rattle.flat.proofs.Codes.{entered-link, entered-other}
 use Rattle.flat.proofs.survey.enter.Goals as goal
 
-pub bounds-places-wide : goal.bounds-places-wide
-bounds-places-wide c =
-    omega (arith, c.requires.label (omega arith))
-
 pub returns-then-code-ge256 : goal.returns-then-code-ge256
 returns-then-code-ge256 c =
     let places = c.args.places.now in

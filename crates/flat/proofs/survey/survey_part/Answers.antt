@@ -1,7 +1,7 @@
 -- `flat::survey_part` surveys a part. The invariant: of every part that stands there some run is left. The measure is
 -- the number of words that are left. Assumes nothing.
 use Prim.Native.Nat.{ℕ, ◌+◌}
-use mathlib.Core.Path.{◌≡◌, sym, ◌∙◌, ap}
+use mathlib.Core.Path.{◌≡◌, ◌∙◌, ap}
 use mathlib.Core.List.{List}
 use native.Mathlib.Omega.{arith}
 use lib.ListN.{length, get_or, length-replicate}
@@ -29,18 +29,18 @@ left : (l : At-loop-at) → (ps : Parts)
 left l = l.loop-at.invariant.1 l.requires.part l.requires.standing
 
 -- what a turn does, and what is left after it
-step : (c : After-must_at-needed) → Step c.args.words.now c.loop-at.at c.loop-at.places c.code_size-size.result
+step : (c : After-must_at-needed) → Step c.args.words.now c.loop-at.at c.loop-at.places c.in_ok-size.size
     c.enter.new.places c.must_at-needed.result
 step c = record {
-  sized = c.code_size-size.ensures;
-  some = c.if-size-eq0.false;
+  sized = c.in_ok-size.ensures.1;
+  some = λ e. absurd (omega (arith, c.in_ok-size.ensures.0, c.in_ok-size.ensures.1));
   entry = c.enter.ensures;
   must = c.must_at-needed.ensures;
 }
 
 next : (c : After-must_at-needed) (p : Part) → Standing c.args.words.now c.args.core c.args.end p → (ps : Parts)
     × Pending c.args.words.now c.args.end p
-    (c.loop-at.at + c.code_size-size.result) c.enter.new.places
+    (c.loop-at.at + c.in_ok-size.size) c.enter.new.places
     (c.loop-at.needed + c.must_at-needed.result) ps
 next c p standing =
     let before = c.loop-at.invariant.1 p standing in
@@ -56,20 +56,12 @@ loop-at-init c = (
   ),
 )
 
-pub shape_of-places-then-size-eq0 : goal.shape_of-places-then-size-eq0
-shape_of-places-then-size-eq0 c =
-    (left (goal.at.shape_of-places-then-size-eq0 c).At-loop-at).1.placed.full ∙ sym (full
-    (goal.at.shape_of-places-then-size-eq0 c).Start)
-
-pub returns-then-size-eq0 : goal.returns-then-size-eq0
-returns-then-size-eq0 c p standing = tt
-
 pub enter-requires : goal.enter-requires
 enter-requires c =
     record {
       inside = omega (arith, c.requires.end-in);
       label = λ _. link-size (get_or c.args.words.now c.loop-at.at 0)
-          (λ e. c.if-size-eq0.false (c.code_size-size.ensures ∙ e));
+          (λ e. absurd (omega (arith, c.in_ok-size.ensures.0)));
       full = (left (goal.at.enter-requires c).At-loop-at).1.placed.full;
       short = c.requires.short;
     }
@@ -96,15 +88,8 @@ overflow_add-at c =
     let run = next c c.requires.part c.requires.standing in
     omega (arith, run.1.standing.ends, c.requires.end-in, c.requires.short)
 
-pub loop-at-smaller : goal.loop-at-smaller
-loop-at-smaller c = omega (arith, c.if-size-eq0.false, c.loop-at-test.true)
-
 pub loop-at-preserved : goal.loop-at-preserved
 loop-at-preserved c = (omega (arith, c.loop-at.invariant.0), next c)
-
-pub shape_of-places : goal.shape_of-places
-shape_of-places c = (left (goal.at.shape_of-places c).At-loop-at).1.placed.full ∙ sym (full
-    (goal.at.shape_of-places c).Start)
 
 pub returns : goal.returns
 returns c p standing =
