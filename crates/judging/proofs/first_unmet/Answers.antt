@@ -1,45 +1,31 @@
--- `judging::first_unmet` finds the lowest pair of the grid that is not met. The invariant: below `place` there is none.
--- Assumes nothing.
-use mathlib.Core.Logic.{⊎_elim}
+-- `judging::first_unmet` finds the lowest pair of the grid that is not met. Assumes nothing.
+use mathlib.Core.Path.{sym, ◌∙◌}
 use native.Mathlib.Omega.{arith}
 use borrow.Author.Count.{below_more}
-use borrow.Author.Tests.{not-true, not-false}
-use Rattle.judging.specs.Judging.{Failing}
 use Rattle.words.proofs.Bools.{never_both}
 use Rattle.board.proofs.Grids.{on-yes, on-no}
 use Rattle.judging.proofs.first_unmet.Goals as goal
-
-pub loop-place-init : goal.loop-place-init
-loop-place-init c = (λ q l. absurd (omega arith), omega arith)
+use Rattle.judging.proofs.first_unmet.Goals.{else-held-eq1-via-then-held-eq1+else-not-pair_met}
+use Rattle.judging.proofs.first_unmet.Goals.{else-held-eq1-via-else-held-eq1}
 
 pub returns-then-not-pair_met : goal.returns-then-not-pair_met
-returns-then-not-pair_met c =
-    record {
-      within = c.loop-place.invariant.1;
-      before = c.loop-place.invariant.0;
-      here = λ _. (
-        on-yes c.args.grid.now c.loop-place.place c.if-grid-place-eq1.true,
-        rw c.pair_met.ensures at (not-true c.pair_met.result c.if-not-pair_met.true-raw),
-      );
-    }
+returns-then-not-pair_met c = (
+  omega arith,
+  record {
+    within = omega arith;
+    before = c.loop-place.invariant;
+    here = λ _. (
+      on-yes c.args.grid.now c.loop-place.place c.if-held-eq1.true,
+      sym c.pair_met.ensures ∙ c.if-not-pair_met.true,
+    );
+  },
+)
 
 pub loop-place-preserved : goal.loop-place-preserved
 loop-place-preserved c =
-    let grid = c.args.grid.now in
-    let names = c.args.names.now in
-    let Fault = Failing c.args.script.now names c.args.shapes c.args.fitting.now grid in (
-      below_more (λ q. Fault q → ⊥) c.loop-place.place c.loop-place.invariant.0 (⊎_elim
-          (λ w f. never_both (rw w.pair_met.ensures at (not-false w.pair_met.result w.if-not-pair_met.false-raw)) f.1)
-          (λ w f. never_both f.0 (on-no grid c.loop-place.place w.if-grid-place-eq1.false))
-          c.else-grid-place-eq1.branch-raw),
-      omega arith,
-    )
-
-pub returns : goal.returns
-returns c =
-    record {
-      within = c.loop-place.invariant.1;
-      before = c.loop-place.invariant.0;
-      here = λ below. absurd (omega
-          arith);
-    }
+    below_more _ _ c.loop-place.invariant (elim c.else-held-eq1.branch [
+      | else-held-eq1-via-then-held-eq1+else-not-pair_met w ↦
+          λ f. never_both (sym w.pair_met.ensures ∙ w.if-not-pair_met.false) f.1
+      | else-held-eq1-via-else-held-eq1 w ↦
+          λ f. never_both f.0 (on-no c.args.grid.now c.loop-place.place w.if-held-eq1.false)
+    ])

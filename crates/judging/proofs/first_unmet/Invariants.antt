@@ -1,13 +1,9 @@
 -- `judging::first_unmet` finds the lowest pair of the grid that is not met. The invariant: below `place` there is none.
 -- Assumes nothing.
-use Prim.Native.Nat.{ℕ, ◌-◌, ◌≤◌, ◌<◌}
-use lib.ListN.{length}
+use Prim.Native.Nat.{ℕ, ◌<◌}
 use Rattle.judging.specs.Judging.{Failing}
 use Rattle.judging.proofs.first_unmet.Given as goal
 
 abbrev pub invariant-loop-place : goal.invariant-loop-place
 invariant-loop-place l =
-    ((q : ℕ) → q < l.place → Failing l.script l.names l.shapes l.fitting l.grid q → ⊥) × (l.place ≤ length l.grid)
-
-abbrev pub decreases-loop-place : goal.decreases-loop-place
-decreases-loop-place l = length l.grid - l.place
+    (q : ℕ) → q < l.place → Failing l.script l.names l.shapes l.fitting l.grid q → ⊥

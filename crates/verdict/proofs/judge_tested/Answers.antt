@@ -11,8 +11,8 @@ use Rattle.pairs.proofs.Links.{links-ready}
 use Rattle.verdict.proofs.Verdicts.{unmet-tested, unheld-tested, passes-tested}
 use Rattle.verdict.proofs.judge_tested.Goals as goal
 
-pub first_unmet-p-requires : goal.first_unmet-p-requires
-first_unmet-p-requires c =
+pub first_unmet-unmet-requires : goal.first_unmet-unmet-requires
+first_unmet-unmet-requires c =
     let asked = c.requires in
     let k = asked.some.tested.known in
     record {
@@ -29,7 +29,8 @@ overflow_cast-card c =
     let asked = c.requires in
     omega (
       arith,
-      div-le_self c.first_unmet-p.result c.args.e.shapes,
+      c.in-Some.ensures.0,
+      div-le_self c.in-Some.place c.args.e.shapes,
       asked.size,
       few-pairs asked.some.tested.known,
     )
@@ -42,17 +43,16 @@ overflow_cast-shape c =
     let accepted = read c.requires.some.tested.known in
     omega (
       arith,
-      shape-in c.args.e.shapes accepted.shapes.shapes-low c.first_unmet-p.result,
+      shape-in c.args.e.shapes accepted.shapes.shapes-low c.in-Some.place,
       accepted.shapes.shapes-high,
     )
 
-pub returns-then-p-grid : goal.returns-then-p-grid
-returns-then-p-grid c sheet t =
-    unmet-tested t c.args.bookings.now c.args.desk c.args.grid.now c.requires.marks
-    c.requires.size c.first_unmet-p.ensures c.if-p-grid.true
+pub returns-in-Some : goal.returns-in-Some
+returns-in-Some c sheet t =
+    unmet-tested t c.args.bookings.now c.args.desk c.args.grid.now c.requires.marks c.requires.size c.in-Some.ensures
 
-pub first_unheld-i-requires : goal.first_unheld-i-requires
-first_unheld-i-requires c =
+pub first_unheld-requires : goal.first_unheld-requires
+first_unheld-requires c =
     let asked = c.requires in
     let e = c.args.e in
     record {
@@ -66,21 +66,21 @@ first_unheld-i-requires c =
 pub card_index-requires : goal.card_index-requires
 card_index-requires c =
     let e = c.args.e in
-    omega (arith, (bookings-sized e.cards e.shapes c.args.bookings.now _ c.requires.list).few)
+    omega (
+      arith,
+      c.in-Some-first_unheld.ensures.0,
+      (bookings-sized e.cards e.shapes c.args.bookings.now _ c.requires.list).few,
+    )
 
-pub returns-then-i-count : goal.returns-then-i-count
-returns-then-i-count c sheet t =
-    let counted = bookings-count c.args.e.cards c.args.e.shapes c.args.bookings.now _
-    c.requires.list in
+pub returns-in-Some-first_unheld : goal.returns-in-Some-first_unheld
+returns-in-Some-first_unheld c sheet t =
+    let counted = bookings-count c.args.e.cards c.args.e.shapes c.args.bookings.now _ c.requires.list in
     rw c.card_index.ensures
-    (unheld-tested t c.args.bookings.now c.args.desk c.args.grid.now c.requires.marks
-    c.requires.size c.first_unmet-p.ensures c.if-p-grid.false
-    counted c.first_unheld-i.ensures c.if-i-count.true)
+    (unheld-tested t c.args.bookings.now c.args.desk c.args.grid.now c.requires.marks c.requires.size
+    c.in_default.ensures counted c.in-Some-first_unheld.ensures)
 
-pub returns : goal.returns
-returns c sheet t =
-    let counted = bookings-count c.args.e.cards c.args.e.shapes c.args.bookings.now _
-    c.requires.list in
-    passes-tested t c.args.bookings.now c.args.desk c.args.grid.now c.requires.marks
-    c.requires.size c.first_unmet-p.ensures c.if-p-grid.false
-    counted c.first_unheld-i.ensures c.if-i-count.false
+pub returns-in-None : goal.returns-in-None
+returns-in-None c sheet t =
+    let counted = bookings-count c.args.e.cards c.args.e.shapes c.args.bookings.now _ c.requires.list in
+    passes-tested t c.args.bookings.now c.args.desk c.args.grid.now c.requires.marks c.requires.size
+    c.in_default.ensures counted c.in-None.ensures
