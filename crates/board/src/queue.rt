@@ -6,6 +6,7 @@ ghost use Rattle.board.specs.Listing.{Listed};
 
 use words::{MAX_GRID, wide};
 
+#[derive(Drop)]
 pub struct Queue {
     pub places: [u16; MAX_GRID],
     pub len: usize,

@@ -4,11 +4,11 @@
 -- half_entry    the entry at a place of a half
 -- entry_key     by which a half's places are chained: a kind and the shape named for it; name_keys: how many such keys
 -- Table        a table of names with a row for each shape
--- NamesAsked   what chaining the places of a half asks; TableReady: what indexing both halves asks
+-- NamesAsked   what chaining the places of a half asks
 -- IndexOf      the chains of a half's places; WayIndex: of the half of a way
 -- IndexedBy    the indexes of a table
 -- Assumes nothing.
-use Rattle.std.specs.Prelude.{ℕ, ◌+◌, ◌-◌, ◌*◌, ◌/◌, ◌%◌, ◌≤◌, ◌<◌, ◌≡◌, List, Bool, false, cond, length, get_or, eqb}
+use Rattle.std.specs.Prelude.{ℕ, ◌+◌, ◌-◌, ◌*◌, ◌/◌, ◌%◌, ◌≤◌, ◌<◌, ◌≡◌, List, cond, length, get_or, eqb}
 use Rattle.std.specs.Prelude.{MatchOption}
 use Rattle.words.specs.Limits.{max_kinds, max_labels, max_shapes}
 use Rattle.words.specs.Chain.{Chained}
@@ -47,11 +47,6 @@ pub record IndexOf (names : List ℕ) (shapes : ℕ) (index : NameIndex) : Type 
   pub keys : length index.first ≡ name_keys
   pub places : shapes * max_kinds ≤ length index.next
   pub chained : Chained (entry_key names index.start) index.first index.next (shapes * max_kinds)
-
--- What indexing a table asks: where it is said to name no incoming kinds, it names none.
-pub record TableReady (names : List ℕ) (shapes : ℕ) (incoming : Bool) : Type 0 where
-  pub table : Table names shapes
-  pub ways : incoming ≡ false → OnlyOutgoing names shapes max_kinds
 
 -- The index is that of the half of a way.
 pub record WayIndex (names : List ℕ) (shapes : ℕ) (way : Way) (index : NameIndex) : Type 0 where

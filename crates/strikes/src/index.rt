@@ -2,7 +2,7 @@
 // entries of one way; its place p is that of the shape p / MAX_KINDS and the kind p % MAX_KINDS.
 ghost use Rattle.std.specs.Prelude.{◌≡◌, ◌+◌, ◌*◌, ◌≤◌};
 ghost use Rattle.words.specs.Limits.{max_kinds, max_labels, max_shapes};
-ghost use Rattle.strikes.specs.Indexes.{IndexOf, IndexedBy, NamesAsked, TableReady};
+ghost use Rattle.strikes.specs.Indexes.{IndexOf, NamesAsked};
 
 use words::{Kind, MAX_KINDS, MAX_LABELS, MAX_SHAPES, Shape, byte};
 
@@ -11,6 +11,7 @@ const HALF_TABLE: usize = MAX_SHAPES * MAX_KINDS;
 
 // The places that name the same shape for the same kind are a chain: of each kind and shape the last place, and of each
 // place the one before, both plus one, or 0. `start` is where the labels of the half start.
+#[derive(Drop)]
 pub struct NameIndex {
     pub start: usize,
     pub first: [u16; HALF_TABLE],
@@ -18,6 +19,7 @@ pub struct NameIndex {
 }
 
 // The index of the outgoing names, and that of the incoming ones if some shape names one.
+#[derive(Drop)]
 pub struct NameIndexes {
     pub outgoing: NameIndex,
     pub incoming: Option<NameIndex>,
@@ -40,7 +42,7 @@ pub fn name_key(kind: Kind, shape: Shape) -> usize
 
 // Chains the places by kind and shape named. `start` is where the labels of the way start; a place that names no shape
 // is passed over.
-fn index_names(names: &[u8], start: usize, shapes: usize) -> NameIndex
+pub fn index_names(names: &[u8], start: usize, shapes: usize) -> NameIndex
     requires { NamesAsked names.now start shapes }
     ensures { IndexOf names.now shapes result × (result.start ≡ start) }
 {
@@ -60,18 +62,4 @@ fn index_names(names: &[u8], start: usize, shapes: usize) -> NameIndex
         }
     }
     index
-}
-
-// Indexes the outgoing names, and the incoming ones if some shape names one.
-pub fn index_table(names: &[u8], shapes: usize, incoming: bool) -> NameIndexes
-    requires { TableReady names.now shapes incoming }
-    ensures { IndexedBy names.now shapes result }
-{
-    let outgoing = index_names(names, 0, shapes);
-    let incoming = if incoming {
-        Some(index_names(names, MAX_KINDS, shapes))
-    } else {
-        None
-    };
-    NameIndexes { outgoing, incoming }
 }
