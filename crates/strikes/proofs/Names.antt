@@ -1,5 +1,5 @@
 -- The chains of the places of one half of the table, by kind and shape named.
---   ready-table            the table of a script that is ready; names-asked: what indexing one half of it asks
+--   ready-table            the table of a script that is ready
 --   half_place             the entry that is read at a place of the half
 --   half-bound             an entry of a half is a shape plus one, or 0
 --   key-none, key_of       the key of a place that names no shape, and of one that does
@@ -13,7 +13,7 @@ use mathlib.Core.Logic.{⊎_elim}
 use mathlib.Core.List.{List}
 use Prim.Native.Nat.{ℕ, suc, ◌+◌, ◌-◌, ◌*◌, ◌/◌, ◌%◌, ◌≤◌, ◌<◌}
 use native.Mathlib.Omega.{arith}
-use lib.ListN.{length, get_or, replicate, length-replicate, get_or-replicate}
+use lib.ListN.{get_or}
 use borrow.Author.Tests.{eq-eqb, ne_eqb}
 use Rattle.board.specs.Work.{Work, Swept}
 use Rattle.words.proofs.Bools.{eq-or-ne}
@@ -22,30 +22,13 @@ use Rattle.words.specs.Limits.{max_kinds, max_labels, max_shapes}
 use Rattle.template.specs.Machine.{entry_at}
 use Rattle.typing.specs.Needs.{Ready}
 use Rattle.typing.proofs.Boards.{entries-bound}
-use Rattle.strikes.specs.Indexes.{half_entry, entry_key, name_keys, Table, NamesAsked}
+use Rattle.strikes.specs.Indexes.{half_entry, entry_key, name_keys, Table}
 use Rattle.strikes.specs.Strikes.{NamedGood}
 use Rattle.words.proofs.Places.{place_in, card-in, card-of, shape-in, shape_of}
 use Rattle.walks.proofs.Walks.{Later}
 
 pub ready-table : {script names : List ℕ} {shapes : ℕ} → Ready script names shapes → Table names shapes
 ready-table ready = record { few-shapes = ready.few-shapes; rows = ready.table; entries = entries-bound ready }
-
-pub names-asked : {script names : List ℕ} {shapes start : ℕ} → Ready script names shapes → start ≤ max_kinds
-    → NamesAsked names start shapes (replicate name_keys 0) (replicate name_keys 0)
-names-asked ready half =
-    let zero-at : (i : ℕ) → i < length {A = ℕ} (replicate name_keys 0) → get_or {A = ℕ} (replicate name_keys 0) i 0
-    ≡ 0 =
-    λ i l. get_or-replicate {A = ℕ} name_keys i 0 0 (omega (arith, length-replicate {A = ℕ} name_keys 0)) in
-    record {
-      table = ready-table ready;
-      half = half;
-      keys = length-replicate {A = ℕ} name_keys 0;
-      blank = record {
-        zeros = zero-at;
-        room = omega (arith, length-replicate {A = ℕ} name_keys 0, ready.few-shapes);
-      };
-      zeros = zero-at;
-    }
 
 module _ (names : List ℕ) (start p : ℕ) where
   -- the entry at a place of the half is read at its shape's row and its kind's label

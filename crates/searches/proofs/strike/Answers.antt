@@ -13,7 +13,7 @@ strike_all-tally-requires c =
     record {
       links = links-ready t.known c.requires.some.links;
       arriving = links-arriving t.known c.requires.arriving;
-      lent = record { full = full-words t; room = omega (arith, few t) };
+      full = full-words t;
     }
 
 pub count_bare-bare-requires : goal.count_bare-bare-requires
