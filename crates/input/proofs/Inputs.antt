@@ -1,7 +1,7 @@
 -- Laws of the printer's input: what reading it gives under the tests that lead there.
 --   words-next                 a word more
---   script-at, bookings-at, end-at, words-at, same-input   the sections, by the counts that stand there
---   front-too-long, front-no-template, front-no-script, front-no-bookings, front-short   the faults of its front
+--   found-end, found-words, script-at, bookings-at, same-input   the sections that are found
+--   front-too-long, front-short   the faults of its front
 --   front-sections             else the three sections there
 --   reads-faulty, reads-going-on   the faults of all of it
 --   reads-front, reads-sections    else these
@@ -9,9 +9,10 @@
 -- Assumes nothing.
 use mathlib.Core.Path.{◌≡◌, refl, ap, ◌∙◌}
 use mathlib.Core.List.{List, [], ◌∷◌, ◌++◌}
-use mathlib.Core.Bool.{Bool, false}
+use mathlib.Core.Bool.{Bool, true, false}
 use Prim.Native.Nat.{ℕ, ◌+◌, ◌*◌, ◌≤◌, ◌<◌}
 use native.Mathlib.Numerals.{add-one}
+use native.Mathlib.Omega.{arith}
 use lib.ListN.{length}
 use lib.Dec.{ltb}
 use borrow.Author.Tests.{lt-ltb, le-ltb}
@@ -20,32 +21,33 @@ use Rattle.words.specs.Reading.{Reading, accepted, turned_down, refuse, then}
 use Rattle.words.proofs.Readings.{refused, Numbered, refuse-numbered, then-numbered}
 use Rattle.input.specs.Input.{word_at, words_from, section_end, section_words, script_start, bookings_start, input_end}
 use Rattle.input.specs.Input.{Input, input_of, read_front, read_input}
+use Rattle.input.specs.Machine.{words_in, SectionFound}
+use Rattle.input.specs.declared.Section.{Section}
 
 pub words-next : (bytes : List ℕ) (at n : ℕ)
     → words_from bytes at (n + 1) ≡ words_from bytes at n ++ (word_at bytes (at + 2 * n) ∷ [])
 unfolding words_from
 words-next bytes at n = rw (add-one n)
 
--- where the sections are, by the counts that stand there
-module _ (bytes : List ℕ) where
-  pub script-at : {count : ℕ} → count ≡ word_at bytes 0 → 2 + 2 * count ≡ script_start bytes
-  unfolding script_start section_end
-  script-at e = rw e
+-- a section that is found after the count at a byte: where it ends, and its words
+module _ {bytes : List ℕ} {at start : ℕ} (s : Section) (f : SectionFound bytes at s) (e : at ≡ start) where
+  pub found-end : s.at + 2 * s.count ≡ section_end bytes start
+  unfolding section_end
+  found-end = rw (f.starts, f.counted, e) refl
 
-  pub bookings-at : {at count : ℕ} → at ≡ script_start bytes → count ≡ word_at bytes at
-      → at + 2 + 2 * count ≡ bookings_start bytes
-  unfolding bookings_start section_end
-  bookings-at e n = rw (n, e)
-
-  pub end-at : {at count : ℕ} → at ≡ bookings_start bytes → count ≡ word_at bytes at
-      → at + 2 + 2 * count ≡ input_end bytes
-  unfolding input_end section_end
-  end-at e n = rw (n, e)
-
-  pub words-at : {start at count : ℕ} → at ≡ start → count ≡ word_at bytes at
-      → section_words bytes start ≡ words_from bytes (at + 2) count
+  pub found-words : words_in bytes s ≡ section_words bytes start
   unfolding section_words
-  words-at e n = rw (n, e)
+  found-words = rw (f.starts, f.counted, e) refl
+
+-- where the section after it starts
+module _ {bytes : List ℕ} {at next : ℕ} {s : Section} (f : SectionFound bytes at s) (n : next ≡ s.at + 2 * s.count) where
+  pub script-at : at ≡ 0 → next ≡ script_start bytes
+  unfolding script_start
+  script-at e = n ∙ found-end s f e
+
+  pub bookings-at : at ≡ script_start bytes → next ≡ bookings_start bytes
+  unfolding bookings_start
+  bookings-at e = n ∙ found-end s f e
 
 pub same-input : {a b c x y z : List ℕ} → a ≡ x → b ≡ y → c ≡ z
     → input_of a b c ≡ input_of x y z
@@ -55,54 +57,36 @@ same-input e f g = rw (e, f, g) refl
 passes : (test : Bool) {rest reading : Reading Input} → test ≡ false → rest ≡ reading → refuse 60 0 test rest ≡ reading
 passes test {rest} e f = ap (λ (b : Bool). refuse 60 0 b rest) e ∙ f
 
+-- a test before a fault
+still_faulty : (test : Bool) {rest : Reading Input} → rest ≡ turned_down 60 0 → refuse 60 0 test rest ≡ turned_down 60 0
+still_faulty true e = refl
+still_faulty false e = e
+
 -- ---- the front of an input
 module _ (most : ℕ) (bytes : List ℕ) where
   pub front-too-long : most < length bytes → read_front most bytes ≡ turned_down 60 0
   unfolding read_front
   front-too-long l = refused 60 0 _ _ (lt-ltb most (length bytes) l)
 
-  module _ (fits : length bytes ≤ most) where
-    pub front-no-template : length bytes < 2 → read_front most bytes ≡ turned_down 60 0
-    unfolding read_front
-    front-no-template l = passes _ (le-ltb most (length bytes) fits) (refused 60 0 _ _ (lt-ltb (length bytes) 2 l))
+  pub front-short : length bytes < input_end bytes → read_front most bytes ≡ turned_down 60 0
+  unfolding read_front
+  front-short l =
+      still_faulty (ltb most (length bytes))
+      (still_faulty (ltb (length bytes) 2)
+      (still_faulty (ltb (length bytes) (script_start bytes + 2))
+      (still_faulty (ltb (length bytes) (bookings_start bytes + 2))
+      (refused 60 0 _ _ (lt-ltb (length bytes) (input_end bytes) l)))))
 
-    module _ (template : 2 ≤ length bytes) where
-      pub front-no-script : length bytes < script_start bytes + 2 → read_front most bytes ≡ turned_down 60 0
-      unfolding read_front
-      front-no-script l =
-          passes _ (le-ltb most (length bytes) fits)
-          (passes _ (le-ltb (length bytes) 2 template)
-          (refused 60 0 _ _ (lt-ltb (length bytes) (script_start bytes + 2) l)))
-
-      module _ (script : script_start bytes + 2 ≤ length bytes) where
-        pub front-no-bookings : length bytes < bookings_start bytes + 2 → read_front most bytes ≡ turned_down 60 0
-        unfolding read_front
-        front-no-bookings l =
-            passes _ (le-ltb most (length bytes) fits)
-            (passes _ (le-ltb (length bytes) 2 template)
-            (passes _ (le-ltb (length bytes) (script_start bytes + 2) script)
-            (refused 60 0 _ _ (lt-ltb (length bytes) (bookings_start bytes + 2) l))))
-
-        module _ (bookings : bookings_start bytes + 2 ≤ length bytes) where
-          pub front-short : length bytes < input_end bytes → read_front most bytes ≡ turned_down 60 0
-          unfolding read_front
-          front-short l =
-              passes _ (le-ltb most (length bytes) fits)
-              (passes _ (le-ltb (length bytes) 2 template)
-              (passes _ (le-ltb (length bytes) (script_start bytes + 2) script)
-              (passes _ (le-ltb (length bytes) (bookings_start bytes + 2) bookings)
-              (refused 60 0 _ _ (lt-ltb (length bytes) (input_end bytes) l)))))
-
-          pub front-sections : input_end bytes ≤ length bytes → read_front most bytes
-              ≡ accepted (input_of (section_words bytes 0) (section_words bytes (script_start bytes))
-              (section_words bytes (bookings_start bytes)))
-          unfolding read_front
-          front-sections l =
-              passes _ (le-ltb most (length bytes) fits)
-              (passes _ (le-ltb (length bytes) 2 template)
-              (passes _ (le-ltb (length bytes) (script_start bytes + 2) script)
-              (passes _ (le-ltb (length bytes) (bookings_start bytes + 2) bookings)
-              (passes _ (le-ltb (length bytes) (input_end bytes) l) refl))))
+  pub front-sections : length bytes ≤ most → input_end bytes ≤ length bytes → read_front most bytes
+      ≡ accepted (input_of (section_words bytes 0) (section_words bytes (script_start bytes))
+      (section_words bytes (bookings_start bytes)))
+  unfolding read_front script_start bookings_start input_end section_end
+  front-sections fits l =
+      passes _ (le-ltb most (length bytes) fits)
+      (passes _ (le-ltb (length bytes) 2 (omega arith))
+      (passes _ (le-ltb (length bytes) (script_start bytes + 2) (omega arith))
+      (passes _ (le-ltb (length bytes) (bookings_start bytes + 2) (omega arith))
+      (passes _ (le-ltb (length bytes) (input_end bytes) l) refl))))
 
 -- ---- the printer's input
 -- What follows its front.
@@ -127,13 +111,11 @@ module _ (bytes : List ℕ) where
         ap (λ (r : Reading Input). then r (alone bytes)) front
         ∙ passes _ (le-ltb (input_end bytes) (length bytes) l) refl
 
-  pub reads-sections : length bytes ≤ max_input → 2 ≤ length bytes → script_start bytes + 2 ≤ length bytes
-      → bookings_start bytes + 2 ≤ length bytes → input_end bytes ≤ length bytes → length bytes ≤ input_end bytes
-      → read_input bytes
+  pub reads-sections : length bytes ≤ max_input → length bytes ≡ input_end bytes → read_input bytes
       ≡ accepted (input_of (section_words bytes 0) (section_words bytes (script_start bytes))
       (section_words bytes (bookings_start bytes)))
-  reads-sections fits template script bookings complete l =
-      reads-front (front-sections max_input bytes fits template script bookings complete) l
+  reads-sections fits whole =
+      reads-front (front-sections max_input bytes fits (omega arith)) (omega arith)
 
 -- ---- the numbers
 -- The number that an input is refused with.

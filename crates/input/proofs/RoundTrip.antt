@@ -1,7 +1,7 @@
 -- The bytes that are read as three lists of words are just those written for them.
 --   words_size, word-at      the words written are as many, and stand where they were written
 --   words-from               a row of words written is that row
---   words-split, words-section   a row of words is a row and then another; a section is its count and its words
+--   words-section            a section is its count and its words
 --   rewritten                bytes are those written for their words
 --   input-read               what is written is read
 --   written-bytes            words of 16 bits are written as bytes
@@ -26,7 +26,7 @@ use Rattle.input.specs.Input.{word_at, words_from, section_end, section_words, s
 use Rattle.input.specs.Input.{Input, input_of, read_front, read_input}
 use Rattle.input.specs.Writer.{section, input_words, write_input, InputFormed, Bytes}
 use Rattle.input.proofs.Inputs.{reads-sections, same-input}
-use Rattle.input.proofs.Words.{words-length}
+use Rattle.input.proofs.Words.{words-length, words-split}
 
 pub words_size : (ws : List ℕ) → length (write_words ws) ≡ 2 * length ws
 words_size [] = refl
@@ -132,27 +132,10 @@ module _ (i : Input) where
   pub input-read : 2 * length (input_words i) ≤ max_input → read_input (write_input i) ≡ accepted i
   input-read short =
       let all = words_size (input_words i) in
-      let first = length-append (section i.template) (section i.script) in
-      let last = length-append two (section i.bookings) in
-      reads-sections bytes (omega (arith, all)) (omega (arith, sizes, input-end, last, first))
-      (omega (arith, sizes, input-end, last, first, script-start))
-      (omega (arith, sizes, input-end, last, first, bookings-start))
-      (omega (arith, sizes)) (omega (arith, sizes))
+      reads-sections bytes (omega (arith, all)) sizes
       ∙ ap accepted (same-input template-read script-read bookings-read)
 
 -- ---- and nothing else is
-pub words-split : (bytes : List ℕ) (at m n : ℕ)
-    → words_from bytes at (m + n) ≡ words_from bytes at m ++ words_from bytes (at + 2 * m) n
-unfolding words_from
-words-split bytes at m zero =
-    let e : m + 0 ≡ m = omega arith in
-    rw e (sym (append-nil (words_from bytes at m)))
-words-split bytes at m (suc n) =
-    let e : m + suc n ≡ suc (m + n) = omega arith in
-    let f : at + 2 * m + 2 * n ≡ at + 2 * (m + n) = omega arith in
-    rw (e, f) (ap (λ (x : List ℕ). x ++ (word_at bytes (at + 2 * (m + n)) ∷ [])) (words-split bytes at m n)
-    ∙ append_assoc (words_from bytes at m) (words_from bytes (at + 2 * m) n) (word_at bytes (at + 2 * (m + n)) ∷ []))
-
 -- A section of bytes, as words: its count and its words.
 words-section : (bytes : List ℕ) (at : ℕ)
     → words_from bytes at (1 + word_at bytes at) ≡ section (section_words bytes at)

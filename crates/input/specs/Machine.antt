@@ -1,50 +1,43 @@
 -- What finding and decoding the sections of the input does; no part of a promise.
--- Decodes, Decoded       what decoding words into a buffer asks, and what it does
--- words_in, sections_read  the words of a section that an answer names, and the reading that an answer stands for
+-- words_in, sections_read  the words of a section, and the reading that an answer stands for
 -- part_in, Parts   the words of a section as a part of all words; each section is such a part
+-- SectionFound     a section that stands after its count
 -- Within      a section is in the input
 -- FrontLaid, FrontInside     each section of an answer is in an input of at most so many bytes, the last up to a place
 -- Laid, SectionsInside     the same of the printer's input
 -- Assumes nothing.
-use Rattle.std.specs.Prelude.{ℕ, ◌+◌, ◌*◌, ◌/◌, ◌≤◌, ◌≡◌, List, length, take, drop}
+use Rattle.std.specs.Prelude.{ℕ, ◌+◌, ◌*◌, ◌/◌, ◌≤◌, ◌≡◌, List, length, take, drop, Option, IfSome, Some, None}
 use Rattle.words.specs.Limits.{max_input}
 use Rattle.words.specs.Reading.{Reading, accepted, turned_down}
 use Rattle.input.specs.declared.Section.{Section}
 use Rattle.input.specs.declared.Sections.{Sections}
-use Rattle.input.specs.declared.Sections.TheVariants.{Found, Faulty}
-use Rattle.input.specs.Input.{words_from, input_end, Input, input_of}
+use Rattle.input.specs.Input.{word_at, words_from, input_end, Input, input_of}
 
--- So many words from a byte on are in the bytes, and the buffer has room for them.
-pub record Decodes (bytes : List ℕ) (at count : ℕ) (words : List ℕ) : Type 0 where
-  pub inside : at + 2 * count ≤ length bytes
-  pub room : count ≤ length words
-
--- The first `count` words of a buffer are those that stand in the bytes from a place on.
-pub record Decoded (bytes : List ℕ) (at count : ℕ) (words : List ℕ) : Type 0 where
-  -- the buffer has that many
-  pub size : count ≡ length (take count words)
-  -- and they are those words
-  pub holds : take count words ≡ words_from bytes at count
-
--- The words of a section that the answer names by its first word's byte and its count.
+-- The words of a section.
 abbrev pub words_in : List ℕ → Section → List ℕ
 words_in bytes s = words_from bytes s.at s.count
 
 -- The reading that an answer stands for.
-abbrev pub sections_read : List ℕ → Sections → Reading Input
-sections_read bytes (Found template script bookings) =
-    accepted (input_of (words_in bytes template) (words_in bytes script) (words_in bytes bookings))
-sections_read bytes Faulty = turned_down 60 0
+abbrev pub sections_read : List ℕ → Option Sections → Reading Input
+sections_read bytes (Some s) =
+    accepted (input_of (words_in bytes s.template) (words_in bytes s.script) (words_in bytes s.bookings))
+sections_read bytes None = turned_down 60 0
 
 -- The words of a section as a part of the words of all bytes.
 abbrev pub part_in : List ℕ → Section → List ℕ
 part_in words s = take s.count (drop (s.at / 2) words)
 
 -- Each section is a part of the words.
-pub record Parts (words : List ℕ) (first second third : Section) : Type 0 where
-  pub template : first.at / 2 + first.count ≤ length words
-  pub script : second.at / 2 + second.count ≤ length words
-  pub bookings : third.at / 2 + third.count ≤ length words
+pub record Parts (words : List ℕ) (s : Sections) : Type 0 where
+  pub template : s.template.at / 2 + s.template.count ≤ length words
+  pub script : s.script.at / 2 + s.script.count ≤ length words
+  pub bookings : s.bookings.at / 2 + s.bookings.count ≤ length words
+
+-- The words of a section stand after its count, which stands at a byte, and are all there.
+pub record SectionFound (bytes : List ℕ) (at : ℕ) (s : Section) : Type 0 where
+  pub starts : s.at ≡ at + 2
+  pub counted : s.count ≡ word_at bytes at
+  pub ends : s.at + 2 * s.count ≤ length bytes
 
 -- A section is in the bytes and starts where a word of them does.
 pub record Within (bytes : List ℕ) (s : Section) : Type 0 where
@@ -52,26 +45,24 @@ pub record Within (bytes : List ℕ) (s : Section) : Type 0 where
   pub even : s.at ≡ 2 * (s.at / 2)
 
 -- The bytes are no more than so many, each section is in them, and past the last one the bookings end.
-pub record FrontLaid (most : ℕ) (bytes : List ℕ) (first second third : Section) : Type 0 where
+pub record FrontLaid (most : ℕ) (bytes : List ℕ) (s : Sections) : Type 0 where
   pub few : length bytes ≤ most
-  pub template : Within bytes first
-  pub script : Within bytes second
-  pub bookings : Within bytes third
-  pub end : third.at + 2 * third.count ≡ input_end bytes
+  pub template : Within bytes s.template
+  pub script : Within bytes s.script
+  pub bookings : Within bytes s.bookings
+  pub end : s.bookings.at + 2 * s.bookings.count ≡ input_end bytes
 
--- Each section of an answer is.
-abbrev pub FrontInside : ℕ → List ℕ → Sections → Type 0
-FrontInside most bytes (Found first second third) = FrontLaid most bytes first second third
-FrontInside most bytes Faulty = Unit
+-- The sections of an answer are.
+abbrev pub FrontInside : ℕ → List ℕ → Option Sections → Type 0
+FrontInside most bytes found = IfSome found (FrontLaid most bytes)
 
 -- The bytes are no more than the printer's input can be, and each section is in them.
-pub record Laid (bytes : List ℕ) (first second third : Section) : Type 0 where
+pub record Laid (bytes : List ℕ) (s : Sections) : Type 0 where
   pub few : length bytes ≤ max_input
-  pub template : Within bytes first
-  pub script : Within bytes second
-  pub bookings : Within bytes third
+  pub template : Within bytes s.template
+  pub script : Within bytes s.script
+  pub bookings : Within bytes s.bookings
 
--- Each section of an answer is.
-abbrev pub SectionsInside : List ℕ → Sections → Type 0
-SectionsInside bytes (Found first second third) = Laid bytes first second third
-SectionsInside bytes Faulty = Unit
+-- The sections of an answer are.
+abbrev pub SectionsInside : List ℕ → Option Sections → Type 0
+SectionsInside bytes found = IfSome found (Laid bytes)

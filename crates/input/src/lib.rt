@@ -2,11 +2,10 @@
 // another program.
 #![tactic(auto)]
 
-ghost use Rattle.std.specs.Prelude.{◌≡◌, ◌+◌, ◌*◌, ◌≤◌, ◌<◌, length};
+ghost use Rattle.std.specs.Prelude.{◌≡◌, ◌+◌, ◌*◌, ◌/◌, ◌^◌, ◌≤◌, ◌<◌, length, Some, MatchOption};
 ghost use Rattle.words.specs.Bounded.{Bounded};
-ghost use Rattle.input.specs.Input.{word_at, read_front, read_input};
-ghost use Rattle.input.specs.Machine.{Decodes, Decoded, sections_read, FrontInside};
-ghost use Rattle.input.specs.Machine.{SectionsInside};
+ghost use Rattle.input.specs.Input.{word_at, words_from, section_end, read_front, read_input};
+ghost use Rattle.input.specs.Machine.{part_in, sections_read, SectionFound, FrontInside, SectionsInside};
 
 use words::{MAX_INPUT, wide};
 
@@ -17,37 +16,29 @@ pub struct Section {
     pub count: usize,
 }
 
-// Where the words of template, script and bookings are, or that the input is at fault.
+// The sections of an input.
 #[derive(Clone, Copy)]
-pub enum Sections {
-    Found(Section, Section, Section),
-    Faulty,
+pub struct Sections {
+    pub template: Section,
+    pub script: Section,
+    pub bookings: Section,
 }
 
-// A word out of its two bytes.
-fn word(low: u8, high: u8) -> u16
-    ensures { result ≡ low + 256 * high }
-{
-    (low as u16) + 256 * (high as u16)
-}
-
-// The word at a byte.
+// The word at a byte: its low byte comes first.
 pub fn word_at(bytes: &[u8], at: usize) -> u16
     requires { at + 2 ≤ length bytes.now }
     ensures { result ≡ word_at bytes.now at }
 {
-    word(bytes[at], bytes[at + 1])
+    u16::from_le_bytes([bytes[at], bytes[at + 1]])
 }
 
-// Puts `count` words from the byte `at` on into the front of `words`.
-pub fn decode(bytes: &[u8], at: usize, count: usize, words: &mut [u16])
-    requires { Decodes bytes.now at count words.old }
-    ensures { Decoded bytes.now at count words.new }
+// Fills a buffer with the words at the front of the bytes.
+pub fn decode(bytes: &[u8], words: &mut [u16])
+    requires { 2 * length words.old ≤ length bytes.now }
+    ensures { words.new ≡ words_from bytes.now 0 (length words.old) }
 {
-    let mut i = 0;
-    while i < count {
-        words[i] = word_at(bytes, at + 2 * i);
-        i += 1;
+    for (i, word) in words.iter_mut().enumerate() {
+        *word = word_at(bytes, 2 * i);
     }
 }
 
@@ -59,60 +50,69 @@ pub fn count_at(bytes: &[u8], at: usize) -> usize
     wide(word_at(bytes, at))
 }
 
+impl Section {
+    // The byte past its words.
+    pub fn end(&self) -> usize
+        requires { self.now.at + 2 * self.now.count < 2 ^ 64 }
+        ensures { result ≡ self.now.at + 2 * self.now.count }
+    {
+        self.at + 2 * self.count
+    }
+
+    // Its words, among those of all bytes.
+    pub fn part<'a>(&self, words: &'a [u16]) -> &'a [u16]
+        requires { self.now.at / 2 + self.now.count ≤ length words.now }
+        ensures { result.now ≡ part_in words.now self.now }
+    {
+        let start = self.at / 2;
+        &words[start..start + self.count]
+    }
+}
+
+// The section whose count stands at a byte, if the bytes have all of it.
+fn section_at(bytes: &[u8], at: usize) -> Option<Section>
+    requires { at ≤ length bytes.now }
+    ensures { MatchOption result (length bytes.now < section_end bytes.now at) (SectionFound bytes.now at) }
+{
+    if bytes.len() < at + 2 {
+        return None;
+    }
+    let section = Section {
+        at: at + 2,
+        count: count_at(bytes, at),
+    };
+    if bytes.len() < section.end() {
+        return None;
+    }
+    Some(section)
+}
+
 // Finds the three sections at the front of an input of at most so many bytes.
-pub fn find_front(bytes: &[u8], most: usize) -> Sections
+pub fn find_front(bytes: &[u8], most: usize) -> Option<Sections>
     ensures reads { read_front most bytes.now ≡ sections_read bytes.now result }
     ensures inside { FrontInside most bytes.now result }
 {
     if most < bytes.len() {
-        return Sections::Faulty;
+        return None;
     }
-    if bytes.len() < 2 {
-        return Sections::Faulty;
-    }
-    let template = count_at(bytes, 0);
-    let script_at = 2 + 2 * template;
-    if bytes.len() < script_at + 2 {
-        return Sections::Faulty;
-    }
-    let script = count_at(bytes, script_at);
-    let bookings_at = script_at + 2 + 2 * script;
-    if bytes.len() < bookings_at + 2 {
-        return Sections::Faulty;
-    }
-    let bookings = count_at(bytes, bookings_at);
-    let end = bookings_at + 2 + 2 * bookings;
-    if bytes.len() < end {
-        return Sections::Faulty;
-    }
-    let first = Section {
-        at: 2,
-        count: template,
-    };
-    let second = Section {
-        at: script_at + 2,
-        count: script,
-    };
-    let third = Section {
-        at: bookings_at + 2,
-        count: bookings,
-    };
-    Sections::Found(first, second, third)
+    let template = section_at(bytes, 0)?;
+    let script = section_at(bytes, template.end())?;
+    let bookings = section_at(bytes, script.end())?;
+    Some(Sections {
+        template,
+        script,
+        bookings,
+    })
 }
 
 // Finds the three sections of the printer's input.
-pub fn find_sections(bytes: &[u8]) -> Sections
+pub fn find_sections(bytes: &[u8]) -> Option<Sections>
     ensures reads { read_input bytes.now ≡ sections_read bytes.now result }
     ensures inside { SectionsInside bytes.now result }
 {
-    let front = find_front(bytes, MAX_INPUT);
-    match front {
-        Sections::Faulty => Sections::Faulty,
-        Sections::Found(first, second, third) => {
-            if third.at + 2 * third.count < bytes.len() {
-                return Sections::Faulty;
-            }
-            Sections::Found(first, second, third)
-        }
+    let sections = find_front(bytes, MAX_INPUT)?;
+    if sections.bookings.end() < bytes.len() {
+        return None;
     }
+    Some(sections)
 }

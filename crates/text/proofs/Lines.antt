@@ -3,24 +3,27 @@
 --   shapes_room, cards-room     where all have room, the next one has
 --   shown, hidden               a shape is shown where the grid has its place
 --   shapes-bound, card-bound, cards-bound   at most 107 bytes to a card's line
---   card-length, two-length, largest-length, smallest-length, not-met-length, refused-length   of a line's pieces
---   largest-bound, smallest-bound, not-met-bound, refused-bound   at most 71 bytes to any other line
---   verdict-refused, pair-length, pair-bound, accepted-bound   the lines of a verdict
+--   card-length                 of its pieces
+--   spaced-next, spaced-room    a number more, and its room
+--   line-length, line-bound     a line of a word and numbers: at most 21 bytes to a number
+--   largest-line, smallest-line, not-met-line, refused-line, accepted-line, pair-line   which lines are such
+--   verdict-refused, refused-bound   a refusal's line
 -- Assumes nothing.
-use mathlib.Core.Path.{◌≡◌, refl, sym, ap}
-use mathlib.Core.List.{List, [], ◌∷◌, ◌++◌}
+use mathlib.Core.Path.{◌≡◌, refl, sym, ap, ◌∙◌}
+use mathlib.Core.List.{List, [], ◌∷◌, ◌++◌, append_assoc, append-nil}
 use mathlib.Core.Bool.{Bool, true, false}
 use Prim.Native.Nat.{ℕ, zero, suc, ◌+◌, ◌*◌, ◌-◌, ◌≤◌, ◌<◌}
 use native.Mathlib.Nat.{le_refl, suc-mul, mul-le-mul_right}
 use native.Mathlib.Numerals.{add-one}
 use native.Mathlib.Omega.{arith}
-use lib.ListN.{length, get_or, length-append}
+use lib.ListN.{length, take, get_or, length-append}
 use Rattle.words.specs.Said.{values, refusal}
 use Rattle.board.specs.Grid.{on}
 use Rattle.board.proofs.Grids.{on-yes, on-no}
 use Rattle.text.specs.Text.{when_on, digits, space, newline, shape_text, shapes_text, card_line, card_lines}
 use Rattle.text.specs.Text.{two_numbers, largest_line, smallest_line, not_met_line, refused_line}
 use Rattle.text.specs.Verdict.{verdict_line}
+use Rattle.text.specs.Steps.{spaced, line_text, largest, smallest, smallest_no, refused, accepted}
 use Rattle.text.proofs.Digits.{digits-length, digits-bound}
 
 pub shapes-next : (grid : List ℕ) (base t : ℕ)
@@ -125,63 +128,90 @@ cards-bound grid shapes (suc n) hs hn =
       length-append (card_lines grid shapes n) (card_line grid shapes n),
     )
 
--- a number, a byte and what follows
-number-length : (n byte : ℕ) (rest : List ℕ) → length (digits n ++ (byte ∷ rest)) ≡ length (digits n) + 1 + length rest
-number-length n byte rest = omega (arith, length-append (digits n) (byte ∷ rest))
+-- ---- a line of a word and numbers
+pub spaced-next : (numbers : List ℕ) (i : ℕ) → i < length numbers
+    → spaced (take (i + 1) numbers) ≡ spaced (take i numbers) ++ (space ∷ digits (get_or numbers i 0))
+unfolding spaced
+spaced-next [] i h = absurd (omega arith)
+spaced-next (n ∷ ns) zero h = ap (λ (l : List ℕ). space ∷ l) (append-nil (digits n))
+spaced-next (n ∷ ns) (suc i) h =
+    let more : suc i + 1 ≡ suc (i + 1) = omega arith in
+    rw more (ap (λ (l : List ℕ). space ∷ (digits n ++ l)) (spaced-next ns i (omega arith))
+    ∙ ap (λ (l : List ℕ). space ∷ l)
+    (sym (append_assoc (digits n) (spaced (take i ns)) (space ∷ digits (get_or ns i 0)))))
 
-pub two-length : (a b : ℕ) → length (two_numbers a b) ≡ 2 + length (digits a) + length (digits b)
-unfolding two_numbers
-two-length a b = omega (arith, number-length a space (digits b ++ (newline ∷ [])), number-length b newline [])
+spaced-grows : (numbers : List ℕ) (i : ℕ) → length (spaced (take i numbers)) ≤ length (spaced numbers)
+unfolding spaced
+spaced-grows [] zero = omega arith
+spaced-grows [] (suc i) = omega arith
+spaced-grows (n ∷ ns) zero = omega arith
+spaced-grows (n ∷ ns) (suc i) =
+    omega (
+      arith,
+      spaced-grows ns i,
+      length-append (digits n) (spaced (take i ns)),
+      length-append (digits n) (spaced ns),
+    )
 
-pub largest-length : (rounds struck bare : ℕ)
-    → length (largest_line rounds struck bare) ≡ 9 + length (digits rounds) + length (two_numbers struck bare)
-unfolding largest_line
-largest-length rounds struck bare = omega (arith, number-length rounds space (two_numbers struck bare))
+pub spaced-room : (numbers : List ℕ) (i : ℕ) → i < length numbers
+    → length (spaced (take i numbers)) + 1 + length (digits (get_or numbers i 0)) ≤ length (spaced numbers)
+spaced-room numbers i h =
+    omega (
+      arith,
+      spaced-grows numbers (i + 1),
+      ap length (spaced-next numbers i h),
+      length-append (spaced (take i numbers)) (space ∷ digits (get_or numbers i 0)),
+    )
 
-pub smallest-length : (pairs : ℕ) → length (smallest_line pairs) ≡ 10 + length (digits pairs)
-unfolding smallest_line
-smallest-length pairs = omega (arith, number-length pairs newline [])
+pub line-length : (word numbers : List ℕ) → length (line_text word numbers) ≡ length word + length (spaced numbers) + 1
+unfolding line_text
+line-length word numbers =
+    omega (
+      arith,
+      length-append word (spaced numbers ++ (newline ∷ [])),
+      length-append (spaced numbers) (newline ∷ []),
+    )
 
-pub not-met-length : (card shape : ℕ) → length (not_met_line card shape) ≡ 12 + length (two_numbers card shape)
-unfolding not_met_line
-not-met-length card shape = omega arith
+spaced-bound : (numbers : List ℕ) → length (spaced numbers) ≤ 21 * length numbers
+unfolding spaced
+spaced-bound [] = omega arith
+spaced-bound (n ∷ ns) = omega (arith, spaced-bound ns, digits-length n, length-append (digits n) (spaced ns))
 
-pub refused-length : (number place : ℕ) → length (refused_line number place) ≡ 8 + length (two_numbers number place)
-unfolding refused_line
-refused-length number place = omega arith
+pub line-bound : (word numbers : List ℕ) → length (line_text word numbers) ≤ length word + 21 * length numbers + 1
+line-bound word numbers = omega (arith, line-length word numbers, spaced-bound numbers)
 
-two-bound : (a b : ℕ) → length (two_numbers a b) ≤ 42
-two-bound a b = omega (arith, two-length a b, digits-length a, digits-length b)
+-- ---- the lines of a sheet and of a verdict
+pub largest-line : (rounds struck bare : ℕ)
+    → line_text largest (rounds ∷ struck ∷ bare ∷ []) ≡ largest_line rounds struck bare
+unfolding line_text spaced largest_line two_numbers
+largest-line rounds struck bare = simp (append_assoc, append-nil)
 
-pub largest-bound : (rounds struck bare : ℕ) → length (largest_line rounds struck bare) ≤ 71
-largest-bound rounds struck bare =
-    omega (arith, largest-length rounds struck bare, digits-length rounds, two-bound struck bare)
+pub smallest-line : (pairs : ℕ) → line_text smallest (pairs ∷ []) ≡ smallest_line pairs
+unfolding line_text spaced smallest_line
+smallest-line pairs = simp append-nil
 
-pub smallest-bound : (pairs : ℕ) → length (smallest_line pairs) ≤ 30
-smallest-bound pairs = omega (arith, smallest-length pairs, digits-length pairs)
+pub not-met-line : (card shape : ℕ) → line_text smallest_no (card ∷ shape ∷ []) ≡ not_met_line card shape
+unfolding line_text spaced not_met_line two_numbers
+not-met-line card shape = simp (append_assoc, append-nil)
 
-pub not-met-bound : (card shape : ℕ) → length (not_met_line card shape) ≤ 54
-not-met-bound card shape = omega (arith, not-met-length card shape, two-bound card shape)
+pub refused-line : (number place : ℕ) → line_text refused (number ∷ place ∷ []) ≡ refused_line number place
+unfolding line_text spaced refused_line two_numbers
+refused-line number place = simp (append_assoc, append-nil)
 
-pub refused-bound : (number place : ℕ) → length (refused_line number place) ≤ 50
-refused-bound number place = omega (arith, refused-length number place, two-bound number place)
+pub accepted-line : line_text accepted [] ≡ verdict_line (values [])
+unfolding line_text spaced verdict_line
+accepted-line = refl
 
--- ---- of a verdict
+pub pair-line : (number card shape : ℕ)
+    → line_text refused (number ∷ card ∷ shape ∷ []) ≡ verdict_line (refusal number (card ∷ shape ∷ []))
+unfolding line_text spaced verdict_line
+pair-line number card shape = simp (append_assoc, append-nil)
+
 -- a refusal whose place is one number has the line of any refusal
 pub verdict-refused : (number place : ℕ) → refused_line number place ≡ verdict_line (refusal number (place ∷ []))
 unfolding refused_line two_numbers verdict_line
 verdict-refused number place = refl
 
-pub pair-length : (number card shape : ℕ) → length (verdict_line (refusal number (card ∷ shape ∷ [])))
-    ≡ 9 + length (digits number) + length (two_numbers card shape)
-unfolding verdict_line two_numbers
-pair-length number card shape =
-    omega (arith, length-append (digits number) (space ∷ (digits card ++ (space ∷ (digits shape ++ (newline ∷ []))))))
-
-pub pair-bound : (number card shape : ℕ) → length (verdict_line (refusal number (card ∷ shape ∷ []))) ≤ 71
-pair-bound number card shape =
-    omega (arith, pair-length number card shape, digits-length number, two-bound card shape)
-
-pub accepted-bound : length (verdict_line (values [])) ≤ 71
-unfolding verdict_line
-accepted-bound = omega arith
+pub refused-bound : (number place : ℕ) → length (refused_line number place) ≤ 50
+refused-bound number place =
+    omega (arith, ap length (refused-line number place), line-bound refused (number ∷ place ∷ []))

@@ -1,96 +1,64 @@
--- `input::find_front` tells what reading the front of an input gives: one law of `Inputs` for each return. Assumes
--- nothing.
-use Prim.Native.Nat.{ℕ, ◌+◌, ◌*◌}
-use mathlib.Core.Path.{◌≡◌, refl, ap, ◌∙◌}
-use mathlib.Core.List.{List}
+-- `input::find_front` tells what reading the front of an input gives: where a section is not found the input is short.
+-- Assumes nothing.
+use mathlib.Core.Path.{refl, sym, ap, ◌∙◌}
 use native.Mathlib.Omega.{arith}
 use Rattle.words.specs.Reading.{accepted}
-use Rattle.input.specs.Input.{script_start, bookings_start, input_end}
-use Rattle.input.proofs.Inputs.{script-at, bookings-at, end-at, words-at, same-input, front-too-long}
-use Rattle.input.proofs.Inputs.{front-no-template, front-no-script, front-no-bookings, front-short}
-use Rattle.input.proofs.Inputs.{front-sections}
+use Rattle.input.specs.Input.{section_end, script_start, bookings_start, input_end}
+use Rattle.input.proofs.Inputs.{found-end, found-words, script-at, bookings-at, same-input}
+use Rattle.input.proofs.Inputs.{front-too-long, front-short, front-sections}
 use Rattle.input.proofs.find_front.Goals as goal
-use Rattle.input.proofs.find_front.Goals.{After-count_at-bookings, After-count_at-script, After-count_at-template}
 
--- The bytes, and where the second and the third section and the end of the input are by the counts read so far.
-abbrev bytes_of : After-count_at-template → List ℕ
-bytes_of a = a.args.bytes.now
+pub returns-then-most-bytes-clause-reads : goal.returns-then-most-bytes-clause-reads
+returns-then-most-bytes-clause-reads c = front-too-long _ _ (omega arith)
 
-second : (a : After-count_at-template) → 2 + 2 * a.count_at-template.result ≡ script_start (bytes_of a)
-second a = script-at (bytes_of a) a.count_at-template.ensures.same
+pub returns-in_err-template-clause-reads : goal.returns-in_err-template-clause-reads
+unfolding section_end script_start bookings_start input_end
+returns-in_err-template-clause-reads c =
+    rw c.from_residual.ensures (front-short _ _ (omega (arith, c.in_err-template.ensures)))
 
-third : (a : After-count_at-script) →
-    2 + 2 * a.count_at-template.result + 2 + 2 * a.count_at-script.result ≡ bookings_start (bytes_of
-    (goal.at.After-count_at-script a).After-count_at-template)
-third a =
-    bookings-at (bytes_of (goal.at.After-count_at-script a).After-count_at-template) (second
-    (goal.at.After-count_at-script a).After-count_at-template) a.count_at-script.ensures.same
+pub returns-in_err-script-clause-reads : goal.returns-in_err-script-clause-reads
+unfolding section_end bookings_start input_end
+returns-in_err-script-clause-reads c =
+    let script = script-at c.in_ok-template.ensures c.end.ensures refl in
+    rw c.from_residual-in_err-script.ensures
+    (front-short _ _ (omega (arith, c.in_err-script.ensures, ap (section_end c.args.bytes.now) script)))
 
-end : (a : After-count_at-bookings) →
-    2 + 2 * a.count_at-template.result + 2 + 2 * a.count_at-script.result + 2 + 2 * a.count_at-bookings.result
-    ≡ input_end (bytes_of (goal.at.After-count_at-bookings a).After-count_at-template)
-end a =
-    end-at (bytes_of (goal.at.After-count_at-bookings a).After-count_at-template) (third
-    (goal.at.After-count_at-bookings a).After-count_at-script) a.count_at-bookings.ensures.same
+pub returns-in_err-bookings-clause-reads : goal.returns-in_err-bookings-clause-reads
+unfolding input_end
+returns-in_err-bookings-clause-reads c =
+    let script = script-at c.in_ok-template.ensures c.end.ensures refl in
+    let bookings = bookings-at c.in_ok-script.ensures c.end-2.ensures script in
+    rw c.from_residual-in_err-bookings.ensures
+    (front-short _ _ (omega (arith, c.in_err-bookings.ensures, ap (section_end c.args.bytes.now) bookings)))
 
-pub returns-then-most-bytes : goal.returns-then-most-bytes
-returns-then-most-bytes c = record { reads = front-too-long _ _ (omega arith); inside = tt }
+pub returns-clause-reads : goal.returns-clause-reads
+unfolding input_end
+returns-clause-reads c =
+    let template = c.in_ok-template in
+    let second = c.in_ok-script in
+    let third = c.in_ok-bookings in
+    let script = script-at template.ensures c.end.ensures refl in
+    let bookings = bookings-at second.ensures c.end-2.ensures script in
+    let end = found-end third.bookings third.ensures bookings in
+    front-sections _ _ (omega arith) (omega (arith, third.ensures.ends, end))
+    ∙ ap accepted (sym (same-input (found-words _ template.ensures refl) (found-words _ second.ensures script)
+    (found-words _ third.ensures bookings)))
 
-pub returns-then-bytes-lt2 : goal.returns-then-bytes-lt2
-returns-then-bytes-lt2 c = record { reads = front-no-template _ _ (omega arith) (omega arith); inside = tt }
-
-pub returns-then-bytes-script_at : goal.returns-then-bytes-script_at
-returns-then-bytes-script_at c =
-    record {
-      reads = front-no-script _ _ (omega arith) (omega arith) (omega (
-        arith,
-        second
-            (goal.at.returns-then-bytes-script_at c).After-count_at-template,
-      ));
-      inside = tt;
-    }
-
-pub returns-then-bytes-bookings_at : goal.returns-then-bytes-bookings_at
-returns-then-bytes-bookings_at c =
-    record {
-      reads = front-no-bookings _ _ (omega arith) (omega arith) (omega (
-        arith,
-        second
-            (goal.at.returns-then-bytes-bookings_at c).After-count_at-template,
-      )) (omega (
-        arith,
-        third
-            (goal.at.returns-then-bytes-bookings_at c).After-count_at-script,
-      ));
-      inside = tt;
-    }
-
-pub returns-then-bytes-end : goal.returns-then-bytes-end
-returns-then-bytes-end c =
-    let script = second (goal.at.returns-then-bytes-end c).After-count_at-template in
-    let bookings = third (goal.at.returns-then-bytes-end c).After-count_at-script in
-    let all = end (goal.at.returns-then-bytes-end c).After-count_at-bookings in record {
-      reads = front-short _ _
-          (omega arith) (omega arith) (omega arith) (omega arith) (omega arith);
-      inside = tt;
-    }
-
-pub returns : goal.returns
-returns c =
-    let script = second (goal.at.returns c).After-count_at-template in
-    let bookings = third (goal.at.returns c).After-count_at-script in
-    let all = end (goal.at.returns c).After-count_at-bookings in record {
-      reads =
-          front-sections _ _ (omega arith) (omega arith) (omega arith) (omega arith) (omega arith)
-          ∙ ap accepted (same-input (words-at _ refl c.count_at-template.ensures.same)
-          (words-at _ script c.count_at-script.ensures.same) (words-at _ bookings
-          c.count_at-bookings.ensures.same));
-      inside =
+pub returns-clause-inside : goal.returns-clause-inside
+unfolding input_end
+returns-clause-inside c =
+    let template = c.in_ok-template in
+    let second = c.in_ok-script in
+    let third = c.in_ok-bookings in
+    let script = script-at template.ensures c.end.ensures refl in
+    let bookings = bookings-at second.ensures c.end-2.ensures script in record {
+      few = omega arith;
+      template = record { ends = template.ensures.ends; even = omega (arith, template.ensures.starts) };
+      script = record { ends = second.ensures.ends; even = omega (arith, template.ensures.starts, second.ensures.starts) };
+      bookings =
           record {
-            few = omega arith;
-            template = record { ends = omega arith; even = omega arith };
-            script = record { ends = omega arith; even = omega arith };
-            bookings = record { ends = omega arith; even = omega arith };
-            end = omega arith;
+            ends = third.ensures.ends;
+            even = omega (arith, template.ensures.starts, second.ensures.starts, third.ensures.starts);
           };
+      end = found-end third.bookings third.ensures bookings;
     }

@@ -1,5 +1,0 @@
--- `text::put_number` calls itself on the tenth part of its number. Assumes nothing.
-use Rattle.text.proofs.+put_number.Given as goal
-
-abbrev pub decreases-put_number : goal.decreases-put_number
-decreases-put_number l = l.n

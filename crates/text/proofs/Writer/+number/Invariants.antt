@@ -1,0 +1,5 @@
+-- `text::Writer::number` calls itself on the tenth part of its number. Assumes nothing.
+use Rattle.text.proofs.Writer.+number.Given as goal
+
+abbrev pub decreases-number : goal.decreases-number
+decreases-number l = l.n
