@@ -22,7 +22,7 @@ use Rattle.words.specs.Said.{Said, values, refusal}
 use Rattle.words.specs.Limits.{max_labels, max_depth}
 use Rattle.words.specs.Sizes.{table_size}
 use Rattle.words.specs.Reading.{accepted}
-use Rattle.words.proofs.Bools.{never_both}
+use Rattle.words.proofs.Bools.{never_both, bool_case}
 use Rattle.words.proofs.Answered.{told-unique}
 use Rattle.bags.specs.Part.{Part}
 use Rattle.bags.specs.Named.{named}
@@ -33,9 +33,11 @@ use Rattle.template.specs.Template.{open_at, part_at, shape_place, Template, ope
 use Rattle.template.specs.Machine.{Tabled}
 use Rattle.template.proofs.Answers.{template-turned}
 use Rattle.template.proofs.Accepted.{template-accepted}
-use Rattle.counts.specs.declared.FitAnswer.{FitAnswer}
-use Rattle.counts.specs.declared.FitAnswer.TheVariants.{Yes, No, Refused}
-use Rattle.counts.specs.Answer.{fit_said}
+use Rattle.std.specs.Prelude.{Result, Ok}
+use Rattle.words.specs.declared.refusal.Refusal.{Refusal}
+use Rattle.words.proofs.Refused.{said-by-unique}
+use Rattle.words.proofs.Said.{one_value, values-refusal}
+use Rattle.counts.specs.Answer.{fit_value, fit_said}
 use Rattle.counts.specs.Fit.{Question, first_over, fit_question, Fitting, FitFound, FitSays}
 use Rattle.trees.specs.Trees.{tree_at}
 use Rattle.counts.specs.Machine.{Testable, Spread}
@@ -158,26 +160,23 @@ module _ (words : List ℕ) (shape : ℕ) (counts : List ℕ) where
               (said : Said) → FitFound (question words t shape counts) said → FitSays words shape counts said
           answered said a = rw (fit-asked (omega arith)) a
 
-          pub fit-yes : r ≡ true → FitSays words shape counts (fit_said Yes)
-          fit-yes h = answered (fit_said Yes) (inl (by-test.1 h, refl))
-
-          pub fit-no : r ≡ false → FitSays words shape counts (fit_said No)
-          fit-no h = answered (fit_said No) (inr (λ f. never_both (by-test.0 f) h, refl))
+          pub fit-tested : FitSays words shape counts (fit_said (Ok r))
+          fit-tested =
+              answered (fit_said (Ok r))
+              (bool_case r (λ h. inl (by-test.1 h, ap said h)) (λ h. inr (λ f. never_both (by-test.0 f) h, ap said h)))
+            where
+              said : Bool → Said
+              said b = values (fit_value b ∷ [])
 
 -- What an answer says tells the answer.
-fit-said-unique : (a b : FitAnswer) → fit_said a ≡ fit_said b → a ≡ b
-fit-said-unique Yes Yes e = refl
-fit-said-unique Yes No e = absurd (let z : ◌≡◌ {A = ℕ} 0 1 = cc in omega arith)
-fit-said-unique Yes (Refused n p) e = absurd (let z : ◌≡◌ {A = ℕ} 0 1 = cc in omega arith)
-fit-said-unique No Yes e = absurd (let z : ◌≡◌ {A = ℕ} 0 1 = cc in omega arith)
-fit-said-unique No No e = refl
-fit-said-unique No (Refused n p) e = absurd (let z : ◌≡◌ {A = ℕ} 0 1 = cc in omega arith)
-fit-said-unique (Refused n p) Yes e = absurd (let z : ◌≡◌ {A = ℕ} 0 1 = cc in omega arith)
-fit-said-unique (Refused n p) No e = absurd (let z : ◌≡◌ {A = ℕ} 0 1 = cc in omega arith)
-fit-said-unique (Refused n p) (Refused m q) e =
-    let i : n ≡ m = cc in
-    let j : p ≡ q = cc in
-    rw (i, j)
+value-unique : (a b : Bool) → values (fit_value a ∷ []) ≡ values (fit_value b ∷ []) → a ≡ b
+value-unique true true e = refl
+value-unique true false e = absurd (let z : ◌≡◌ {A = ℕ} 1 0 = one_value e in omega arith)
+value-unique false true e = absurd (let z : ◌≡◌ {A = ℕ} 0 1 = one_value e in omega arith)
+value-unique false false e = refl
+
+fit-said-unique : (a b : Result Bool Refusal) → fit_said a ≡ fit_said b → a ≡ b
+fit-said-unique = said-by-unique _ value-unique (λ b r e. values-refusal e)
 
 -- Yes is said exactly where the counts fit, and no where they do not.
 module _ (a : Question) (said : Said) where
@@ -209,7 +208,7 @@ fit-one-answer words shape counts x y p q =
     told-unique (fit_question words shape counts) x y (λ a r. answers-alike a a x y (λ f. f, λ f. f)) p q
 
 pub fit-answer-unique :
-    (words : List ℕ) (shape : ℕ) (counts : List ℕ) (a b : FitAnswer) → FitSays words shape counts (fit_said a) →
+    (words : List ℕ) (shape : ℕ) (counts : List ℕ) (a b : Result Bool Refusal) → FitSays words shape counts (fit_said a) →
     FitSays words shape counts (fit_said b) → a ≡ b
 fit-answer-unique words shape counts a b p q =
     fit-said-unique a b (fit-one-answer words shape counts (fit_said a) (fit_said b) p q)

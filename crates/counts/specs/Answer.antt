@@ -1,12 +1,15 @@
--- What each case of the enum `FitAnswer` says (docs/FORMAT.md, "Operations").
+-- What the answer to fitting counts says (docs/FORMAT.md, "Operations").
 -- Assumes nothing.
-use Rattle.std.specs.Prelude.{[], ◌∷◌}
-use Rattle.words.specs.Said.{Said, values, refusal}
-use Rattle.counts.specs.declared.FitAnswer.{FitAnswer}
-use Rattle.counts.specs.declared.FitAnswer.TheVariants.{Yes, No, Refused}
+use Rattle.std.specs.Prelude.{ℕ, Bool, true, false, [], ◌∷◌, Result}
+use Rattle.words.specs.Said.{Said, values}
+use Rattle.words.specs.Refused.{said_by}
+use Rattle.words.specs.declared.refusal.Refusal.{Refusal}
 
--- Yes: 1. No: 0. Refused: a template's number and place, or 41, 42, 43 with theirs.
-abbrev pub fit_said : FitAnswer → Said
-fit_said Yes = values (1 ∷ [])
-fit_said No = values (0 ∷ [])
-fit_said (Refused number place) = refusal number (place ∷ [])
+-- Yes is 1, and no is 0.
+abbrev pub fit_value : Bool → ℕ
+fit_value true = 1
+fit_value false = 0
+
+-- Whether the counts fit; or a template's number and place, or 41 to 43 with theirs.
+abbrev pub fit_said : Result Bool Refusal → Said
+fit_said = said_by (λ fits. values (fit_value fits ∷ []))

@@ -1,7 +1,7 @@
 // Fit counts: whether counts of links fit a shape of a template.
 #![tactic(auto)]
 
-ghost use Rattle.std.specs.Prelude.{◌≡◌};
+ghost use Rattle.std.specs.Prelude.{◌≡◌, ◌<◌, length, MatchOption};
 ghost use Rattle.words.specs.Limits.{max_depth};
 ghost use Rattle.bags.specs.Part.{Part};
 ghost use Rattle.bags.specs.Bag.{count};
@@ -14,27 +14,18 @@ ghost use Rattle.counts.specs.Fit.{first_over, FitSays};
 ghost use Rattle.counts.specs.Machine.{OthersAsked, Testable, SpreadAsked, Spread, NamesRead};
 
 use evaluator::part_fits;
-use template::{TemplateAnswer, open_at, read_names};
+use parts::Sizes;
+use template::{open_at, read_names};
 use trees::word;
-use words::{MAX_COUNT, MAX_KINDS, MAX_LABELS, Shape, TABLE_SIZE, wide};
-
-// Whether counts fit a shape, or what is refused: number and place.
-#[derive(Clone, Copy)]
-pub enum FitAnswer {
-    Yes,
-    No,
-    Refused(u16, usize),
-}
+use words::{Fault, MAX_COUNT, MAX_KINDS, MAX_LABELS, Refusal, Shape, TABLE_SIZE, wide};
 
 // Where the count of words of a shape stands.
 fn shape_place(words: &[u16], shape: u16) -> usize
     ensures { result ≡ shape_place words.now shape 2 }
 {
     let mut at = 2;
-    let mut left = shape;
-    while left > 0 {
+    for _ in 0..shape {
         at = at + 1 + wide(word(words, at));
-        left -= 1;
     }
     at
 }
@@ -45,9 +36,7 @@ fn others_zero(row: &[u8], counts: &[u16], kinds: usize) -> bool
     ensures { (p : Part) → RowOf row.now kinds p
         → result ≡ others_zero kinds p (count counts.now) }
 {
-    let mut i = kinds;
-    while i > 0 {
-        i -= 1;
+    for i in 0..kinds {
         if counts[i] != 0 && row[i] == 0 {
             return false;
         }
@@ -55,18 +44,17 @@ fn others_zero(row: &[u8], counts: &[u16], kinds: usize) -> bool
     true
 }
 
-// The place of the first count over 8,192, or the length of the counts.
-fn first_over(counts: &[u16]) -> usize
-    ensures { result ≡ first_over counts.now }
+// The place of the first count over 8,192, if there is one.
+fn first_over(counts: &[u16]) -> Option<usize>
+    ensures { MatchOption result (first_over counts.now ≡ length counts.now)
+        (λ i. (i < length counts.now) × (i ≡ first_over counts.now)) }
 {
-    let mut i = 0;
-    while i < counts.len() {
-        if MAX_COUNT < counts[i] {
-            return i;
+    for (i, count) in counts.iter().enumerate() {
+        if MAX_COUNT < *count {
+            return Some(i);
         }
-        i += 1;
     }
-    i
+    None
 }
 
 // Whether a list with the counts of all labels fits the shape whose count of words stands at `at`.
@@ -92,11 +80,9 @@ fn spread(counts: &[u16], kinds: usize, labels: &mut [u16])
     requires { SpreadAsked counts.now kinds labels.old }
     ensures { Spread counts.now kinds labels.new }
 {
-    let mut k = 0;
-    while k < kinds {
+    for k in 0..kinds {
         labels[k] = counts[k];
         labels[MAX_KINDS + k] = counts[kinds + k];
-        k += 1;
     }
 }
 
@@ -105,48 +91,37 @@ fn spread(counts: &[u16], kinds: usize, labels: &mut [u16])
 fn fit_accepted(
     template: &[u16],
     names: &[u8],
-    kinds: u16,
-    shapes: u16,
+    sizes: Sizes,
     shape: Shape,
     counts: &[u16],
-) -> FitAnswer
-    requires { NamesRead template.now names.now kinds shapes }
+) -> Result<bool, Refusal>
+    requires { NamesRead template.now names.now sizes.kinds sizes.shapes }
     ensures { FitSays template.now shape.0 counts.now (fit_said result) }
 {
     let n = shape.0;
-    if shapes <= n {
-        return FitAnswer::Refused(42, 0);
+    if sizes.shapes <= n {
+        return Err(Refusal(Fault::CountedShape, 0));
     }
-    let each_way = wide(kinds);
+    let each_way = wide(sizes.kinds);
     if counts.len() != 2 * each_way {
-        return FitAnswer::Refused(41, 0);
+        return Err(Refusal(Fault::CountsLength, 0));
     }
-    let over = first_over(counts);
-    if over < counts.len() {
-        return FitAnswer::Refused(43, over);
+    if let Some(over) = first_over(counts) {
+        return Err(Refusal(Fault::CountRange, over));
     }
     let base = wide(n) * MAX_LABELS;
     let end = base + MAX_LABELS;
     let at = shape_place(template, n);
     let mut labels = [0u16; MAX_LABELS];
     spread(counts, each_way, &mut labels);
-    if list_fits(template, at, &names[base..end], &labels, each_way) {
-        FitAnswer::Yes
-    } else {
-        FitAnswer::No
-    }
+    Ok(list_fits(template, at, &names[base..end], &labels, each_way))
 }
 
 // Fit counts: whether the counts fit the shape of the template, or the first refusal.
-pub fn fit_counts(template: &[u16], shape: Shape, counts: &[u16]) -> FitAnswer
+pub fn fit_counts(template: &[u16], shape: Shape, counts: &[u16]) -> Result<bool, Refusal>
     ensures { FitSays template.now shape.0 counts.now (fit_said result) }
 {
     let mut names = [0u8; TABLE_SIZE];
-    let read = read_names(template, &mut names);
-    match read {
-        TemplateAnswer::Refused(number, place) => FitAnswer::Refused(number, place),
-        TemplateAnswer::Counts(kinds, shapes) => {
-            fit_accepted(template, &names, kinds, shapes, shape, counts)
-        }
-    }
+    let sizes = read_names(template, &mut names)?;
+    fit_accepted(template, &names, sizes, shape, counts)
 }

@@ -15,7 +15,6 @@ use lib.ListN.{get_or, set}
 use Rattle.bags.specs.Label.{Way, outgoing, incoming, first_label, label_of}
 use Rattle.words.specs.Limits.{max_kinds}
 use Rattle.words.specs.Reading.{Reading, accepted, turned_down, mapped}
-use Rattle.parts.specs.declared.Read.TheVariants.{Next, Refused}
 use Rattle.parts.specs.declared.Sizes.{Sizes}
 use Rattle.parts.specs.Reading.{Code, nothing, single, group, opening, unknown, link, wrapped, gathered, code_of}
 use Rattle.parts.specs.Reading.{Found, found, into, limits_ok, read_link, read_run, read_group, read_code, read_part}
@@ -30,26 +29,26 @@ mapped-outcome f (turned_down number place) = refl
 
 -- A link, in the order of its refusals.
 module _ (words : List ℕ) (end : ℕ) (sizes : Sizes) (at : ℕ) (row : List ℕ) (first kind : ℕ) where
-  pub link-short : end - at < 4 → shown (Refused 4 end) row ≡ outcome (read_link words end sizes at row first kind)
+  pub link-short : end - at < 4 → shown (turned_down 4 end) row ≡ outcome (read_link words end sizes at row first kind)
   unfolding read_link shown
   link-short h = simp (lt-ltb _ _ h)
 
   pub link-kind :
       4 ≤ end - at → sizes.kinds ≤ kind →
-      shown (Refused 7 at) row ≡ outcome (read_link words end sizes at row first kind)
+      shown (turned_down 7 at) row ≡ outcome (read_link words end sizes at row first kind)
   unfolding read_link shown
   link-kind h i = simp (le-ltb _ _ h, le-leb _ _ i)
 
   pub link-again :
       4 ≤ end - at → kind < sizes.kinds → (get_or row (first + kind) 0 ≡ 0 → ⊥) →
-      shown (Refused 8 at) row ≡ outcome (read_link words end sizes at row first kind)
+      shown (turned_down 8 at) row ≡ outcome (read_link words end sizes at row first kind)
   unfolding read_link shown
   link-again h i j = simp (le-ltb _ _ h, lt-leb _ _ i, ne_eqb _ _ j)
 
   pub link-shape :
       4 ≤ end - at → kind < sizes.kinds → get_or row (first + kind) 0 ≡ 0 →
       sizes.shapes ≤ get_or words (at + 1) 0 →
-      shown (Refused 9 (at + 1)) row ≡ outcome (read_link words end sizes at row first kind)
+      shown (turned_down 9 (at + 1)) row ≡ outcome (read_link words end sizes at row first kind)
   unfolding read_link shown
   link-shape h i e j = simp (le-ltb _ _ h, lt-leb _ _ i, eq-eqb _ _ e, le-leb _ _ j)
 
@@ -57,7 +56,7 @@ module _ (words : List ℕ) (end : ℕ) (sizes : Sizes) (at : ℕ) (row : List �
       (entry : ℕ) → 4 ≤ end - at → kind < sizes.kinds → get_or row (first + kind) 0 ≡ 0 →
       get_or words (at + 1) 0 < sizes.shapes → entry ≡ get_or words (at + 1) 0 + 1 →
       limits_ok (get_or words (at + 2) 0) (get_or words (at + 3) 0) ≡ true →
-      shown (Next (at + 4)) (set row (first + kind) entry) ≡ outcome (read_link words end sizes at row first kind)
+      shown (accepted (at + 4)) (set row (first + kind) entry) ≡ outcome (read_link words end sizes at row first kind)
   unfolding read_link shown
   link-good entry h i e j q o = simp (q, le-ltb _ _ h, lt-leb _ _ i, eq-eqb _ _ e, lt-leb _ _ j, o)
 
@@ -65,20 +64,20 @@ module _ (words : List ℕ) (end : ℕ) (sizes : Sizes) (at : ℕ) (row : List �
       4 ≤ end - at → kind < sizes.kinds → get_or row (first + kind) 0 ≡ 0 →
       get_or words (at + 1) 0 < sizes.shapes →
       limits_ok (get_or words (at + 2) 0) (get_or words (at + 3) 0) ≡ false →
-      shown (Refused 10 (at + 2)) row ≡ outcome (read_link words end sizes at row first kind)
+      shown (turned_down 10 (at + 2)) row ≡ outcome (read_link words end sizes at row first kind)
   unfolding read_link shown
   link-limits h i e j o = simp (le-ltb _ _ h, lt-leb _ _ i, eq-eqb _ _ e, lt-leb _ _ j, o)
 
 -- A part whose code is missing, or that stands too deep; else it is read by its code.
 module _ (words : List ℕ) (end : ℕ) (sizes : Sizes) (at : ℕ) (row : List ℕ) where
   pub part-missing :
-      (left : ℕ) → end ≤ at → shown (Refused 4 end) row ≡ outcome (read_part left words end sizes at row)
+      (left : ℕ) → end ≤ at → shown (turned_down 4 end) row ≡ outcome (read_part left words end sizes at row)
   unfolding read_part shown
   part-missing zero h = simp (le-leb _ _ h)
   part-missing (suc l) h = simp (le-leb _ _ h)
 
   pub part-deep :
-      (left : ℕ) → at < end → left ≡ 0 → shown (Refused 6 at) row ≡ outcome (read_part left words end sizes at row)
+      (left : ℕ) → at < end → left ≡ 0 → shown (turned_down 6 at) row ≡ outcome (read_part left words end sizes at row)
   unfolding read_part shown
   part-deep left h e = rw e (simp (lt-leb _ _ h))
 
@@ -106,7 +105,7 @@ module _
   by_code code e = ap outcome (part_by words end sizes at row left code here.code_in here.level e)
 
   pub part-nothing :
-      get_or words at 0 ≡ 0 → shown (Next (at + 1)) row ≡ outcome (read_part left words end sizes at row)
+      get_or words at 0 ≡ 0 → shown (accepted (at + 1)) row ≡ outcome (read_part left words end sizes at row)
   unfolding shown
   part-nothing e = by_code nothing (code-nothing (get_or words at 0) e)
 
@@ -120,18 +119,18 @@ module _
 
   pub part_low :
       4 ≤ get_or words at 0 → get_or words at 0 < 16 →
-      shown (Refused 5 at) row ≡ outcome (read_part left words end sizes at row)
+      shown (turned_down 5 at) row ≡ outcome (read_part left words end sizes at row)
   unfolding shown
   part_low a b = by_code unknown (code-low (get_or words at 0) a (omega arith))
 
   pub part-open :
-      get_or words at 0 ≡ 18 → shown (Refused 64 at) row ≡ outcome (read_part left words end sizes at row)
+      get_or words at 0 ≡ 18 → shown (turned_down 64 at) row ≡ outcome (read_part left words end sizes at row)
   unfolding shown
   part-open e = by_code opening (code-open (get_or words at 0) e)
 
   pub part-middle :
       18 ≤ get_or words at 0 → (get_or words at 0 ≡ 18 → ⊥) → get_or words at 0 < 256 →
-      shown (Refused 5 at) row ≡ outcome (read_part left words end sizes at row)
+      shown (turned_down 5 at) row ≡ outcome (read_part left words end sizes at row)
   unfolding shown
   part-middle a b c = by_code unknown (code-middle (get_or words at 0) (omega arith) (omega arith))
 
@@ -154,7 +153,7 @@ module _
   part-incoming a b read = read ∙ part-link incoming (get_or words at 0 - 320) (omega arith) (omega arith)
 
   pub part-high :
-      384 ≤ get_or words at 0 → shown (Refused 5 at) row ≡ outcome (read_part left words end sizes at row)
+      384 ≤ get_or words at 0 → shown (turned_down 5 at) row ≡ outcome (read_part left words end sizes at row)
   unfolding shown
   part-high a = by_code unknown (code-high (get_or words at 0) a)
 
@@ -167,19 +166,19 @@ module _
         at row)
         ∙ by_code (group (gathered (get_or words at 0))) (code-group (get_or words at 0) a (omega arith))
 
-    pub group-short : end - at < 2 → shown (Refused 4 end) row ≡ outcome (read_part left words end sizes at row)
+    pub group-short : end - at < 2 → shown (turned_down 4 end) row ≡ outcome (read_part left words end sizes at row)
     unfolding shown
     group-short i = simp (lt-ltb (end - at) 2 i) at by-group
 
     pub group-few :
         2 ≤ end - at → get_or words (at + 1) 0 < 2 →
-        shown (Refused 11 (at + 1)) row ≡ outcome (read_part left words end sizes at row)
+        shown (turned_down 11 (at + 1)) row ≡ outcome (read_part left words end sizes at row)
     unfolding shown
     group-few i j = simp (le-ltb (end - at) 2 i, lt-ltb _ 2 j) at by-group
 
     pub group-many :
         2 ≤ end - at → 16 < get_or words (at + 1) 0 →
-        shown (Refused 11 (at + 1)) row ≡ outcome (read_part left words end sizes at row)
+        shown (turned_down 11 (at + 1)) row ≡ outcome (read_part left words end sizes at row)
     unfolding shown
     group-many i j =
         let k : 2 ≤ get_or words (at + 1) 0 = omega arith in

@@ -10,7 +10,6 @@ use lib.ListN.{length}
 use Rattle.bags.specs.Part.{Part}
 use Rattle.words.specs.Reading.{Reading, accepted, turned_down}
 use Rattle.words.proofs.Readings.{accepted-same, accepted-turned}
-use Rattle.parts.specs.declared.Read.TheVariants.{Next}
 use Rattle.parts.specs.declared.Sizes.{Sizes}
 use Rattle.parts.specs.Reading.{Found, found, read_part}
 use Rattle.parts.specs.Machine.{Step, step, shown, outcome}
@@ -18,7 +17,7 @@ use Rattle.parts.specs.Writer.{write_part}
 use Rattle.parts.proofs.RoundTripRead.{Holds, PartBack, part-back}
 
 -- What the code shows tells the next place and the row.
-pub next-same : {m n : ℕ} {row row' : List ℕ} → shown (Next m) row ≡ accepted (step n row') → (m ≡ n) × (row ≡ row')
+pub next-same : {m n : ℕ} {row row' : List ℕ} → shown (accepted m) row ≡ accepted (step n row') → (m ≡ n) × (row ≡ row')
 unfolding shown
 next-same e = (ap (λ (s : Step). s.next) (accepted-same e), ap (λ (s : Step). s.row) (accepted-same e))
 
@@ -42,7 +41,7 @@ back-within words end at p m row b =
 
 shown-within :
     (words : List ℕ) (end at m : ℕ) (row : List ℕ) (r : Reading (Found Part)) → Holds (PartBack words end at) r →
-    shown (Next m) row ≡ outcome r → (at + 1 ≤ m) × (m ≤ end)
+    shown (accepted m) row ≡ outcome r → (at + 1 ≤ m) × (m ≤ end)
 unfolding shown
 shown-within words end at m row (accepted (found p next row')) b e =
     let same = next-same e in
@@ -51,7 +50,7 @@ shown-within words end at m row (turned_down number place) b e = accepted-turned
 
 module _ (left : ℕ) (words : List ℕ) (end : ℕ) (sizes : Sizes) (at : ℕ) (row : List ℕ) where
   pub reads-above :
-      (m : ℕ) (row' : List ℕ) → shown (Next m) row' ≡ outcome (read_part left words end sizes at row) →
+      (m : ℕ) (row' : List ℕ) → shown (accepted m) row' ≡ outcome (read_part left words end sizes at row) →
       (at + 1 ≤ m) × (m ≤ end)
   reads-above m row' e =
       shown-within words end at m row' (read_part left words end sizes at row) (part-back words end sizes left at

@@ -15,8 +15,6 @@ use lib.ListN.{length}
 use Rattle.bags.specs.Part.{Part, Parts}
 use Rattle.words.specs.Reading.{Reading, accepted, turned_down, then, mapped}
 use Rattle.words.proofs.Readings.{accepted-turned}
-use Rattle.parts.specs.declared.Read.{Read}
-use Rattle.parts.specs.declared.Read.TheVariants.{Next, Refused}
 use Rattle.parts.specs.declared.Sizes.{Sizes}
 use Rattle.parts.specs.Reading.{Found, found, into, after, read_part, read_run}
 use Rattle.parts.specs.Machine.{shown, outcome}
@@ -26,7 +24,7 @@ use Rattle.parts.proofs.Places.{next-same, reads-above}
 -- A run of parts, each read by `inner`.
 then_next :
     (x : Reading (Found Part)) (rest : ℕ → List ℕ → Reading (Found Parts)) (m : ℕ) (row : List ℕ) →
-    shown (Next m) row ≡ outcome x →
+    shown (accepted m) row ≡ outcome x →
     outcome (rest m row) ≡ outcome (then x (after (λ p next row'. mapped (into (Parts.more p)) (rest next row'))))
 unfolding shown
 then_next (accepted (found a n row')) rest m row e =
@@ -35,28 +33,28 @@ then_next (turned_down n p) rest m row e = accepted-turned e
 
 then-refused :
     (x : Reading (Found Part)) (rest : Found Part → Reading (Found Parts)) (n p : ℕ) (row : List ℕ) →
-    shown (Refused n p) row ≡ outcome x → shown (Refused n p) row ≡ outcome (then x rest)
+    shown (turned_down n p) row ≡ outcome x → shown (turned_down n p) row ≡ outcome (then x rest)
 unfolding shown
 then-refused (accepted (found a m row')) rest n p row e = accepted-turned (sym e)
 then-refused (turned_down n' p') rest n p row e = e
 
 module _ (inner : ℕ → List ℕ → Reading (Found Part)) where
   run_none :
-      (count at : ℕ) (row : List ℕ) → count ≡ 0 → shown (Next at) row ≡ outcome (read_run inner count at row)
+      (count at : ℕ) (row : List ℕ) → count ≡ 0 → shown (accepted at) row ≡ outcome (read_run inner count at row)
   unfolding read_run shown
   run_none count at row e = rw e
 
   run-refused :
       (count at : ℕ) (row : List ℕ) (n p : ℕ) (row' : List ℕ) → 0 < count →
-      shown (Refused n p) row' ≡ outcome (inner at row) →
-      shown (Refused n p) row' ≡ outcome (read_run inner count at row)
+      shown (turned_down n p) row' ≡ outcome (inner at row) →
+      shown (turned_down n p) row' ≡ outcome (read_run inner count at row)
   unfolding read_run
   run-refused zero at row n p row' h e = absurd (omega arith)
   run-refused (suc c) at row n p row' h e = then-refused (inner at row) _ n p row' e
 
   run-next :
       (count at : ℕ) (row : List ℕ) (m : ℕ) (row' : List ℕ) → 0 < count →
-      shown (Next m) row' ≡ outcome (inner at row) →
+      shown (accepted m) row' ≡ outcome (inner at row) →
       outcome (read_run inner (count - 1) m row') ≡ outcome (read_run inner count at row)
   unfolding read_run
   run-next zero at row m row' h e = absurd (omega arith)
@@ -80,15 +78,12 @@ remaining-start left words end sizes count at before = record { order = omega ar
 module _
     {left : ℕ} {words : List ℕ} {end : ℕ} {sizes : Sizes} {count at : ℕ} {before : List ℕ} {more next : ℕ}
     {row : List ℕ} (so_far : Remaining left words end sizes count at before more next row) where
-  -- The next part was read, or refused: `r` is what its reader answered.
-  module _
-      {r : Read} (row' : List ℕ) (some : 0 < more)
-      (read : shown r row' ≡ outcome (read_part left words end sizes next row)) where
+  -- The next part was read, or refused.
+  module _ (row' : List ℕ) (some : 0 < more) where
     pub remaining-next :
-        (place : ℕ) → r ≡ Next place → length row' ≡ length row →
-        Remaining left words end sizes count at before (more - 1) place row'
-    remaining-next place q same =
-        let e : shown (Next place) row' ≡ outcome (read_part left words end sizes next row) = rw q at read in
+        (place : ℕ) → shown (accepted place) row' ≡ outcome (read_part left words end sizes next row) →
+        length row' ≡ length row → Remaining left words end sizes count at before (more - 1) place row'
+    remaining-next place e same =
         let above = reads-above left words end sizes next row place row' e in
         record {
           order = omega (arith, so_far.order, above.0);
@@ -97,12 +92,11 @@ module _
         }
 
     pub remaining-refused :
-        (number place : ℕ) → r ≡ Refused number place →
-        shown (Refused number place) row' ≡ outcome (read_run (read_part left words end sizes) count at before)
-    remaining-refused number place q =
-        run-refused (read_part left words end sizes) more next row number place row' some (rw q at read)
-        ∙ so_far.answer
+        (number place : ℕ) → shown (turned_down number place) row' ≡ outcome (read_part left words end sizes next row) →
+        shown (turned_down number place) row' ≡ outcome (read_run (read_part left words end sizes) count at before)
+    remaining-refused number place e =
+        run-refused (read_part left words end sizes) more next row number place row' some e ∙ so_far.answer
 
   pub remaining-end :
-      more ≡ 0 → shown (Next next) row ≡ outcome (read_run (read_part left words end sizes) count at before)
+      more ≡ 0 → shown (accepted next) row ≡ outcome (read_run (read_part left words end sizes) count at before)
   remaining-end none = run_none (read_part left words end sizes) more next row none ∙ so_far.answer

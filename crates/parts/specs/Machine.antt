@@ -5,8 +5,6 @@
 use Rattle.std.specs.Prelude.{ℕ, ◌≤◌, ◌<◌, ◌≡◌, List, length}
 use Rattle.words.specs.Limits.{max_kinds, max_labels, max_shapes}
 use Rattle.words.specs.Reading.{Reading, accepted, turned_down, mapped}
-use Rattle.parts.specs.declared.Read.{Read}
-use Rattle.parts.specs.declared.Read.TheVariants.{Next, Refused}
 use Rattle.parts.specs.declared.Sizes.{Sizes}
 use Rattle.parts.specs.Reading.{Found, found}
 
@@ -18,10 +16,10 @@ pub record Step : Type 0 where
 abbrev pub step : ℕ → List ℕ → Step
 step next row = record { next = next; row = row }
 
--- What the code's answer and the row that it leaves show.
-unfoldable pub shown : Read → List ℕ → Reading Step
-shown (Next next) row = accepted (step next row)
-shown (Refused number place) row = turned_down number place
+-- What the next place, or the refusal, and the row that is left show.
+unfoldable pub shown : Reading ℕ → List ℕ → Reading Step
+shown (accepted next) row = accepted (step next row)
+shown (turned_down number place) row = turned_down number place
 
 abbrev step_of : {A : Type 0} → Found A → Step
 step_of (found a next row) = step next row

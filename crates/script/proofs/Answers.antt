@@ -1,5 +1,5 @@
 -- No contract leaves a choice, and what an answer tells of the reading.
--- script-answer-unique   an answer says what no other answer says
+-- sizes-unique           the counts tell the sizes
 -- read-script-unique     reading a script has one answer
 -- LinksPart              what the contract says of the part that "Links of a card" lends
 -- links-of-card-unique   of such parts there is one: the same words, at the same place of memory
@@ -8,25 +8,29 @@
 use Prim.Native.Nat.{ℕ, ◌+◌, ◌*◌}
 use mathlib.Core.Path.{◌≡◌, sym, ap₂, ◌∙◌}
 use mathlib.Core.List.{List, [], ◌∷◌}
-use native.Mathlib.Omega.{arith}
 use denote.Ref.{Bor}
-use Rattle.script.specs.declared.ScriptAnswer.{ScriptAnswer}
-use Rattle.script.specs.declared.ScriptAnswer.TheVariants.{Counts, Refused}
+use Rattle.script.specs.declared.ScriptSizes.{ScriptSizes}
+use Rattle.words.specs.declared.refusal.Refusal.{Refusal}
+use Rattle.words.proofs.Refused.{said-by-unique}
+use Rattle.words.proofs.Said.{values-refusal}
+use Rattle.std.specs.Prelude.{Result}
 use Rattle.script.specs.Answer.{script_said}
 use Rattle.script.specs.Script.{ScriptCounts, counts_of, script_values, script_says, card_links, links_start}
 use Rattle.words.specs.Said.{values}
 use Rattle.words.specs.Reading.{Reading, accepted, said_of}
 use Rattle.words.proofs.Readings.{said-accepted}
 
-script-answer-unique : (a b : ScriptAnswer) → script_said a ≡ script_said b → a ≡ b
-script-answer-unique (Counts n m) (Counts k l) e = cc
-script-answer-unique (Counts n m) (Refused k l) e = let z : ◌≡◌ {A = ℕ} 0 1 = cc in absurd (omega arith)
-script-answer-unique (Refused n m) (Counts k l) e = let z : ◌≡◌ {A = ℕ} 0 1 = cc in absurd (omega arith)
-script-answer-unique (Refused n m) (Refused k l) e = cc
+-- The counts tell the sizes.
+sizes-unique : (a b : ScriptSizes) → values (a.cards ∷ a.links ∷ []) ≡ values (b.cards ∷ b.links ∷ []) → a ≡ b
+sizes-unique a b e =
+    let p : a.cards ≡ b.cards = cc in
+    let q : a.links ≡ b.links = cc in
+    ap₂ (λ (n m : ℕ). record { cards = n; links = m }) p q
 
-pub read-script-unique : (template script : List ℕ) (a b : ScriptAnswer)
+pub read-script-unique : (template script : List ℕ) (a b : Result ScriptSizes Refusal)
     → script_said a ≡ script_says template script → script_said b ≡ script_says template script → a ≡ b
-read-script-unique template script a b p q = script-answer-unique a b (p ∙ sym q)
+read-script-unique template script a b p q =
+    said-by-unique _ sizes-unique (λ s r e. values-refusal e) a b (p ∙ sym q)
 
 -- A part of a lent script: its words, its block of memory, and where in the block it starts.
 pub record LinksPart (template : List ℕ) (script : Bor (List ℕ)) (card : ℕ) (part : Bor (List ℕ)) : Type 0 where

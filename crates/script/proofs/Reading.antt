@@ -21,7 +21,9 @@ use Rattle.words.specs.Reading.{Reading, accepted, turned_down}
 use Rattle.words.proofs.Readings.{accepted-same, passed, Numbered, refuse-numbered}
 use Rattle.script.specs.Link.{from_index, kind_index, to_index, from_at, kind_at, to_at, above}
 use Rattle.script.specs.Steps.{Ascending, after_link}
-use Rattle.script.specs.declared.LinkTest.{LinkTest}
+use Rattle.std.specs.Prelude.{Result, Ok, Err}
+use Rattle.words.specs.Refused.{number}
+use Rattle.words.specs.declared.refusal.Refusal.{Refusal}
 use Rattle.script.specs.Script.{ScriptCounts, counts_of, read_links, read_script}
 
 -- One link's test.
@@ -66,7 +68,7 @@ module _ (kinds cards : ℕ) (script : List ℕ) (n i : ℕ) (done : Reading Scr
         ) refl
 
 -- The links from link i on, where some are left: what the code's test of link i makes of them.
-module _ (kinds cards : ℕ) (script : List ℕ) (count i : ℕ) (done : Reading ScriptCounts) (test : LinkTest)
+module _ (kinds cards : ℕ) (script : List ℕ) (count i : ℕ) (done : Reading ScriptCounts) (test : Result (Unit {0}) Refusal)
     (l : i < count) (tested : (n : ℕ) (rest : Reading ScriptCounts) →
     read_links kinds cards script (suc n) i rest ≡ after_link test (read_links kinds cards script n (suc i) rest))
   where
@@ -76,14 +78,14 @@ module _ (kinds cards : ℕ) (script : List ℕ) (count i : ℕ) (done : Reading
         let e : count - i ≡ suc (count - (i + 1)) = omega arith in
         rw (e, add-one i) (tested (count - suc i) done)
 
-    pub links-next : test ≡ LinkTest.Passed
+    pub links-next : {passed : Unit {0}} → test ≡ Ok passed
         → read_links kinds cards script (count - i) i done ≡ read_links kinds cards script (count - (i + 1)) (i +
         1) done
     links-next e = rw e at links-tested
 
-    pub links-refused : (number place : ℕ) → test ≡ LinkTest.Refused number place
-        → read_links kinds cards script (count - i) i done ≡ turned_down number place
-    links-refused number place e = rw e at links-tested
+    pub links-refused : {r : Refusal} → test ≡ Err r
+        → read_links kinds cards script (count - i) i done ≡ turned_down (number r.0) r.1
+    links-refused e = rw e at links-tested
 
 -- And where none is left.
 pub links-done : (kinds cards : ℕ) (script : List ℕ) (count i : ℕ) (done : Reading ScriptCounts) → count ≤ i

@@ -4,18 +4,19 @@
 -- Ascending   the first m links stand in the script, each above the one before it
 -- PartAsked   what finding a card's part asks; CardPart: what is found
 -- Assumes nothing.
-use Rattle.std.specs.Prelude.{ℕ, ◌+◌, ◌*◌, ◌≤◌, ◌<◌, true, ◌≡◌, List, length}
+use Rattle.std.specs.Prelude.{ℕ, ◌+◌, ◌*◌, ◌≤◌, ◌<◌, true, ◌≡◌, List, length, Result, Ok, Err}
 use Rattle.std.specs.Borrow.{Bor}
 use Rattle.words.specs.Limits.{max_links}
 use Rattle.words.specs.Reading.{Reading, turned_down}
 use Rattle.script.specs.Link.{from_index, above, card_words, below}
-use Rattle.script.specs.declared.LinkTest.{LinkTest}
+use Rattle.words.specs.Refused.{number}
+use Rattle.words.specs.declared.refusal.Refusal.{Refusal}
 use Rattle.script.specs.Script.{ScriptCounts}
 
 -- Where the code's test of a link passes, what follows; else the refusal that it found.
-abbrev pub after_link : LinkTest → Reading ScriptCounts → Reading ScriptCounts
-after_link LinkTest.Passed rest = rest
-after_link (LinkTest.Refused number place) rest = turned_down number place
+abbrev pub after_link : Result (Unit {0}) Refusal → Reading ScriptCounts → Reading ScriptCounts
+after_link (Ok passed) rest = rest
+after_link (Err r) rest = turned_down (number r.0) r.1
 
 -- The words of link i are in the script.
 pub record LinkIn (script : List ℕ) (i : ℕ) : Type 0 where

@@ -9,24 +9,18 @@ ghost use Rattle.script.specs.Script.{ScriptCounts, counts_of, read_links, read_
 ghost use Rattle.script.specs.Script.{card_links, links_start};
 ghost use Rattle.script.specs.Steps.{after_link, LinkIn, LinksIn, Ascending, PartAsked, CardPart};
 
-use template::{TemplateAnswer, read_template};
-use words::{Card, MAX_CARDS, MAX_LINKS, wide};
+use template::read_template;
+use words::{Card, Fault, MAX_CARDS, MAX_LINKS, Refusal, wide};
 
-// A script's counts of cards and of links, or what it is refused for: number and place.
+// A script's counts of cards and of links.
 #[derive(Clone, Copy)]
-pub enum ScriptAnswer {
-    Counts(u16, u16),
-    Refused(u16, usize),
+pub struct ScriptSizes {
+    pub cards: u16,
+    pub links: u16,
 }
 
-// What the test of one link finds: nothing at fault, or a refusal's number and place.
-#[derive(Clone, Copy)]
-enum LinkTest {
-    Passed,
-    Refused(u16, usize),
-}
-
-// Whether link i is above link j: by its from, then its kind, then its to.
+// Whether link i is above link j: by its from, then its kind, then its to. Word by word: of a comparison of tuples it
+// was not proved that it is this order.
 fn is_greater(script: &[u16], i: usize, j: usize) -> bool
     requires link_in { LinkIn script.now i }
     requires link_in_2 { LinkIn script.now j }
@@ -59,83 +53,71 @@ fn is_above(script: &[u16], i: usize) -> bool
 }
 
 // Tests one link, in the format's order: 23 from, 24 kind, 23 to, 25 its place among the links.
-fn test_link(kinds: u16, cards: u16, script: &[u16], i: usize) -> LinkTest
+fn test_link(kinds: u16, cards: u16, script: &[u16], i: usize) -> Result<(), Refusal>
     requires { LinkIn script.now i }
     ensures { (n : ℕ) (done : Reading ScriptCounts) →
         read_links kinds cards script.now (suc n) i done
         ≡ after_link result (read_links kinds cards script.now n (suc i) done) }
 {
     if cards <= script[2 + 3 * i] {
-        return LinkTest::Refused(23, 2 + 3 * i);
+        return Err(Refusal(Fault::LinkCard, 2 + 3 * i));
     }
     if kinds <= script[3 + 3 * i] {
-        return LinkTest::Refused(24, 3 + 3 * i);
+        return Err(Refusal(Fault::LinkKind, 3 + 3 * i));
     }
     if cards <= script[4 + 3 * i] {
-        return LinkTest::Refused(23, 4 + 3 * i);
+        return Err(Refusal(Fault::LinkCard, 4 + 3 * i));
     }
     if !is_above(script, i) {
-        return LinkTest::Refused(25, 2 + 3 * i);
+        return Err(Refusal(Fault::LinkOrder, 2 + 3 * i));
     }
-    LinkTest::Passed
+    Ok(())
 }
 
 // Tests the links one by one: the counts, or the first refusal.
-fn read_links(kinds: u16, cards: u16, links: u16, script: &[u16]) -> ScriptAnswer
+fn read_links(kinds: u16, cards: u16, links: u16, script: &[u16]) -> Result<ScriptSizes, Refusal>
     requires { LinksIn script.now 0 links }
     ensures { script_said result
         ≡ said_of script_values
         (read_links kinds cards script.now links 0 (accepted (counts_of cards links))) }
 {
-    let count = wide(links);
-    let mut i = 0;
-    while i < count {
-        let test = test_link(kinds, cards, script, i);
-        match test {
-            LinkTest::Passed => {
-                i += 1;
-            }
-            LinkTest::Refused(number, place) => {
-                return ScriptAnswer::Refused(number, place);
-            }
-        }
+    for i in 0..wide(links) {
+        test_link(kinds, cards, script, i)?;
     }
-    ScriptAnswer::Counts(cards, links)
+    Ok(ScriptSizes { cards, links })
 }
 
 // Reads a script under a template that has so many kinds.
-pub fn read_with_kinds(kinds: u16, script: &[u16]) -> ScriptAnswer
+pub fn read_with_kinds(kinds: u16, script: &[u16]) -> Result<ScriptSizes, Refusal>
     ensures { script_said result ≡ said_of script_values (read_script kinds script.now) }
 {
     if script.len() < 2 {
-        return ScriptAnswer::Refused(20, 0);
+        return Err(Refusal(Fault::ScriptLength, 0));
     }
     let cards = script[0];
     if MAX_CARDS < wide(cards) {
-        return ScriptAnswer::Refused(21, 0);
+        return Err(Refusal(Fault::CardCount, 0));
     }
     let links = script[1];
     if MAX_LINKS < wide(links) {
-        return ScriptAnswer::Refused(22, 1);
+        return Err(Refusal(Fault::LinkCount, 1));
     }
     if script.len() != 2 + 3 * wide(links) {
-        return ScriptAnswer::Refused(20, 0);
+        return Err(Refusal(Fault::ScriptLength, 0));
     }
     read_links(kinds, cards, links, script)
 }
 
 // Reads a script with a template: the template's refusals come first.
-pub fn read_script(template: &[u16], script: &[u16]) -> ScriptAnswer
+pub fn read_script(template: &[u16], script: &[u16]) -> Result<ScriptSizes, Refusal>
     ensures { script_said result ≡ script_says template.now script.now }
 {
-    let read = read_template(template);
-    match read {
-        TemplateAnswer::Counts(kinds, _) => read_with_kinds(kinds, script),
-        TemplateAnswer::Refused(number, place) => ScriptAnswer::Refused(number, place),
-    }
+    let sizes = read_template(template)?;
+    read_with_kinds(sizes.kinds, script)
 }
 
-// How many of the links start at a card below `card`: a binary search.
+// How many of the links start at a card below `card`: a binary search by hand, since the list is no slice of links but
+// of three words to each.
 fn count_below(script: &[u16], links: usize, card: usize) -> usize
     requires { Ascending script.now links }
     ensures { result ≡ below script.now card links }
@@ -171,15 +153,9 @@ pub fn links_of_card<'t, 's>(template: &'t [u16], script: &'s [u16], card: Card)
         ≡ links_start template.now script.now card.0 * 2 + script.entry.ref_ptr.1 }
 {
     let none = &script[0..0];
-    let read = read_script(template, script);
-    match read {
-        ScriptAnswer::Counts(cards, links) => {
-            let number = card.0;
-            if cards <= number {
-                return none;
-            }
-            card_part(script, wide(links), wide(number))
-        }
-        ScriptAnswer::Refused(_, _) => none,
+    match read_script(template, script) {
+        Ok(sizes) if card.0 < sizes.cards => card_part(script, wide(sizes.links), wide(card.0)),
+        Ok(_) => none,
+        Err(_) => none,
     }
 }

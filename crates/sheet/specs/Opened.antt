@@ -6,7 +6,7 @@
 -- ReadAs        what reading the two finds: known, or the first refusal
 -- WaysAsked     what looking for incoming kinds in the table asks
 -- Assumes nothing.
-use Rattle.std.specs.Prelude.{ℕ, ◌≤◌, ◌<◌, ◌≡◌, false, List, length}
+use Rattle.std.specs.Prelude.{ℕ, ◌≤◌, ◌<◌, ◌≡◌, false, List, length, Result, Ok, Err}
 use Rattle.words.specs.Limits.{max_kinds, max_shapes}
 use Rattle.words.specs.Sizes.{table_size}
 use Rattle.words.specs.Reading.{accepted, turned_down}
@@ -17,8 +17,8 @@ use Rattle.template.specs.Machine.{Tabled, entry_at}
 use Rattle.script.specs.Script.{counts_of, read_script}
 use Rattle.sheet.specs.Sheet.{read_sheet}
 use Rattle.sheet.specs.declared.Extent.{Extent}
-use Rattle.sheet.specs.declared.SheetRead.{SheetRead}
-use Rattle.sheet.specs.declared.SheetRead.TheVariants as read
+use Rattle.words.specs.Refused.{number}
+use Rattle.words.specs.declared.refusal.Refusal.{Refusal}
 
 -- The template of these counts and parts.
 abbrev pub template_as : ℕ → ℕ → List Part → Template
@@ -47,9 +47,9 @@ pub record Known (template script names : List ℕ) (e : Extent) : Type 0 where
   pub ways : e.incoming ≡ false → OnlyOutgoing names e.shapes max_kinds
 
 -- What reading the two files, with the table of names, finds.
-abbrev pub ReadAs : List ℕ → List ℕ → List ℕ → SheetRead → Type 0
-ReadAs template script names (read.Sheet e) = Known template script names e
-ReadAs template script names (read.Refused number place) = read_sheet template script ≡ turned_down number place
+abbrev pub ReadAs : List ℕ → List ℕ → List ℕ → Result Extent Refusal → Type 0
+ReadAs template script names (Ok e) = Known template script names e
+ReadAs template script names (Err r) = read_sheet template script ≡ turned_down (number r.0) r.1
 
 -- A table of names in full, and counts within their limits.
 pub record WaysAsked (names : List ℕ) (kinds shapes : ℕ) : Type 0 where

@@ -5,9 +5,9 @@ ghost use Rattle.std.specs.Prelude.{ℕ, ◌<◌, ◌≡◌, false, length, get_
 ghost use Rattle.words.specs.Sizes.{table_size};
 ghost use Rattle.sheet.specs.Opened.{OnlyOutgoing, WaysAsked, ReadAs};
 
-use script::{ScriptAnswer, read_with_kinds};
-use template::{TemplateAnswer, read_names};
-use words::{MAX_KINDS, MAX_LABELS, wide};
+use script::read_with_kinds;
+use template::read_names;
+use words::{MAX_KINDS, MAX_LABELS, Refusal, wide};
 
 // The counts of a template and a script that are read, and whether some shape names an incoming kind.
 #[derive(Clone, Copy)]
@@ -19,25 +19,11 @@ pub struct Extent {
     pub incoming: bool,
 }
 
-// What reading a template and a script finds.
-#[derive(Clone, Copy)]
-pub enum SheetRead {
-    Sheet(Extent),
-    Refused(u16, usize),
-}
-
 // Whether one of the entries names a shape.
 pub fn some_named(entries: &[u8]) -> bool
     ensures { result ≡ false → (k : ℕ) → k < length entries.now → get_or entries.now k 0 ≡ 0 }
 {
-    let mut k = 0;
-    while k < entries.len() {
-        if entries[k] != 0 {
-            return true;
-        }
-        k += 1;
-    }
-    false
+    entries.iter().any(|entry| *entry != 0)
 }
 
 // Whether some shape names an incoming kind, by the table of names.
@@ -45,41 +31,28 @@ fn names_incoming(names: &[u8], kinds: usize, shapes: usize) -> bool
     requires { WaysAsked names.now kinds shapes }
     ensures { result ≡ false → OnlyOutgoing names.now shapes kinds }
 {
-    let mut t = 0;
-    while t < shapes {
+    for t in 0..shapes {
         let base = t * MAX_LABELS + MAX_KINDS;
-        let end = base + kinds;
-        if some_named(&names[base..end]) {
+        if some_named(&names[base..base + kinds]) {
             return true;
         }
-        t += 1;
     }
     false
 }
 
 // Reads a template and a script, and fills the table of names, which is all 0 before.
-pub fn read_sheet(template: &[u16], script: &[u16], names: &mut [u8]) -> SheetRead
+pub fn read_sheet(template: &[u16], script: &[u16], names: &mut [u8]) -> Result<Extent, Refusal>
     requires { names.old ≡ replicate table_size 0 }
     ensures { ReadAs template.now script.now names.new result }
 {
-    let first = read_names(template, names);
-    match first {
-        TemplateAnswer::Refused(number, place) => SheetRead::Refused(number, place),
-        TemplateAnswer::Counts(kinds, shapes) => {
-            let second = read_with_kinds(kinds, script);
-            match second {
-                ScriptAnswer::Refused(number, place) => SheetRead::Refused(number, place),
-                ScriptAnswer::Counts(cards, links) => {
-                    let incoming = names_incoming(names, wide(kinds), wide(shapes));
-                    SheetRead::Sheet(Extent {
-                        kinds,
-                        shapes,
-                        cards,
-                        links,
-                        incoming,
-                    })
-                }
-            }
-        }
-    }
+    let sizes = read_names(template, names)?;
+    let counts = read_with_kinds(sizes.kinds, script)?;
+    let incoming = names_incoming(names, wide(sizes.kinds), wide(sizes.shapes));
+    Ok(Extent {
+        kinds: sizes.kinds,
+        shapes: sizes.shapes,
+        cards: counts.cards,
+        links: counts.links,
+        incoming,
+    })
 }

@@ -3,36 +3,33 @@
 -- template-read            the template that was read, and that the counts which are said are its own
 -- template-turned          the refusal, from what is said
 -- Assumes nothing.
-use mathlib.Core.Path.{◌≡◌, sym, ◌∙◌}
+use mathlib.Core.Path.{◌≡◌, sym, ap, ◌∙◌}
 use mathlib.Core.List.{List, [], ◌∷◌}
 use Prim.Native.Nat.{ℕ}
-use native.Mathlib.Omega.{arith}
 use Rattle.words.specs.Said.{values, refusal}
 use Rattle.words.specs.Reading.{accepted, turned_down}
 use Rattle.words.proofs.Readings.{said-accepted, said-turned}
-use Rattle.template.specs.declared.TemplateAnswer.{TemplateAnswer}
-use Rattle.template.specs.declared.TemplateAnswer.TheVariants.{Counts, Refused}
+use Rattle.words.specs.declared.refusal.Refusal.{Refusal}
+use Rattle.words.proofs.Refused.{said-by-unique}
+use Rattle.words.proofs.Said.{values-refusal}
+use Rattle.parts.specs.declared.Sizes.{Sizes}
+use Rattle.std.specs.Prelude.{Result}
 use Rattle.template.specs.Answer.{template_said}
 use Rattle.template.specs.Template.{Template, read_template, template_values, template_says}
 
--- What an answer says tells the answer.
-template-answer-unique : (a b : TemplateAnswer) → template_said a ≡ template_said b → a ≡ b
-template-answer-unique (Counts k s) (Counts k' s') e =
-    let p : k ≡ k' = cc in
-    let q : s ≡ s' = cc in
-    rw (p, q)
-template-answer-unique (Refused n p) (Refused n' p') e =
-    let i : n ≡ n' = cc in
-    let j : p ≡ p' = cc in
-    rw (i, j)
-template-answer-unique (Counts k s) (Refused n p) e = absurd (let z : ◌≡◌ {A = ℕ} 0 1 = cc in omega arith)
-template-answer-unique (Refused n p) (Counts k s) e = absurd (let z : ◌≡◌ {A = ℕ} 0 1 = cc in omega arith)
+-- The counts tell the sizes.
+sizes-unique : (a b : Sizes) → values (a.kinds ∷ a.shapes ∷ []) ≡ values (b.kinds ∷ b.shapes ∷ []) → a ≡ b
+sizes-unique a b e =
+    let p : a.kinds ≡ b.kinds = cc in
+    let q : a.shapes ≡ b.shapes = cc in
+    ap (λ (n : ℕ). record { kinds = n; shapes = a.shapes }) p ∙ ap (λ (n : ℕ). record { kinds = b.kinds; shapes = n }) q
 
 -- The contract leaves no choice.
 pub read-template-unique :
-    (words : List ℕ) (a b : TemplateAnswer) → template_said a ≡ template_says words →
+    (words : List ℕ) (a b : Result Sizes Refusal) → template_said a ≡ template_says words →
     template_said b ≡ template_says words → a ≡ b
-read-template-unique words a b e f = template-answer-unique a b (e ∙ sym f)
+read-template-unique words a b e f =
+    said-by-unique _ sizes-unique (λ s r q. values-refusal q) a b (e ∙ sym f)
 
 -- The template that was read, and that the counts which are said are its own.
 pub template-read :

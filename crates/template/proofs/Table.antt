@@ -19,17 +19,15 @@ use Rattle.bags.specs.Part.{Part}
 use Rattle.bags.specs.Named.{named}
 use Rattle.words.specs.Limits.{max_labels, max_shapes}
 use Rattle.words.specs.Sizes.{table_size}
-use Rattle.words.specs.Reading.{accepted}
+use Rattle.words.specs.Reading.{accepted, Reading, turned_down}
 use Rattle.words.proofs.Bools.{bool_case}
 use Rattle.words.proofs.Cells.{put-before, put-inside, put-after}
-use Rattle.parts.specs.declared.Read.{Read}
-use Rattle.parts.specs.declared.Read.TheVariants.{Next, Refused}
 use Rattle.parts.specs.declared.Sizes.{Sizes}
 use Rattle.parts.specs.Placed.{Placed, placed}
 use Rattle.parts.specs.Reading.{no_names}
 use Rattle.parts.proofs.Trees.{no-entry}
 use Rattle.template.specs.Template.{read_shape, read_shapes}
-use Rattle.template.specs.Machine.{read_of, ShapeAnswer, ShapesAnswer}
+use Rattle.template.specs.Machine.{next_of, ShapeAnswer, ShapesAnswer}
 use Rattle.template.proofs.ShapeLaws.{refused-read, shapes-next, shapes-refused, shapes-more, shapes-end}
 use Rattle.template.proofs.ShapeLaws.{FirstRead, shapes-first, shapes-length}
 
@@ -51,8 +49,8 @@ pub record Filling (sizes : Sizes) (words names : List ℕ) (at t : ℕ) : Type 
   pub rest : (j : ℕ) → t * max_labels ≤ j → get_or names j 0 ≡ 0
   -- the answer for the shapes that are left is the answer for all
   pub answer :
-      read_of (read_shapes sizes words (sizes.shapes - t) at)
-      ≡ read_of (read_shapes sizes words sizes.shapes 2)
+      next_of (read_shapes sizes words (sizes.shapes - t) at)
+      ≡ next_of (read_shapes sizes words sizes.shapes 2)
   -- if all are read, those that are left are read as the parts from t on
   pub left :
       (all : Placed (List Part)) → read_shapes sizes words sizes.shapes 2 ≡ accepted all →
@@ -105,8 +103,8 @@ module _ {sizes : Sizes} {words names : List ℕ} {at t : ℕ} (f : Filling size
 
     -- The next shape was read into its row.
     module _
-        {r : Read} (row : List ℕ) (next : ℕ) (b : length row ≡ length (mid_of (row_start t) (row_span t) names))
-        (o : r ≡ Next next) (read : ShapeAnswer (read_shape sizes words at) r row) where
+        {r : Reading ℕ} (row : List ℕ) (next : ℕ) (b : length row ≡ length (mid_of (row_start t) (row_span t) names))
+        (o : r ≡ accepted next) (read : ShapeAnswer (read_shape sizes words at) r row) where
       row-size : length row ≡ row_span t
       row-size = b ∙ mid_len (row_start t) (row_end t) names row-bounds.0
 
@@ -123,7 +121,7 @@ module _ {sizes : Sizes} {words names : List ℕ} {at t : ℕ} (f : Filling size
           next ≡ (next-first all q).head.next
       next_place all q =
           let w = next-first all q in
-          let r : Next next ≡ Next w.head.next = sym o ∙ read.read ∙ ap read_of w.first in
+          let r : accepted next ≡ accepted w.head.next = sym o ∙ read.read ∙ ap next_of w.first in
           cc
 
       -- The shape that was read is the part of the shape t, and those after it are the rest.
@@ -181,37 +179,37 @@ module _ {sizes : Sizes} {words names : List ℕ} {at t : ℕ} (f : Filling size
                 ∙ f.rest j (omega arith);
             answer =
                 shapes-next sizes words (sizes.shapes - (t + 1)) at next (sym o ∙ read.read)
-                ∙ ap (λ (n : ℕ). read_of (read_shapes sizes words n at)) (sym one_less) ∙ f.answer;
+                ∙ ap (λ (n : ℕ). next_of (read_shapes sizes words n at)) (sym one_less) ∙ f.answer;
             left = next-left;
             filled = next-filled;
           }
 
   -- Shapes that are refused have no parts, so any table does.
   no-parts :
-      (n p : ℕ) (table : List ℕ) → Refused n p ≡ read_of (read_shapes sizes words sizes.shapes 2) →
-      ShapesAnswer (read_shapes sizes words sizes.shapes 2) (Refused n p) table
+      (n p : ℕ) (table : List ℕ) → turned_down n p ≡ next_of (read_shapes sizes words sizes.shapes 2) →
+      ShapesAnswer (read_shapes sizes words sizes.shapes 2) (turned_down n p) table
   no-parts n p table e =
       record { read = e; table = λ all o. refused-read (read_shapes sizes words sizes.shapes 2) all e o }
 
   pub filling-refused :
-      {r : Read} {row : List ℕ} (n p : ℕ) (table : List ℕ) → t < sizes.shapes → r ≡ Refused n p →
+      {r : Reading ℕ} {row : List ℕ} (n p : ℕ) (table : List ℕ) → t < sizes.shapes → r ≡ turned_down n p →
       ShapeAnswer (read_shape sizes words at) r row →
-      ShapesAnswer (read_shapes sizes words sizes.shapes 2) (Refused n p) table
+      ShapesAnswer (read_shapes sizes words sizes.shapes 2) (turned_down n p) table
   filling-refused n p table h q read =
       let o : sizes.shapes - t ≡ suc (sizes.shapes - t - 1) = omega arith in
       no-parts n p table
       (shapes-refused sizes words (sizes.shapes - t - 1) at n p (sym q ∙ read.read)
-      ∙ ap (λ (m : ℕ). read_of (read_shapes sizes words m at)) (sym o) ∙ f.answer)
+      ∙ ap (λ (m : ℕ). next_of (read_shapes sizes words m at)) (sym o) ∙ f.answer)
 
   pub filling-more :
       sizes.shapes ≤ t → at < length words →
-      ShapesAnswer (read_shapes sizes words sizes.shapes 2) (Refused 12 at) names
+      ShapesAnswer (read_shapes sizes words sizes.shapes 2) (turned_down 12 at) names
   filling-more h i =
       no-parts 12 at names (shapes-more sizes words (sizes.shapes - t) at (omega arith) i ∙ f.answer)
 
   pub filling-end :
       sizes.shapes ≤ t → length words ≤ at →
-      ShapesAnswer (read_shapes sizes words sizes.shapes 2) (Next at) names
+      ShapesAnswer (read_shapes sizes words sizes.shapes 2) (accepted at) names
   filling-end h i = record {
     read = shapes-end sizes words (sizes.shapes - t) at (omega arith) i ∙ f.answer;
     table = λ all q s k j l.

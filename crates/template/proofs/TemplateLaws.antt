@@ -13,23 +13,21 @@ use Rattle.words.specs.Limits.{max_kinds, max_shapes, max_template}
 use Rattle.words.specs.Reading.{Reading, accepted, turned_down, mapped, said_of}
 use Rattle.words.proofs.Said.{values-refusal}
 use Rattle.words.proofs.Readings.{accepted-same, accepted-turned}
-use Rattle.parts.specs.declared.Read.{Read}
-use Rattle.parts.specs.declared.Read.TheVariants.{Next, Refused}
 use Rattle.parts.specs.Placed.{Placed}
 use Rattle.template.specs.Template.{read_shapes, Template, sizes_of, template_of, read_template, template_values}
 use Rattle.template.specs.Template.{template_says}
-use Rattle.template.specs.Machine.{read_of, Tabled, ShapesAnswer}
+use Rattle.template.specs.Machine.{next_of, Tabled, ShapesAnswer}
 use Rattle.template.proofs.ShapeLaws.{next-refused}
 
 -- The template's answer after its counts.
 counts-next :
-    (kinds shapes m : ℕ) (x : Reading (Placed (List Part))) → Next m ≡ read_of x →
+    (kinds shapes m : ℕ) (x : Reading (Placed (List Part))) → accepted m ≡ next_of x →
     values (kinds ∷ shapes ∷ []) ≡ said_of template_values (mapped (template_of kinds shapes) x)
 counts-next kinds shapes m (accepted p) e = refl
 counts-next kinds shapes m (turned_down n p) e = next-refused e
 
 counts-refused :
-    (kinds shapes n p : ℕ) (x : Reading (Placed (List Part))) → Refused n p ≡ read_of x →
+    (kinds shapes n p : ℕ) (x : Reading (Placed (List Part))) → turned_down n p ≡ next_of x →
     refusal n (p ∷ []) ≡ said_of template_values (mapped (template_of kinds shapes) x)
 counts-refused kinds shapes n p (accepted q) e = next-refused (sym e)
 counts-refused kinds shapes n p (turned_down m q) e =
@@ -46,7 +44,7 @@ template-shapes-read kinds shapes (accepted p) t e = (p, refl, sym (accepted-sam
 template-shapes-read kinds shapes (turned_down n p) t e = accepted-turned (sym e)
 
 -- What the template's answer says, and the names of its shapes in the table.
-abbrev TemplateRead : List ℕ → Said → List ℕ → Type 0
+abbrev pub TemplateRead : List ℕ → Said → List ℕ → Type 0
 TemplateRead words said table =
     (said ≡ template_says words) × ((t : Template) → read_template words ≡ accepted t → Tabled t.parts table)
 
@@ -103,7 +101,7 @@ module _ (words table : List ℕ) where
               template-by = simp (le-ltb _ _ h, le-ltb _ _ i, le-ltb _ _ j, le-ltb _ _ k, le-ltb _ _ l, le-ltb _ _ m)
 
               pub template-refused :
-                  {r : Read} {names : List ℕ} (n p : ℕ) → r ≡ Refused n p → ShapesAnswer shapes-read r names →
+                  {r : Reading ℕ} {names : List ℕ} (n p : ℕ) → r ≡ turned_down n p → ShapesAnswer shapes-read r names →
                   TemplateRead words (refusal n (p ∷ [])) table
               unfolding template_says
               template-refused n p q read =
@@ -112,7 +110,7 @@ module _ (words table : List ℕ) where
                   ∙ ap (said_of template_values) template-by)
 
               pub template-counts :
-                  {r : Read} (n : ℕ) → r ≡ Next n → ShapesAnswer shapes-read r table →
+                  {r : Reading ℕ} (n : ℕ) → r ≡ accepted n → ShapesAnswer shapes-read r table →
                   TemplateRead words (values (get_or words 0 0 ∷ get_or words 1 0 ∷ [])) table
               unfolding template_says
               template-counts n o read = (

@@ -1,11 +1,11 @@
--- What each case of the enum `TemplateAnswer` says (docs/FORMAT.md, "Operations").
+-- What the answer to reading a template says (docs/FORMAT.md, "Operations").
 -- Assumes nothing.
-use Rattle.words.specs.Said.{Said, values, refusal}
-use Rattle.std.specs.Prelude.{[], ◌∷◌}
-use Rattle.template.specs.declared.TemplateAnswer.{TemplateAnswer}
-use Rattle.template.specs.declared.TemplateAnswer.TheVariants.{Counts, Refused}
+use Rattle.words.specs.Said.{Said, values}
+use Rattle.words.specs.Refused.{said_by}
+use Rattle.words.specs.declared.refusal.Refusal.{Refusal}
+use Rattle.std.specs.Prelude.{[], ◌∷◌, Result}
+use Rattle.parts.specs.declared.Sizes.{Sizes}
 
--- Counts: of kinds and of shapes. Refused: the number, 1 to 12 or 64, and the index of the word at fault.
-abbrev pub template_said : TemplateAnswer → Said
-template_said (Counts kinds shapes) = values (kinds ∷ shapes ∷ [])
-template_said (Refused number place) = refusal number (place ∷ [])
+-- The counts of kinds and of shapes; or a number, 1 to 12 or 64, and the index of the word at fault.
+abbrev pub template_said : Result Sizes Refusal → Said
+template_said = said_by (λ sizes. values (sizes.kinds ∷ sizes.shapes ∷ []))

@@ -1,5 +1,5 @@
 -- What the functions that read shapes, and fill the table of names, go by; no part of a promise.
--- read_of                          what the code answers for a shape, or for all shapes
+-- next_of                          what the code answers for a shape, or for all shapes
 -- ShapeReadAsked, ShapeAnswer     what the readers of a shape ask; what they answer and leave in its row
 -- entry_at, Tabled                 an entry of the table of names; the table has the shapes that each shape names
 -- ShapesReadAsked, ShapesAnswer   what the reader of all shapes asks; what it answers and leaves in the table
@@ -7,19 +7,16 @@
 use Rattle.std.specs.Prelude.{ℕ, ◌+◌, ◌*◌, ◌≤◌, ◌<◌, ◌≡◌, List, length, get_or, replicate}
 use Rattle.words.specs.Limits.{max_kinds, max_labels, max_shapes}
 use Rattle.words.specs.Sizes.{table_size}
-use Rattle.words.specs.Reading.{Reading, accepted, turned_down}
+use Rattle.words.specs.Reading.{Reading, accepted, mapped}
 use Rattle.bags.specs.Part.{Part}
 use Rattle.bags.specs.Named.{named}
-use Rattle.parts.specs.declared.Read.{Read}
-use Rattle.parts.specs.declared.Read.TheVariants.{Next, Refused}
 use Rattle.parts.specs.declared.Sizes.{Sizes}
 use Rattle.parts.specs.Placed.{Placed}
 use Rattle.parts.specs.Reading.{no_names}
 
--- The code's answer for a shape, or for all shapes: all but what was read.
-abbrev pub read_of : {A : Type 0} → Reading (Placed A) → Read
-read_of (accepted read) = Next read.next
-read_of (turned_down number place) = Refused number place
+-- What the code answers for a shape, or for all shapes: the next place, and no more of what was read.
+abbrev pub next_of : {A : Type 0} → Reading (Placed A) → Reading ℕ
+next_of reading = mapped (λ read. read.next) reading
 
 -- The counts are within their limits, and the row names nothing.
 pub record ShapeReadAsked (sizes : Sizes) (row : List ℕ) : Type 0 where
@@ -28,8 +25,8 @@ pub record ShapeReadAsked (sizes : Sizes) (row : List ℕ) : Type 0 where
   pub unnamed : row ≡ no_names
 
 -- The answer is the reading's, and the row has the names of the shape that was read.
-pub record ShapeAnswer (reading : Reading (Placed Part)) (answer : Read) (row : List ℕ) : Type 0 where
-  pub read : answer ≡ read_of reading
+pub record ShapeAnswer (reading : Reading (Placed Part)) (answer : Reading ℕ) (row : List ℕ) : Type 0 where
+  pub read : answer ≡ next_of reading
   pub names : (p : Placed Part) → reading ≡ accepted p → (k : ℕ) → get_or row k 0 ≡ named p.value k
 
 -- The entry of the shape t for the label k.
@@ -48,6 +45,6 @@ pub record ShapesReadAsked (sizes : Sizes) (names : List ℕ) : Type 0 where
   pub unnamed : names ≡ replicate table_size 0
 
 -- The answer is the reading's, and the table has the names of all shapes that were read.
-pub record ShapesAnswer (reading : Reading (Placed (List Part))) (answer : Read) (names : List ℕ) : Type 0 where
-  pub read : answer ≡ read_of reading
+pub record ShapesAnswer (reading : Reading (Placed (List Part))) (answer : Reading ℕ) (names : List ℕ) : Type 0 where
+  pub read : answer ≡ next_of reading
   pub table : (p : Placed (List Part)) → reading ≡ accepted p → Tabled p.value names

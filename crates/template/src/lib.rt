@@ -5,26 +5,22 @@
 ghost use Rattle.std.specs.Prelude.{◌≡◌, ◌+◌, ◌<◌, length, replicate};
 ghost use Rattle.words.specs.Sizes.{table_size};
 ghost use Rattle.words.specs.Reading.{accepted};
+ghost use Rattle.words.specs.Refused.{read_as};
 ghost use Rattle.template.specs.Answer.{template_said};
 ghost use Rattle.template.specs.Template.{open_at, part_at, read_shape, read_shapes, Template, read_template};
 ghost use Rattle.template.specs.Template.{template_says};
 ghost use Rattle.template.specs.Machine.{ShapeReadAsked, ShapeAnswer, Tabled, ShapesReadAsked, ShapesAnswer};
 
-use parts::{Read, Sizes, part};
-use words::{MAX_DEPTH, MAX_KINDS, MAX_LABELS, MAX_SHAPES, MAX_TEMPLATE, TABLE_SIZE, wide};
+use parts::{Sizes, part};
+use words::{
+    Fault, MAX_DEPTH, MAX_KINDS, MAX_LABELS, MAX_SHAPES, MAX_TEMPLATE, Refusal, TABLE_SIZE, wide,
+};
 
 // A template's words and the next place to read.
 #[derive(Clone, Copy)]
 struct Reader<'a> {
     words: &'a [u16],
     at: usize,
-}
-
-// A template's counts of kinds and of shapes, or what it is refused for: number and place.
-#[derive(Clone, Copy)]
-pub enum TemplateAnswer {
-    Counts(u16, u16),
-    Refused(u16, usize),
 }
 
 // Whether the shape whose count of words stands at `at` is open: the word after the count is 18.
@@ -44,117 +40,87 @@ pub fn part_at(words: &[u16], at: usize) -> usize
 }
 
 // The shape whose count of words stands at `at`. The row then has the shape that it names for each label.
-fn shape_at(words: &[u16], at: usize, sizes: Sizes, row: &mut [u8]) -> Read
+fn shape_at(words: &[u16], at: usize, sizes: Sizes, row: &mut [u8]) -> Result<usize, Refusal>
     requires { ShapeReadAsked sizes row.old }
-    ensures { ShapeAnswer (read_shape sizes words.now at) result row.new }
+    ensures { ShapeAnswer (read_shape sizes words.now at) (read_as result) row.new }
 {
     if words.len() <= at {
-        return Read::Refused(4, words.len());
+        return Err(Refusal(Fault::MissingWord, words.len()));
     }
     let count = wide(words[at]);
     let start = at + 1;
     if words.len() - start < count {
-        return Read::Refused(4, words.len());
+        return Err(Refusal(Fault::MissingWord, words.len()));
     }
     if count == 0 {
-        return Read::Refused(4, start);
+        return Err(Refusal(Fault::MissingWord, start));
     }
     let end = start + count;
     let first = part_at(words, at);
-    let whole = part(words, first, end, sizes, MAX_DEPTH, row);
-    match whole {
-        Read::Next(next) => {
-            if next < end {
-                Read::Refused(12, next)
-            } else {
-                Read::Next(end)
-            }
-        }
-        Read::Refused(number, place) => Read::Refused(number, place),
+    let next = part(words, first, end, sizes, MAX_DEPTH, row)?;
+    if next < end {
+        return Err(Refusal(Fault::WordsLeft, next));
     }
+    Ok(end)
 }
 
 // The shape at a reader's place. The reader is taken apart.
-fn read_shape(reader: Reader, sizes: Sizes, row: &mut [u8]) -> Read
+fn read_shape(reader: Reader, sizes: Sizes, row: &mut [u8]) -> Result<usize, Refusal>
     requires { ShapeReadAsked sizes row.old }
-    ensures { ShapeAnswer (read_shape sizes reader.entry.words.now reader.entry.at) result
-        row.new }
+    ensures { ShapeAnswer (read_shape sizes reader.entry.words.now reader.entry.at) (read_as result) row.new }
 {
     shape_at(reader.words, reader.at, sizes, row)
 }
 
 // Makes the reader for the shape at `at`: who calls this one needs no reader.
-fn shape_from(words: &[u16], at: usize, sizes: Sizes, row: &mut [u8]) -> Read
+fn shape_from(words: &[u16], at: usize, sizes: Sizes, row: &mut [u8]) -> Result<usize, Refusal>
     requires { ShapeReadAsked sizes row.old }
-    ensures { ShapeAnswer (read_shape sizes words.now at) result row.new }
+    ensures { ShapeAnswer (read_shape sizes words.now at) (read_as result) row.new }
 {
     read_shape(Reader { words, at }, sizes, row)
 }
 
 // All shapes, and then the template's end. A table that is all 0 gets a row for each shape.
-fn all_shapes(words: &[u16], sizes: Sizes, names: &mut [u8]) -> Read
+fn all_shapes(words: &[u16], sizes: Sizes, names: &mut [u8]) -> Result<usize, Refusal>
     requires { ShapesReadAsked sizes names.old }
-    ensures { ShapesAnswer (read_shapes sizes words.now sizes.shapes 2) result names.new }
+    ensures { ShapesAnswer (read_shapes sizes words.now sizes.shapes 2) (read_as result) names.new }
 {
-    let shapes = wide(sizes.shapes);
     let mut at = 2;
-    let mut t = 0;
-    while t < shapes {
+    for t in 0..wide(sizes.shapes) {
         let base = t * MAX_LABELS;
-        let end = base + MAX_LABELS;
-        let first = shape_from(words, at, sizes, &mut names[base..end]);
-        match first {
-            Read::Next(next) => {
-                at = next;
-                t += 1;
-            }
-            Read::Refused(number, place) => {
-                return Read::Refused(number, place);
-            }
-        }
+        at = shape_from(words, at, sizes, &mut names[base..base + MAX_LABELS])?;
     }
     if at < words.len() {
-        return Read::Refused(12, at);
+        return Err(Refusal(Fault::WordsLeft, at));
     }
-    Read::Next(at)
+    Ok(at)
 }
 
 // Reads a template and fills the table of names, which is all 0 before.
-pub fn read_names(template: &[u16], names: &mut [u8]) -> TemplateAnswer
+pub fn read_names(template: &[u16], names: &mut [u8]) -> Result<Sizes, Refusal>
     requires { names.old ≡ replicate table_size 0 }
     ensures answer { template_said result ≡ template_says template.now }
     ensures table { (t : Template) → read_template template.now ≡ accepted t
         → Tabled t.parts names.new }
 {
-    if template.len() < 2 {
-        return TemplateAnswer::Refused(1, 0);
-    }
-    if MAX_TEMPLATE < template.len() {
-        return TemplateAnswer::Refused(1, 0);
+    if template.len() < 2 || MAX_TEMPLATE < template.len() {
+        return Err(Refusal(Fault::TemplateLength, 0));
     }
     let kinds = template[0];
-    if kinds < 1 {
-        return TemplateAnswer::Refused(2, 0);
-    }
-    if MAX_KINDS < wide(kinds) {
-        return TemplateAnswer::Refused(2, 0);
+    if kinds < 1 || MAX_KINDS < wide(kinds) {
+        return Err(Refusal(Fault::KindCount, 0));
     }
     let shapes = template[1];
-    if shapes < 1 {
-        return TemplateAnswer::Refused(3, 1);
+    if shapes < 1 || MAX_SHAPES < wide(shapes) {
+        return Err(Refusal(Fault::ShapeCount, 1));
     }
-    if MAX_SHAPES < wide(shapes) {
-        return TemplateAnswer::Refused(3, 1);
-    }
-    let all = all_shapes(template, Sizes { kinds, shapes }, names);
-    match all {
-        Read::Next(_) => TemplateAnswer::Counts(kinds, shapes),
-        Read::Refused(number, place) => TemplateAnswer::Refused(number, place),
-    }
+    let sizes = Sizes { kinds, shapes };
+    all_shapes(template, sizes, names)?;
+    Ok(sizes)
 }
 
 // Read a template: its counts of kinds and shapes, or the first refusal.
-pub fn read_template(template: &[u16]) -> TemplateAnswer
+pub fn read_template(template: &[u16]) -> Result<Sizes, Refusal>
     ensures { template_said result ≡ template_says template.now }
 {
     let mut names = [0u8; TABLE_SIZE];

@@ -5,11 +5,11 @@ use mathlib.Core.Path.{◌≡◌, refl}
 use Rattle.words.specs.Limits.{max_labels}
 use Rattle.template.proofs.Accepted.{template-accepted}
 use Rattle.template.proofs.Answers.{template-read}
-use Rattle.counts.proofs.Fitting.{fits-asks, fit-shape, fit_length, fit-over, fit-yes, fit-no}
+use Rattle.counts.proofs.Fitting.{fits-asks, fit-shape, fit_length, fit-over, fit-tested}
 use Rattle.counts.proofs.fit_accepted.Goals as goal
 
-pub returns-then-shapes-n : goal.returns-then-shapes-n
-returns-then-shapes-n c =
+pub returns-then-sizes-n : goal.returns-then-sizes-n
+returns-then-sizes-n c =
     let (t, e, kinds, shapes) = template-read _ _ _ c.requires.said in
     fit-shape _ _ _ t e (omega arith)
 
@@ -18,10 +18,10 @@ returns-then-counts-each_way c =
     let (t, e, kinds, shapes) = template-read _ _ _ c.requires.said in
     fit_length _ _ _ t e (omega arith) (omega arith)
 
-pub returns-then-over-counts : goal.returns-then-over-counts
-returns-then-over-counts c =
+pub returns-in-Some : goal.returns-in-Some
+returns-in-Some c =
     let (t, e, kinds, shapes) = template-read _ _ _ c.requires.said in
-    fit-over _ _ _ t e (omega arith) (omega arith) _ c.first_over-over.ensures c.if-over-counts.true
+    fit-over _ _ _ t e (omega arith) (omega arith) _ (c.in-Some.ensures).1 (c.in-Some.ensures).0
 
 pub spread-requires : goal.spread-requires
 spread-requires c =
@@ -45,16 +45,8 @@ list_fits-requires c =
     fits-asks _ t e _ (omega arith) c.args.names.now _ _ _ _ _ (c.requires.table t e) c.requires.size
     c.spread.ensures.full (omega arith) c.shape_place-at.ensures base size
 
-pub returns-then-list_fits : goal.returns-then-list_fits
-returns-then-list_fits c =
+pub returns : goal.returns
+returns c =
     let (t, e, kinds, shapes) = template-read _ _ _ c.requires.said in
-    fit-yes _ _ _ t e (omega arith) (omega arith) _ c.first_over-over.ensures c.if-over-counts.false _ _ _
-    (omega arith) c.spread.ensures c.shape_place-at.ensures _
-    c.list_fits.ensures c.if-list_fits.true
-
-pub returns-else-list_fits : goal.returns-else-list_fits
-returns-else-list_fits c =
-    let (t, e, kinds, shapes) = template-read _ _ _ c.requires.said in
-    fit-no _ _ _ t e (omega arith) (omega arith) _ c.first_over-over.ensures c.if-over-counts.false _ _ _
-    (omega arith) c.spread.ensures c.shape_place-at.ensures _
-    c.list_fits.ensures c.if-list_fits.false
+    fit-tested _ _ _ t e (omega arith) (omega arith) _ refl (omega (arith, c.in_default.ensures)) _ _ _
+    (omega arith) c.spread.ensures c.shape_place-at.ensures _ c.list_fits.ensures

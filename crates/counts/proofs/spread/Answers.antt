@@ -1,4 +1,4 @@
--- `spread` meets its contract. The invariant is `Spreading` of proofs/Spreading, the measure the kinds left.
+-- `spread` meets its contract. The invariant is `Spreading` of proofs/Spreading.
 -- Assumes nothing.
 use native.Mathlib.Omega.{arith}
 use lib.ListN.{length-set}

@@ -2,14 +2,15 @@
 -- starts with a part at its own place. A law of proofs/Laws answers each return of `part`. The invariant of `run` is
 -- `Remaining` of proofs/Remaining, its measure the parts left.
 -- Assumes nothing.
-use Prim.Native.Nat.{ℕ}
+use Prim.Native.Nat.{ℕ, ◌+◌, ◌-◌}
+use mathlib.Core.Path.{◌≡◌}
+use Rattle.std.proofs.lemmas.Result.{err_from_is_err_and}
 use native.Mathlib.Omega.{arith}
 use Rattle.parts.proofs.Laws.{part-missing, part-deep, Coded, part-nothing, part-single, part_low, part-open}
 use Rattle.parts.proofs.Laws.{part-middle, part-outgoing, part-incoming, part-high, group-short, group-few}
 use Rattle.parts.proofs.Laws.{group-many, group-run}
 use Rattle.parts.proofs.Remaining.{remaining-start, remaining-next, remaining-refused}
 use Rattle.parts.proofs.Remaining.{remaining-end}
-use borrow.Author.Rules.{rules}
 use Rattle.parts.proofs.+part_run.Goals as goal
 use Rattle.parts.proofs.+part_run.Goals.{part-After-shared_slice_known-2-1}
 
@@ -85,28 +86,24 @@ pub part-returns-in_default : goal.part-returns-in_default
 part-returns-in_default t c = part-high (coded t (goal.at.part-returns-in_default t
     c).After-shared_slice_known-2-1) (omega arith)
 
-pub run-loop-more-init : goal.run-loop-more-init
-run-loop-more-init t c =
-    remaining-start c.args.left c.args.words.now c.args.end c.args.sizes c.args.count
-    c.args.at c.args.row.now
+pub run-loop-init : goal.run-loop-init
+run-loop-init t c =
+    let all : c.args.count - 0 ≡ c.args.count = omega arith in
+    rw all
+    (remaining-start c.args.left c.args.words.now c.args.end c.args.sizes c.args.count
+    c.args.at c.args.row.now)
 
-pub run-loop-more-preserved : goal.run-loop-more-preserved
-run-loop-more-preserved t c =
-    remaining-next c.loop-more.invariant c.part-first.new.row c.loop-more-test.true
-    c.part-first.ensures _ c.in-Next.is c.row-1.given
+pub run-loop-preserved : goal.run-loop-preserved
+run-loop-preserved t c =
+    let one_less : c.args.count - (c.loop.counter + 1) ≡ c.args.count - c.loop.counter - 1 = omega arith in
+    rw one_less
+    (remaining-next c.loop.invariant c.part.new.row (omega arith) c.in_ok-next.next c.in_ok-next.ensures c.part.auto.row)
 
-pub run-shape_of-row-in-Refused : goal.run-shape_of-row-in-Refused
-run-shape_of-row-in-Refused t c =
-    let size = c.loop-more.invariant.size in
-    search rules
-
-pub run-returns-in-Refused : goal.run-returns-in-Refused
-run-returns-in-Refused t c =
-    remaining-refused c.loop-more.invariant c.part-first.new.row c.loop-more-test.true
-    c.part-first.ensures _ _ c.in-Refused.is
-
-pub run-shape_of-row : goal.run-shape_of-row
-run-shape_of-row t c = c.loop-more.invariant.size
+pub run-returns-in_err-next : goal.run-returns-in_err-next
+run-returns-in_err-next t c =
+    let p = err_from_is_err_and c.from_residual.result c.from_residual.ensures.1 in
+    rw (p.1, p.2)
+    (remaining-refused c.loop.invariant c.part.new.row (omega arith) _ _ c.in_err-next.ensures)
 
 pub run-returns : goal.run-returns
-run-returns t c = remaining-end c.loop-more.invariant (omega arith)
+run-returns t c = remaining-end c.loop.invariant (omega arith)

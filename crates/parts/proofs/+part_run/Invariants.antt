@@ -1,5 +1,5 @@
 -- The cycle of calls {part, run}. The measure is twice the words left, and one more for a run, which starts with a part
--- at its own place. The invariant of `run` is `Remaining` of proofs/Remaining, its measure the parts left.
+-- at its own place. The invariant of `run` is `Remaining` of proofs/Remaining, of the parts left.
 -- Assumes nothing.
 use Prim.Native.Nat.{◌+◌, ◌-◌, ◌*◌}
 use Rattle.parts.proofs.Remaining.{Remaining}
@@ -12,9 +12,6 @@ abbrev pub decreases-run : goal.decreases-run
 decreases-run l = 2 * (l.end - l.at) + 1
 
 -- what holds before each turn of `run`
-abbrev pub invariant-run-loop-more : goal.invariant-run-loop-more
-invariant-run-loop-more l =
-    Remaining l.left l.words l.end l.sizes l.count l.at l.initial.row l.more l.next l.row
-
-abbrev pub decreases-run-loop-more : goal.decreases-run-loop-more
-decreases-run-loop-more l = l.more
+abbrev pub invariant-run-loop : goal.invariant-run-loop
+invariant-run-loop l =
+    Remaining l.left l.words l.end l.sizes l.count l.at l.initial.row (l.count - l.counter) l.next l.row

@@ -12,42 +12,44 @@ use Rattle.script.proofs.links_of_card.Goals as goal
 at-word : {a b : ℕ} (base : ℕ) → a ≡ b → a * 2 + base ≡ b * 2 + base
 at-word base e = ap (λ (x : ℕ). x * 2 + base) e
 
-pub returns-then-cards-number : goal.returns-then-cards-number
-returns-then-cards-number c =
-    let both = both_read _ _ _ _ (sym (ap script_said c.in-Counts.is) ∙ c.read_script-read.ensures) in
-    let outside = c.if-cards-number.true in record {
+pub card_part-requires : goal.card_part-requires
+card_part-requires c =
+    let both = both_read _ _ _ _ (sym (ap script_said c.in-Ok.is) ∙ c.read_script.ensures) in
+    record {
+      ascending = subst (Ascending _) (sym c.wide.ensures.same) both.read.ascending;
+      small = c.wide-in-Ok.ensures.small;
+    }
+
+pub returns-in-Ok : goal.returns-in-Ok
+returns-in-Ok c =
+    let both = both_read _ _ _ _ (sym (ap script_said c.in-Ok.is) ∙ c.read_script.ensures) in
+    let inside = c.if-card-sizes.true in
+    let part = c.card_part.ensures in
+    record {
+      list =
+          part.list
+          ∙ rw (c.wide-in-Ok.ensures.same, c.wide.ensures.same) (card-links-part _ _ _ _ _ both inside);
+      lent = part.lent;
+      place =
+          part.place
+          ∙ rw (c.wide-in-Ok.ensures.same, c.wide.ensures.same) (at-word _ (links-start-part _ _ _ _ _ both inside));
+    }
+
+pub returns-in-Ok-2 : goal.returns-in-Ok-2
+returns-in-Ok-2 c =
+    let both = both_read _ _ _ _ (sym (ap script_said c.in-Ok.is) ∙ c.read_script.ensures) in
+    let outside = c.if-card-sizes.false in
+    record {
       list = card-links-outside _ _ _ _ _ both outside;
       lent = refl;
       place = at-word _ (links-start-outside _ _ _ _ _ both outside);
     }
 
-pub card_part-requires : goal.card_part-requires
-card_part-requires c =
-    let both = both_read _ _ _ _ (sym (ap script_said c.in-Counts.is) ∙ c.read_script-read.ensures) in
+pub returns-in-Err : goal.returns-in-Err
+returns-in-Err c =
+    let said = sym (ap script_said c.in-Err.is) ∙ c.read_script.ensures in
     record {
-      ascending = subst (Ascending _) (sym c.wide.ensures.same) both.read.ascending;
-      small = c.wide-in-Counts.ensures.small;
-    }
-
-pub returns-else-cards-number : goal.returns-else-cards-number
-returns-else-cards-number c =
-    let both = both_read _ _ _ _ (sym (ap script_said c.in-Counts.is) ∙ c.read_script-read.ensures) in
-    let inside = c.if-cards-number.false in
-    let words = card-links-part _ _ _ _ _ both inside in
-    let start = at-word _ (links-start-part _ _ _ _ _ both inside) in
-    let part = c.card_part.ensures in record {
-      list =
-          part.list ∙ rw (c.wide-in-Counts.ensures.same, c.wide.ensures.same) words;
-      lent = part.lent;
-      place =
-          part.place ∙ rw (c.wide-in-Counts.ensures.same, c.wide.ensures.same) start;
-    }
-
-pub returns-in-Refused : goal.returns-in-Refused
-returns-in-Refused c =
-    let said = sym (ap script_said c.in-Refused.is) ∙ c.read_script-read.ensures in record {
-      list = card-links-none
-          _ _ _ _ _ said;
+      list = card-links-none _ _ _ _ _ said;
       lent = refl;
       place = at-word _ (links-start-none _ _ _ _ _ said);
     }

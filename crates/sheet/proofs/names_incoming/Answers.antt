@@ -9,7 +9,7 @@ use Rattle.sheet.proofs.Ways.{none-outgoing, more-outgoing}
 use Rattle.sheet.proofs.names_incoming.Goals as goal
 
 pub loop-t-init : goal.loop-t-init
-loop-t-init c = (omega arith, none-outgoing c.args.names.now c.args.kinds)
+loop-t-init c = none-outgoing c.args.names.now c.args.kinds
 
 pub returns-then-some_named : goal.returns-then-some_named
 returns-then-some_named c e = never_both refl e
@@ -18,11 +18,9 @@ pub loop-t-preserved : goal.loop-t-preserved
 loop-t-preserved c =
     let names = c.args.names.now in
     let base = c.loop-t.t * max_labels + max_kinds in
-    let size = mid_len base (base + c.args.kinds) names (omega arith) in (
-      omega arith,
-      more-outgoing names c.args.kinds c.loop-t.t base (base + c.args.kinds - base) refl (omega arith)
-          (λ k h. c.some_named.ensures c.if-some_named.false k (omega (arith, size))) c.loop-t.invariant.1,
-    )
+    let size = mid_len base (base + c.args.kinds) names (omega arith) in
+    more-outgoing names c.args.kinds c.loop-t.t base (base + c.args.kinds - base) refl (omega arith)
+    (λ k h. c.some_named.ensures c.if-some_named.false k (omega (arith, size))) c.loop-t.invariant
 
 pub returns : goal.returns
-returns c e t k lt lk = c.loop-t.invariant.1 t k (omega arith) lk
+returns c e t k lt lk = c.loop-t.invariant t k (omega arith) lk

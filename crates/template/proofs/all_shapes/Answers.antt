@@ -1,9 +1,11 @@
--- `template::all_shapes` meets its contract. The invariant is `Filling` of proofs/Table, the measure the shapes left.
+-- `template::all_shapes` meets its contract. The invariant is `Filling` of proofs/Table.
 -- Assumes nothing.
 use Prim.Native.Nat.{◌<◌}
 use mathlib.Core.Path.{ap}
 use native.Mathlib.Omega.{arith}
 use lib.ListN.{length}
+use Rattle.words.specs.Refused.{read_as}
+use Rattle.std.proofs.lemmas.Result.{err_from_is_err_and}
 use Rattle.template.proofs.Table.{filling-start, filling-row, filling-next, filling-refused}
 use Rattle.template.proofs.Table.{filling-more, filling-end}
 use borrow.Author.Rules.{rules}
@@ -12,36 +14,38 @@ use Rattle.template.proofs.all_shapes.Goals.{In-loop-t}
 
 -- a turn's shape is one of the template's
 below : (c : In-loop-t) → c.loop-t.t < c.args.sizes.shapes
-below c = omega (arith, c.wide-shapes.ensures.same, c.loop-t-test.true)
+below c = omega (arith, c.wide-t-end.ensures.same, c.loop-t-test.true)
 
 pub loop-t-init : goal.loop-t-init
 loop-t-init c =
     filling-start c.args.sizes c.args.words.now c.args.names.now c.requires.unnamed
 
-pub shape_from-first-requires : goal.shape_from-first-requires
-shape_from-first-requires c =
+pub shape_from-requires : goal.shape_from-requires
+shape_from-requires c =
     record {
       kinds-high = c.requires.kinds-high;
       shapes-high = c.requires.shapes-high;
-      unnamed = filling-row c.loop-t.invariant (below (goal.at.shape_from-first-requires c).In-loop-t)
+      unnamed = filling-row c.loop-t.invariant (below (goal.at.shape_from-requires c).In-loop-t)
           c.requires.shapes-high;
     }
 
 pub loop-t-preserved : goal.loop-t-preserved
 loop-t-preserved c =
     filling-next c.loop-t.invariant (below (goal.at.loop-t-preserved c).In-loop-t) c.requires.shapes-high
-    c.shape_from-first.new.row _ c.names-1.given.0
-    c.in-Next.is c.shape_from-first.ensures
+    c.shape_from.new.row _ c.shape_from.auto.row
+    (ap read_as c.in_ok-at.was) c.shape_from.ensures
 
-pub shape_of-names-in-Refused : goal.shape_of-names-in-Refused
-shape_of-names-in-Refused c =
+pub shape_of-names-in_err-at : goal.shape_of-names-in_err-at
+shape_of-names-in_err-at c =
     let e = ap length c.requires.unnamed in
     search rules
 
-pub returns-in-Refused : goal.returns-in-Refused
-returns-in-Refused c =
-    filling-refused c.loop-t.invariant _ _ _ (below (goal.at.returns-in-Refused c).In-loop-t) c.in-Refused.is
-    c.shape_from-first.ensures
+pub returns-in_err-at : goal.returns-in_err-at
+returns-in_err-at c =
+    let p = err_from_is_err_and c.from_residual.result c.from_residual.ensures.1 in
+    rw (p.1, p.2)
+    (filling-refused c.loop-t.invariant _ _ _ (below (goal.at.returns-in_err-at c).In-loop-t) (ap read_as
+    c.in_err-at.was) c.shape_from.ensures)
 
 pub shape_of-names-then-at-words : goal.shape_of-names-then-at-words
 shape_of-names-then-at-words c =

@@ -1,80 +1,95 @@
 -- `template::read_names` meets its contract: a law of proofs/TemplateLaws for each answer.
 -- Assumes nothing.
 use Prim.Native.Nat.{◌≤◌}
+use mathlib.Core.Path.{ap}
+use mathlib.Core.List.{[], ◌∷◌}
+use mathlib.Core.Logic.{⊎_elim}
 use native.Mathlib.Omega.{arith}
 use lib.ListN.{get_or}
+use Rattle.std.proofs.lemmas.Result.{err_from_is_err_and}
 use Rattle.words.specs.Limits.{max_kinds, max_shapes}
-use Rattle.template.proofs.TemplateLaws.{template-short, template-long, template-no-kinds, template-kinds}
-use Rattle.template.proofs.TemplateLaws.{template-no-shapes, template-shapes, template-counts, template-refused}
+use Rattle.words.specs.Refused.{read_as}
+use Rattle.words.specs.Said.{refusal}
+use Rattle.template.proofs.TemplateLaws.{TemplateRead, template-short, template-long, template-no-kinds}
+use Rattle.template.proofs.TemplateLaws.{template-kinds, template-no-shapes, template-shapes, template-counts}
+use Rattle.template.proofs.TemplateLaws.{template-refused}
 use Rattle.template.proofs.read_names.Goals as goal
+use Rattle.template.proofs.read_names.Goals.{Joined-then-template-lt2, Joined-then-kinds-lt1}
+use Rattle.template.proofs.read_names.Goals.{Joined-then-shapes-lt1}
 use Rattle.template.proofs.read_names.Goals.{Else-wide-gt-MAX_KINDS, Else-wide-gt-MAX_SHAPES}
+use Rattle.template.proofs.read_names.Goals.{then-kinds-lt1-via-then-kinds-lt1}
+use Rattle.template.proofs.read_names.Goals.{then-kinds-lt1-via-else-kinds-lt1+then-wide-gt-MAX_KINDS}
+use Rattle.template.proofs.read_names.Goals.{then-shapes-lt1-via-then-shapes-lt1}
+use Rattle.template.proofs.read_names.Goals.{then-shapes-lt1-via-else-shapes-lt1+then-wide-gt-MAX_SHAPES}
 
 few-kinds : (c : Else-wide-gt-MAX_KINDS) → get_or c.args.template.now 0 0 ≤ max_kinds
 few-kinds c = omega (arith, c.wide.ensures.same, c.if-wide-gt-MAX_KINDS.false)
 
 few-shapes : (c : Else-wide-gt-MAX_SHAPES) → get_or c.args.template.now 1 0 ≤ max_shapes
-few-shapes c = omega (arith, c.wide-2.ensures.same, c.if-wide-gt-MAX_SHAPES.false)
+few-shapes c = omega (arith, c.wide-else-shapes-lt1.ensures.same, c.if-wide-gt-MAX_SHAPES.false)
+
+-- the three tests of the counts, each of two parts
+lengths : (c : Joined-then-template-lt2) → TemplateRead c.args.template.now (refusal 1 (0 ∷ [])) c.args.names.now
+lengths c =
+    ⊎_elim (template-short c.args.template.now c.args.names.now)
+    (λ h. template-long c.args.template.now c.args.names.now h.0 h.1) c.then-template-lt2.either
+
+kinds : (c : Joined-then-kinds-lt1) → TemplateRead c.args.template.now (refusal 2 (0 ∷ [])) c.args.names.now
+kinds c =
+    elim c.then-kinds-lt1.branch [
+      | then-kinds-lt1-via-then-kinds-lt1 w ↦
+          template-no-kinds c.args.template.now c.args.names.now c.if-template-lt2.false
+          c.if-template-gt-MAX_TEMPLATE.false w.if-kinds-lt1.true
+      | then-kinds-lt1-via-else-kinds-lt1+then-wide-gt-MAX_KINDS w ↦
+          template-kinds c.args.template.now c.args.names.now c.if-template-lt2.false
+          c.if-template-gt-MAX_TEMPLATE.false w.if-kinds-lt1.false
+          (omega (arith, w.wide.ensures.same, w.if-wide-gt-MAX_KINDS.true))
+    ]
+
+shapes :
+    (c : Joined-then-shapes-lt1) → get_or c.args.template.now 0 0 ≤ max_kinds → TemplateRead c.args.template.now (refusal 3 (1 ∷ [])) c.args.names.now
+shapes c few =
+    elim c.then-shapes-lt1.branch [
+      | then-shapes-lt1-via-then-shapes-lt1 w ↦
+          template-no-shapes c.args.template.now c.args.names.now c.if-template-lt2.false
+          c.if-template-gt-MAX_TEMPLATE.false c.if-kinds-lt1.false few w.if-shapes-lt1.true
+      | then-shapes-lt1-via-else-shapes-lt1+then-wide-gt-MAX_SHAPES w ↦
+          template-shapes c.args.template.now c.args.names.now c.if-template-lt2.false
+          c.if-template-gt-MAX_TEMPLATE.false c.if-kinds-lt1.false few w.if-shapes-lt1.false
+          (omega (arith, w.wide-else-shapes-lt1.ensures.same, w.if-wide-gt-MAX_SHAPES.true))
+    ]
 
 pub returns-then-template-lt2 : goal.returns-then-template-lt2
 returns-then-template-lt2 c =
-    let told =
-    template-short c.args.template.now c.args.names.now c.if-template-lt2.true in record {
-      answer = told.0;
-      table =
-          told.1;
-    }
-
-pub returns-then-template-gt-MAX_TEMPLATE : goal.returns-then-template-gt-MAX_TEMPLATE
-returns-then-template-gt-MAX_TEMPLATE c =
-    let told =
-    template-long c.args.template.now c.args.names.now c.if-template-lt2.false c.if-template-gt-MAX_TEMPLATE.true
-    in record { answer = told.0; table = told.1 }
+    let told = lengths c in
+    record { answer = told.0; table = told.1 }
 
 pub returns-then-kinds-lt1 : goal.returns-then-kinds-lt1
 returns-then-kinds-lt1 c =
-    let told =
-    template-no-kinds c.args.template.now c.args.names.now c.if-template-lt2.false c.if-template-gt-MAX_TEMPLATE.false
-    c.if-kinds-lt1.true in record { answer = told.0; table = told.1 }
-
-pub returns-then-wide-gt-MAX_KINDS : goal.returns-then-wide-gt-MAX_KINDS
-returns-then-wide-gt-MAX_KINDS c =
-    let told =
-    template-kinds c.args.template.now c.args.names.now c.if-template-lt2.false c.if-template-gt-MAX_TEMPLATE.false
-    c.if-kinds-lt1.false (omega (arith, c.wide.ensures.same, c.if-wide-gt-MAX_KINDS.true)) in record {
-      answer =
-          told.0;
-      table = told.1;
-    }
+    let told = kinds c in
+    record { answer = told.0; table = told.1 }
 
 pub returns-then-shapes-lt1 : goal.returns-then-shapes-lt1
 returns-then-shapes-lt1 c =
-    let told =
-    template-no-shapes c.args.template.now c.args.names.now c.if-template-lt2.false c.if-template-gt-MAX_TEMPLATE.false
-    c.if-kinds-lt1.false (few-kinds (goal.at.returns-then-shapes-lt1 c).Else-wide-gt-MAX_KINDS)
-    c.if-shapes-lt1.true in record { answer = told.0; table = told.1 }
-
-pub returns-then-wide-gt-MAX_SHAPES : goal.returns-then-wide-gt-MAX_SHAPES
-returns-then-wide-gt-MAX_SHAPES c =
-    let told =
-    template-shapes c.args.template.now c.args.names.now c.if-template-lt2.false c.if-template-gt-MAX_TEMPLATE.false
-    c.if-kinds-lt1.false (few-kinds (goal.at.returns-then-wide-gt-MAX_SHAPES c).Else-wide-gt-MAX_KINDS)
-    c.if-shapes-lt1.false
-    (omega (arith, c.wide-2.ensures.same, c.if-wide-gt-MAX_SHAPES.true)) in record { answer = told.0; table = told.1 }
-
-pub returns-in-Next : goal.returns-in-Next
-returns-in-Next c =
-    let told =
-    template-counts c.args.template.now c.all_shapes-all.new.names c.if-template-lt2.false
-    c.if-template-gt-MAX_TEMPLATE.false c.if-kinds-lt1.false (few-kinds (goal.at.returns-in-Next
-    c).Else-wide-gt-MAX_KINDS) c.if-shapes-lt1.false
-    (few-shapes (goal.at.returns-in-Next c).Else-wide-gt-MAX_SHAPES) _ c.in-Next.is c.all_shapes-all.ensures in
+    let told = shapes c (few-kinds (goal.at.returns-then-shapes-lt1 c).Else-wide-gt-MAX_KINDS) in
     record { answer = told.0; table = told.1 }
 
-pub returns-in-Refused : goal.returns-in-Refused
-returns-in-Refused c =
+pub returns-in_err-all_shapes : goal.returns-in_err-all_shapes
+returns-in_err-all_shapes c =
     let told =
-    template-refused c.args.template.now c.all_shapes-all.new.names c.if-template-lt2.false
-    c.if-template-gt-MAX_TEMPLATE.false c.if-kinds-lt1.false (few-kinds (goal.at.returns-in-Refused
-    c).Else-wide-gt-MAX_KINDS) c.if-shapes-lt1.false
-    (few-shapes (goal.at.returns-in-Refused c).Else-wide-gt-MAX_SHAPES) _ _ c.in-Refused.is
-    c.all_shapes-all.ensures in record { answer = told.0; table = told.1 }
+    template-refused c.args.template.now c.all_shapes.new.names c.if-template-lt2.false
+    c.if-template-gt-MAX_TEMPLATE.false c.if-kinds-lt1.false
+    (few-kinds (goal.at.returns-in_err-all_shapes c).Else-wide-gt-MAX_KINDS) c.if-shapes-lt1.false
+    (few-shapes (goal.at.returns-in_err-all_shapes c).Else-wide-gt-MAX_SHAPES) _ _ (ap read_as c.in_err-all_shapes.was)
+    c.all_shapes.ensures in
+    let p = err_from_is_err_and c.from_residual.result c.from_residual.ensures.1 in
+    record { answer = rw (p.1, p.2) told.0; table = told.1 }
+
+pub returns : goal.returns
+returns c =
+    let told =
+    template-counts c.args.template.now c.all_shapes.new.names c.if-template-lt2.false
+    c.if-template-gt-MAX_TEMPLATE.false c.if-kinds-lt1.false (few-kinds (goal.at.returns c).Else-wide-gt-MAX_KINDS)
+    c.if-shapes-lt1.false (few-shapes (goal.at.returns c).Else-wide-gt-MAX_SHAPES) _ (ap read_as c.in_ok-all_shapes.was)
+    c.all_shapes.ensures in
+    record { answer = told.0; table = told.1 }

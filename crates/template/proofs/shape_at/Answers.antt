@@ -4,17 +4,19 @@ use Prim.Native.Nat.{◌+◌, ◌-◌, ◌≤◌, ◌<◌}
 use native.Mathlib.Omega.{arith}
 use mathlib.Core.Path.{ap}
 use lib.ListN.{length}
+use Rattle.words.specs.Refused.{read_as}
+use Rattle.std.proofs.lemmas.Result.{err_from_is_err_and}
 use Rattle.template.proofs.ShapeLaws.{shape-missing, shape-long, shape-empty, shape-left, shape-done}
 use Rattle.template.proofs.ShapeLaws.{shape-refused}
 use borrow.Author.Rules.{rules}
 use Rattle.template.proofs.shape_at.Goals as goal
-use Rattle.template.proofs.shape_at.Goals.{After-part-whole, After-wide-count}
+use Rattle.template.proofs.shape_at.Goals.{After-part, After-wide-count}
 
 -- the count stands inside the words, and so many words follow it
 inside : (c : After-wide-count) → c.args.at < length c.args.words.now
 inside c = omega arith
 
-follow : (p : After-part-whole) → p.wide-count.result ≤ length p.args.words.now - (p.args.at + 1)
+follow : (p : After-part) → p.wide-count.result ≤ length p.args.words.now - (p.args.at + 1)
 follow p = p.if-words-start.false
 
 pub returns-then-words-at : goal.returns-then-words-at
@@ -33,8 +35,8 @@ returns-then-count-eq0 c =
     c).After-wide-count)
     c.wide-count.ensures.same c.if-words-start.false c.args.row.now c.if-count-eq0.true
 
-pub part-whole-requires : goal.part-whole-requires
-part-whole-requires c =
+pub part-requires : goal.part-requires
+part-requires c =
     let e = ap length c.requires.unnamed in
     search rules
 
@@ -42,24 +44,26 @@ pub returns-then-next-end : goal.returns-then-next-end
 returns-then-next-end c =
     shape-left c.args.sizes c.args.words.now c.args.at c.wide-count.result (inside (goal.at.returns-then-next-end
     c).After-wide-count)
-    c.wide-count.ensures.same (follow (goal.at.returns-then-next-end c).After-part-whole) c.args.row.now
-    c.part_at-first.result c.part-whole.result _
-    c.requires.unnamed c.part_at-first.ensures c.part-whole.ensures _ c.in-Next.is
+    c.wide-count.ensures.same (follow (goal.at.returns-then-next-end c).After-part) c.args.row.now
+    c.part_at-first.result (read_as c.part.result) _
+    c.requires.unnamed c.part_at-first.ensures c.part.ensures _ (ap read_as c.in_ok-next.was)
     c.if-next-end.true
 
-pub returns-else-next-end : goal.returns-else-next-end
-returns-else-next-end c =
-    shape-done c.args.sizes c.args.words.now c.args.at c.wide-count.result (inside (goal.at.returns-else-next-end
+pub returns : goal.returns
+returns c =
+    shape-done c.args.sizes c.args.words.now c.args.at c.wide-count.result (inside (goal.at.returns
     c).After-wide-count)
-    c.wide-count.ensures.same (follow (goal.at.returns-else-next-end c).After-part-whole) c.args.row.now
-    c.part_at-first.result c.part-whole.result _
-    c.requires.unnamed c.part_at-first.ensures c.part-whole.ensures _ c.requires.kinds-high
-    c.in-Next.is c.if-next-end.false
+    c.wide-count.ensures.same (follow (goal.at.returns c).After-part) c.args.row.now
+    c.part_at-first.result (read_as c.part.result) _
+    c.requires.unnamed c.part_at-first.ensures c.part.ensures _ c.requires.kinds-high
+    (ap read_as c.in_ok-next.was) c.if-next-end.false
 
-pub returns-in-Refused : goal.returns-in-Refused
-returns-in-Refused c =
-    shape-refused c.args.sizes c.args.words.now c.args.at c.wide-count.result (inside (goal.at.returns-in-Refused
+pub returns-in_err-next : goal.returns-in_err-next
+returns-in_err-next c =
+    let p = err_from_is_err_and c.from_residual.result c.from_residual.ensures.1 in
+    rw (p.1, p.2)
+    (shape-refused c.args.sizes c.args.words.now c.args.at c.wide-count.result (inside (goal.at.returns-in_err-next
     c).After-wide-count)
-    c.wide-count.ensures.same (follow (goal.at.returns-in-Refused c).After-part-whole) c.args.row.now
-    c.part_at-first.result c.part-whole.result _
-    c.requires.unnamed c.part_at-first.ensures c.part-whole.ensures _ _ c.in-Refused.is
+    c.wide-count.ensures.same (follow (goal.at.returns-in_err-next c).After-part) c.args.row.now
+    c.part_at-first.result (read_as c.part.result) _
+    c.requires.unnamed c.part_at-first.ensures c.part.ensures _ _ (ap read_as c.in_err-next.was))
