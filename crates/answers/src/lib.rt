@@ -1,15 +1,14 @@
 // What the operations answer: lines, and the text of a sheet. Each function answers whether its end was written.
 #![tactic(auto)]
 
-use counts::{FitAnswer, fit_counts};
+use counts::fit_counts;
 use printer::{TEXT_ROOM, print_sheet};
-use script::{ScriptAnswer, links_of_card, read_script};
+use script::{links_of_card, read_script};
 use sections::{number, numbers, text};
-use template::{TemplateAnswer, read_template};
+use template::read_template;
 use tidy::tidy_bookings;
-use typing::JudgeAnswer;
 use verdict::judge;
-use words::{Card, Shape, WriteAnswer};
+use words::{Card, Refusal, Shape};
 
 // A word and two numbers.
 fn pair(rt: &impl Print, word: &[u8], first: usize, second: usize) -> bool {
@@ -19,40 +18,42 @@ fn pair(rt: &impl Print, word: &[u8], first: usize, second: usize) -> bool {
     text(rt, b"\n")
 }
 
-fn refused(rt: &impl Print, reason: u16, place: usize) -> bool {
-    pair(rt, b"refused", reason as usize, place)
+fn refused(rt: &impl Print, refusal: Refusal) -> bool {
+    pair(rt, b"refused", usize::from(refusal.0.number()), refusal.1)
 }
 
 // `counts KINDS SHAPES`, or `refused NUMBER PLACE`.
 pub fn tell_template(rt: &impl Print, template: &[u16]) -> bool {
-    let said = read_template(template);
-    match said {
-        TemplateAnswer::Counts(kinds, shapes) => pair(
+    match read_template(template) {
+        Ok(sizes) => pair(
             rt,
             b"counts",
-            kinds as usize,
-            shapes as usize,
+            usize::from(sizes.kinds),
+            usize::from(sizes.shapes),
         ),
-        TemplateAnswer::Refused(reason, place) => refused(rt, reason, place),
+        Err(refusal) => refused(rt, refusal),
     }
 }
 
 // `yes`, `no`, or `refused NUMBER PLACE`.
 pub fn tell_fit(rt: &impl Print, template: &[u16], shape: u16, counts: &[u16]) -> bool {
-    let said = fit_counts(template, Shape(shape), counts);
-    match said {
-        FitAnswer::Yes => text(rt, b"yes\n"),
-        FitAnswer::No => text(rt, b"no\n"),
-        FitAnswer::Refused(reason, place) => refused(rt, reason, place),
+    match fit_counts(template, Shape(shape), counts) {
+        Ok(true) => text(rt, b"yes\n"),
+        Ok(false) => text(rt, b"no\n"),
+        Err(refusal) => refused(rt, refusal),
     }
 }
 
 // `counts CARDS LINKS`, or `refused NUMBER PLACE`.
 pub fn tell_script(rt: &impl Print, template: &[u16], script: &[u16]) -> bool {
-    let said = read_script(template, script);
-    match said {
-        ScriptAnswer::Counts(cards, links) => pair(rt, b"counts", cards as usize, links as usize),
-        ScriptAnswer::Refused(reason, place) => refused(rt, reason, place),
+    match read_script(template, script) {
+        Ok(sizes) => pair(
+            rt,
+            b"counts",
+            usize::from(sizes.cards),
+            usize::from(sizes.links),
+        ),
+        Err(refusal) => refused(rt, refusal),
     }
 }
 
@@ -79,30 +80,29 @@ pub fn tell_verdict(
     desk: u16,
     grid: &[u8],
 ) -> bool {
-    let said = judge(template, script, bookings, desk, grid);
-    match said {
-        JudgeAnswer::Accepted => text(rt, b"accepted\n"),
-        JudgeAnswer::NotMet(card, shape) => pair(
+    match judge(template, script, bookings, desk, grid) {
+        Ok(Ok(())) => text(rt, b"accepted\n"),
+        Ok(Err((card, shape))) => pair(
             rt,
             b"refused 62",
-            card.0 as usize,
-            shape.0 as usize,
+            usize::from(card.0),
+            usize::from(shape.0),
         ),
-        JudgeAnswer::Refused(reason, place) => refused(rt, reason, place),
+        Err(refusal) => refused(rt, refusal),
     }
 }
 
 // `written WORDS` or `refused NUMBER PLACE`.
-fn written(rt: &impl Print, said: WriteAnswer) {
+fn written(rt: &impl Print, said: Result<usize, Refusal>) {
     match said {
-        WriteAnswer::Written(words) => {
+        Ok(words) => {
             text(rt, b"written");
             number(rt, words as u64);
         }
-        WriteAnswer::Refused(reason, place) => {
+        Err(refusal) => {
             text(rt, b"refused");
-            number(rt, reason as u64);
-            number(rt, place as u64);
+            number(rt, u64::from(refusal.0.number()));
+            number(rt, refusal.1 as u64);
         }
     }
 }

@@ -1,22 +1,21 @@
 // Both typings in one call: the largest, and the smallest for a desk. Each pair's counts are tested once.
 #![tactic(auto)]
 
-ghost use Rattle.std.specs.Prelude.{◌≡◌};
+ghost use Rattle.std.specs.Prelude.{◌≡◌, Ok};
 ghost use Rattle.words.specs.Reading.{accepted};
 ghost use Rattle.sheet.specs.Sheet.{Sheet, read_sheet};
 ghost use Rattle.bookings.specs.Bookings.{Booked};
-ghost use Rattle.typing.specs.declared.BothAnswer.TheVariants as both;
 ghost use Rattle.typing.specs.Answer.{both_said};
 ghost use Rattle.typing.specs.Calls.{BothFound, BothSays};
 ghost use Rattle.lent.specs.Readings.{TwoGrids};
 
 use board::Queue;
-use lent::{BookedRead, grid_size, read_lent};
+use lent::{grid_size, read_lent};
 use pairs::{STARTS, chain_arrivals, test_pairs};
 use searches::{settle, strike};
 use sheet::Extent;
-use typing::{Both, BothAnswer};
-use words::{MAX_CARDS, MAX_LINKS, TABLE_SIZE};
+use typing::Both;
+use words::{Fault, MAX_CARDS, MAX_LINKS, Refusal, TABLE_SIZE};
 
 // Both typings of a sheet and a desk's bookings that are read, in grids of its size. A pair's counts are tested once.
 fn both_of(
@@ -34,7 +33,7 @@ fn both_of(
         large.old }
     ensures { (s : Sheet) → read_sheet template.now script.now ≡ accepted s
         → BothFound s (Booked bookings.now desk) small.new large.new
-        (both_said (both.Typed result)) }
+        (both_said (Ok result)) }
 {
     let mut first = [0u16; MAX_CARDS];
     let mut next = [0u16; MAX_LINKS];
@@ -66,22 +65,17 @@ pub fn both_typings(
     desk: u16,
     small: &mut [u8],
     large: &mut [u8],
-) -> BothAnswer
+) -> Result<Both, Refusal>
     ensures { BothSays template.now script.now bookings.now desk
         (record { small = small.entry.now; large = large.old })
         (record { small = small.exit.now; large = large.new }) (both_said result) }
 {
     let mut names = [0u8; TABLE_SIZE];
-    let read = read_lent(template, script, bookings, desk, small, &mut names);
-    match read {
-        BookedRead::Refused(number, place) => BothAnswer::Refused(number, place),
-        BookedRead::Sheet(e, count) => {
-            if large.len() != grid_size(e) {
-                return BothAnswer::Refused(40, 0);
-            }
-            BothAnswer::Typed(both_of(
-                template, script, bookings, count, desk, &names, e, small, large,
-            ))
-        }
+    let (e, count) = read_lent(template, script, bookings, desk, small, &mut names)?;
+    if large.len() != grid_size(e) {
+        return Err(Refusal(Fault::BufferLength, 0));
     }
+    Ok(both_of(
+        template, script, bookings, count, desk, &names, e, small, large,
+    ))
 }

@@ -1,7 +1,7 @@
--- What each way out of the calls for the largest and for the smallest typing answers, in the format's order of refusals
+-- What each way out of the calls for the largest and for the smallest typing answers where what is lent is read
 -- (docs/FORMAT.md, "Operations").
---   largest-refused, largest_size, largest-done
---   smallest-refused, smallest-done
+--   largest_size, largest-done
+--   smallest-done
 -- Assumes nothing.
 use Prim.Native.Nat.{ℕ}
 use mathlib.Core.Path.{◌≡◌, refl}
@@ -9,16 +9,12 @@ use mathlib.Core.List.{List, [], ◌∷◌}
 use lib.ListN.{length}
 use borrow.Author.Tests.{eq-eqb, ne_eqb}
 use Rattle.words.specs.Said.{Said, refusal}
-use Rattle.words.specs.Reading.{accepted, turned_down}
+use Rattle.words.specs.Reading.{accepted}
 use Rattle.sheet.specs.Sheet.{Sheet, size, read_sheet}
 use Rattle.bookings.specs.Bookings.{Booked}
 use Rattle.typing.specs.Calls.{smallest_reading, LargestFound, LargestSays, SmallestFound, SmallestSays}
 
 module _ (template script : List ℕ) where
-  pub largest-refused : (grid : List ℕ) (number place : ℕ) → read_sheet template script ≡ turned_down number place
-      → LargestSays template script grid grid (refusal number (place ∷ []))
-  largest-refused grid number place h = rw h (refl, refl)
-
   module _ (s : Sheet) (h : read_sheet template script ≡ accepted s) where
     pub largest_size : (grid : List ℕ) → (length grid ≡ size s → ⊥)
         → LargestSays template script grid grid (refusal 40 (0 ∷ []))
@@ -29,11 +25,6 @@ module _ (template script : List ℕ) where
     largest-done before after said e found = rw (h, eq-eqb (length before) (size s) e) found
 
   module _ (bookings : List ℕ) (desk : ℕ) (grid : List ℕ) where
-    pub smallest-refused : (number place : ℕ)
-        → smallest_reading template script bookings desk grid ≡ turned_down number place
-        → SmallestSays template script bookings desk grid grid (refusal number (place ∷ []))
-    smallest-refused number place h = rw h (refl, refl)
-
     pub smallest-done : (s : Sheet) → smallest_reading template script bookings desk grid ≡ accepted s
         → (after : List ℕ) (said : Said) → SmallestFound s (Booked bookings desk) after said
         → SmallestSays template script bookings desk grid after said

@@ -14,12 +14,12 @@ ghost use Rattle.pairs.specs.Pairs.{SheetGrid};
 ghost use Rattle.calls.specs.Lent.{SmallestLent};
 
 use board::Queue;
-use lent::{BookedRead, grid_size, read_lent};
+use lent::{grid_size, read_lent};
 use pairs::{STARTS, chain_arrivals, test_pairs};
 use searches::{settle, strike};
-use sheet::{Extent, SheetRead, read_sheet};
-use typing::{LargestAnswer, Settled, SmallestAnswer, Struck};
-use words::{MAX_CARDS, MAX_GRID, MAX_LINKS, TABLE_SIZE};
+use sheet::{Extent, read_sheet};
+use typing::{Settled, Struck};
+use words::{Fault, MAX_CARDS, MAX_GRID, MAX_LINKS, Refusal, TABLE_SIZE};
 
 // The largest typing of a sheet that is read, in a grid of its size.
 fn largest_of(template: &[u16], script: &[u16], names: &[u8], e: Extent, grid: &mut [u8]) -> Struck
@@ -105,21 +105,16 @@ fn smallest_of(
 }
 
 // Largest: rounds, pairs struck and cards with some link and no shape, and the typing in the grid.
-pub fn largest(template: &[u16], script: &[u16], grid: &mut [u8]) -> LargestAnswer
+pub fn largest(template: &[u16], script: &[u16], grid: &mut [u8]) -> Result<Struck, Refusal>
     ensures { LargestSays template.now script.now grid.old grid.new
         (largest_said result) }
 {
     let mut names = [0u8; TABLE_SIZE];
-    let read = read_sheet(template, script, &mut names);
-    match read {
-        SheetRead::Refused(number, place) => LargestAnswer::Refused(number, place),
-        SheetRead::Sheet(e) => {
-            if grid.len() != grid_size(e) {
-                return LargestAnswer::Refused(40, 0);
-            }
-            LargestAnswer::Typed(largest_of(template, script, &names, e, grid))
-        }
+    let e = read_sheet(template, script, &mut names)?;
+    if grid.len() != grid_size(e) {
+        return Err(Refusal(Fault::BufferLength, 0));
     }
+    Ok(largest_of(template, script, &names, e, grid))
 }
 
 // Smallest: the number of pairs and the typing in the grid; or 50, the pair that is not met, and the grid all 0. The
@@ -130,21 +125,16 @@ pub fn smallest(
     bookings: &[u16],
     desk: u16,
     grid: &mut [u8],
-) -> SmallestAnswer
+) -> Result<Settled, Refusal>
     ensures { SmallestSays template.now script.now bookings.now desk
         grid.old grid.new (smallest_said result) }
 {
     let mut names = [0u8; TABLE_SIZE];
-    let read = read_lent(template, script, bookings, desk, grid, &mut names);
-    match read {
-        BookedRead::Refused(number, place) => SmallestAnswer::Refused(number, place),
-        BookedRead::Sheet(e, count) => {
-            let size = grid_size(e);
-            let mut fitting = [0u8; MAX_GRID];
-            let pairs = &mut fitting[0..size];
-            SmallestAnswer::Settled(smallest_of(
-                template, script, bookings, count, desk, &names, e, pairs, grid,
-            ))
-        }
-    }
+    let (e, count) = read_lent(template, script, bookings, desk, grid, &mut names)?;
+    let size = grid_size(e);
+    let mut fitting = [0u8; MAX_GRID];
+    let pairs = &mut fitting[0..size];
+    Ok(smallest_of(
+        template, script, bookings, count, desk, &names, e, pairs, grid,
+    ))
 }

@@ -15,13 +15,12 @@ ghost use Rattle.capi.specs.Numbers.{largest_numbers, smallest_numbers, judge_nu
 
 use both::both_typings;
 use calls::{largest, smallest};
-use counts::{FitAnswer, fit_counts};
-use script::{ScriptAnswer, links_of_card, read_script};
-use template::{TemplateAnswer, read_template};
+use counts::fit_counts;
+use script::{links_of_card, read_script};
+use template::read_template;
 use tidy::tidy_bookings;
-use typing::{BothAnswer, JudgeAnswer, LargestAnswer, Settled, SmallestAnswer};
 use verdict::judge;
-use words::{Card, Shape, WriteAnswer};
+use words::{Card, Refusal, Shape};
 
 // A template's counts of kinds and of shapes; or a refusal's number and place.
 #[repr(C)]
@@ -111,16 +110,15 @@ pub struct PrepWritten {
 pub fn prep_read_template(template: &[u16]) -> PrepTemplate
     ensures { Tells (λ said. said ≡ template_says template.now) (template_numbers result) }
 {
-    let answer = read_template(template);
-    match answer {
-        TemplateAnswer::Counts(kinds, shapes) => PrepTemplate {
+    match read_template(template) {
+        Ok(sizes) => PrepTemplate {
             number: 0,
-            kinds,
-            shapes,
+            kinds: sizes.kinds,
+            shapes: sizes.shapes,
             place: 0,
         },
-        TemplateAnswer::Refused(number, place) => PrepTemplate {
-            number,
+        Err(Refusal(fault, place)) => PrepTemplate {
+            number: fault.number(),
             kinds: 0,
             shapes: 0,
             place,
@@ -132,20 +130,14 @@ pub fn prep_read_template(template: &[u16]) -> PrepTemplate
 pub fn prep_fit_counts(template: &[u16], shape: u16, counts: &[u16]) -> PrepFit
     ensures { Tells (FitSays template.now shape counts.now) (fit_numbers result) }
 {
-    let answer = fit_counts(template, Shape(shape), counts);
-    match answer {
-        FitAnswer::Yes => PrepFit {
+    match fit_counts(template, Shape(shape), counts) {
+        Ok(fits) => PrepFit {
             number: 0,
-            fits: 1,
+            fits: u16::from(fits),
             place: 0,
         },
-        FitAnswer::No => PrepFit {
-            number: 0,
-            fits: 0,
-            place: 0,
-        },
-        FitAnswer::Refused(number, place) => PrepFit {
-            number,
+        Err(Refusal(fault, place)) => PrepFit {
+            number: fault.number(),
             fits: 0,
             place,
         },
@@ -156,16 +148,15 @@ pub fn prep_fit_counts(template: &[u16], shape: u16, counts: &[u16]) -> PrepFit
 pub fn prep_read_script(template: &[u16], script: &[u16]) -> PrepScript
     ensures { Tells (λ said. said ≡ script_says template.now script.now) (script_numbers result) }
 {
-    let answer = read_script(template, script);
-    match answer {
-        ScriptAnswer::Counts(cards, links) => PrepScript {
+    match read_script(template, script) {
+        Ok(sizes) => PrepScript {
             number: 0,
-            cards,
-            links,
+            cards: sizes.cards,
+            links: sizes.links,
             place: 0,
         },
-        ScriptAnswer::Refused(number, place) => PrepScript {
-            number,
+        Err(Refusal(fault, place)) => PrepScript {
+            number: fault.number(),
             cards: 0,
             links: 0,
             place,
@@ -177,14 +168,8 @@ pub fn prep_read_script(template: &[u16], script: &[u16]) -> PrepScript
 fn copy(from: &[u16], to: &mut [u16])
     ensures { to.new ≡ copied from.now to.old }
 {
-    let mut i = 0;
-    while i < to.len() {
-        if from.len() <= i {
-            return;
-        }
-        to[i] = from[i];
-        i += 1;
-    }
+    let shared = from.len().min(to.len());
+    to[..shared].copy_from_slice(&from[..shared]);
 }
 
 // Links of a card: copies as many of their words as there is room for, and returns how many they are.
@@ -201,17 +186,16 @@ pub fn prep_links_of_card(template: &[u16], script: &[u16], card: u16, links: &m
 pub fn prep_largest(template: &[u16], script: &[u16], grid: &mut [u8]) -> PrepLargest
     ensures { Tells (LargestSays template.now script.now grid.old grid.new) (largest_numbers result) }
 {
-    let answer = largest(template, script, grid);
-    match answer {
-        LargestAnswer::Typed(found) => PrepLargest {
+    match largest(template, script, grid) {
+        Ok(found) => PrepLargest {
             number: 0,
             place: 0,
             rounds: found.rounds,
             struck: found.struck,
             bare: found.bare,
         },
-        LargestAnswer::Refused(number, place) => PrepLargest {
-            number,
+        Err(Refusal(fault, place)) => PrepLargest {
+            number: fault.number(),
             place,
             rounds: 0,
             struck: 0,
@@ -231,26 +215,23 @@ pub fn prep_smallest(
     ensures { Tells (SmallestSays template.now script.now bookings.now desk grid.old grid.new)
         (smallest_numbers result) }
 {
-    let answer = smallest(template, script, bookings, desk, grid);
-    match answer {
-        SmallestAnswer::Settled(found) => match found {
-            Settled::Pairs(pairs) => PrepSmallest {
-                number: 0,
-                card: 0,
-                shape: 0,
-                place: 0,
-                pairs,
-            },
-            Settled::NotMet(card, shape) => PrepSmallest {
-                number: 50,
-                card: card.0,
-                shape: shape.0,
-                place: 0,
-                pairs: 0,
-            },
+    match smallest(template, script, bookings, desk, grid) {
+        Ok(Ok(pairs)) => PrepSmallest {
+            number: 0,
+            card: 0,
+            shape: 0,
+            place: 0,
+            pairs,
         },
-        SmallestAnswer::Refused(number, place) => PrepSmallest {
-            number,
+        Ok(Err((card, shape))) => PrepSmallest {
+            number: 50,
+            card: card.0,
+            shape: shape.0,
+            place: 0,
+            pairs: 0,
+        },
+        Err(Refusal(fault, place)) => PrepSmallest {
+            number: fault.number(),
             card: 0,
             shape: 0,
             place,
@@ -272,13 +253,11 @@ pub fn prep_both_typings(
         (record { small = small.old; large = large.old })
         (record { small = small.new; large = large.new })) result }
 {
-    let answer = both_typings(template, script, bookings, desk, small, large);
-    match answer {
-        BothAnswer::Typed(found) => {
+    match both_typings(template, script, bookings, desk, small, large) {
+        Ok(found) => {
             let large = found.largest;
-            let small = found.smallest;
-            match small {
-                Settled::Pairs(pairs) => PrepBoth {
+            match found.smallest {
+                Ok(pairs) => PrepBoth {
                     number: 0,
                     card: 0,
                     shape: 0,
@@ -288,7 +267,7 @@ pub fn prep_both_typings(
                     bare: large.bare,
                     pairs,
                 },
-                Settled::NotMet(card, shape) => PrepBoth {
+                Err((card, shape)) => PrepBoth {
                     number: 50,
                     card: card.0,
                     shape: shape.0,
@@ -300,8 +279,8 @@ pub fn prep_both_typings(
                 },
             }
         }
-        BothAnswer::Refused(number, place) => PrepBoth {
-            number,
+        Err(Refusal(fault, place)) => PrepBoth {
+            number: fault.number(),
             card: 0,
             shape: 0,
             place,
@@ -323,22 +302,21 @@ pub fn prep_judge(
 ) -> PrepJudge
     ensures { Tells (JudgeSays template.now script.now bookings.now desk grid.now) (judge_numbers result) }
 {
-    let answer = judge(template, script, bookings, desk, grid);
-    match answer {
-        JudgeAnswer::Accepted => PrepJudge {
+    match judge(template, script, bookings, desk, grid) {
+        Ok(Ok(())) => PrepJudge {
             number: 0,
             card: 0,
             shape: 0,
             place: 0,
         },
-        JudgeAnswer::NotMet(card, shape) => PrepJudge {
+        Ok(Err((card, shape))) => PrepJudge {
             number: 62,
             card: card.0,
             shape: shape.0,
             place: 0,
         },
-        JudgeAnswer::Refused(number, place) => PrepJudge {
-            number,
+        Err(Refusal(fault, place)) => PrepJudge {
+            number: fault.number(),
             card: 0,
             shape: 0,
             place,
@@ -355,15 +333,14 @@ pub fn prep_tidy_bookings(
 ) -> PrepWritten
     ensures { Tells (TidySays template.now script.now bookings.now out.old out.new) (written_numbers result) }
 {
-    let answer = tidy_bookings(template, script, bookings, out);
-    match answer {
-        WriteAnswer::Written(written) => PrepWritten {
+    match tidy_bookings(template, script, bookings, out) {
+        Ok(written) => PrepWritten {
             number: 0,
             place: 0,
             written,
         },
-        WriteAnswer::Refused(number, place) => PrepWritten {
-            number,
+        Err(Refusal(fault, place)) => PrepWritten {
+            number: fault.number(),
             place,
             written: 0,
         },

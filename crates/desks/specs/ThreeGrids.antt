@@ -3,12 +3,11 @@
 -- DesksAsked   what settling the bookings of both desks and striking asks
 -- desks_of      what the searches say for both desks
 -- Assumes nothing.
-use Rattle.std.specs.Prelude.{ℕ, ◌*◌, ◌≡◌, List, length}
+use Rattle.std.specs.Prelude.{ℕ, ◌*◌, ◌≡◌, List, length, Ok}
 use Rattle.words.specs.Reading.{accepted}
 use Rattle.sheet.specs.declared.Extent.{Extent}
 use Rattle.bookings.specs.Bookings.{read_bookings}
 use Rattle.typing.specs.declared.Desks.{Desks}
-use Rattle.typing.specs.declared.DesksAnswer.TheVariants as desks
 use Rattle.typing.specs.Answer.{DesksSaid, desks_said}
 use Rattle.lent.specs.Readings.{BookedSheet}
 use Rattle.searches.specs.Searches.{StrikesAsked}
@@ -32,4 +31,4 @@ pub record DesksAsked (script names : List ℕ) (e : Extent) (starts first next 
 
 -- What is found of the typings of both desks says what the searches say.
 abbrev pub desks_of : Desks → DesksSaid
-desks_of r = desks_said (desks.Typed r)
+desks_of r = desks_said (Ok r)

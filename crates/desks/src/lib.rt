@@ -10,12 +10,12 @@ ghost use Rattle.pairs.specs.Pairs.{SheetTested};
 ghost use Rattle.desks.specs.ThreeGrids.{ThreeGrids, DesksAsked, desks_of};
 
 use board::Queue;
-use lent::{BookedRead, grid_size, read_booked};
+use lent::{grid_size, read_booked};
 use pairs::{STARTS, chain_arrivals, test_pairs};
 use searches::{settle, strike};
 use sheet::Extent;
-use typing::{Desks, DesksAnswer};
-use words::{MAX_CARDS, MAX_LINKS, TABLE_SIZE};
+use typing::Desks;
+use words::{Fault, MAX_CARDS, MAX_LINKS, Refusal, TABLE_SIZE};
 
 // The typings of a sheet whose pairs are tested, as the last grid says: each desk's bookings are settled, 0 being
 // radio's and 1 television's, and then rounds are struck in that grid.
@@ -105,30 +105,19 @@ pub fn desk_typings(
     radio: &mut [u8],
     television: &mut [u8],
     large: &mut [u8],
-) -> DesksAnswer
+) -> Result<Desks, Refusal>
     ensures { DesksSays template.now script.now bookings.now
         (record { radio = radio.entry.now; television = television.old; large = large.old })
         (record { radio = radio.exit.now; television = television.new; large = large.new })
         (desks_said result) }
 {
     let mut names = [0u8; TABLE_SIZE];
-    let read = read_booked(template, script, bookings, &mut names);
-    match read {
-        BookedRead::Refused(number, place) => DesksAnswer::Refused(number, place),
-        BookedRead::Sheet(e, count) => {
-            let size = grid_size(e);
-            if radio.len() != size {
-                return DesksAnswer::Refused(40, 0);
-            }
-            if television.len() != size {
-                return DesksAnswer::Refused(40, 0);
-            }
-            if large.len() != size {
-                return DesksAnswer::Refused(40, 0);
-            }
-            DesksAnswer::Typed(desks_of(
-                template, script, bookings, count, &names, e, radio, television, large,
-            ))
-        }
+    let (e, count) = read_booked(template, script, bookings, &mut names)?;
+    let size = grid_size(e);
+    if radio.len() != size || television.len() != size || large.len() != size {
+        return Err(Refusal(Fault::BufferLength, 0));
     }
+    Ok(desks_of(
+        template, script, bookings, count, &names, e, radio, television, large,
+    ))
 }

@@ -3,14 +3,14 @@
 -- ReadFor       these, for a desk and with a grid of the sheet's size; LentAs: what reading them finds
 -- TwoGrids      these, and another grid of the sheet's size
 -- Assumes nothing.
-use Rattle.std.specs.Prelude.{ℕ, ◌*◌, ◌≤◌, ◌≡◌, List, length}
+use Rattle.std.specs.Prelude.{ℕ, ◌*◌, ◌≤◌, ◌≡◌, List, length, Result, Ok, Err}
 use Rattle.words.specs.Reading.{accepted, turned_down}
+use Rattle.words.specs.Refused.{number}
+use Rattle.words.specs.declared.refusal.Refusal.{Refusal}
 use Rattle.sheet.specs.Opened.{Known}
 use Rattle.sheet.specs.declared.Extent.{Extent}
 use Rattle.bookings.specs.Bookings.{read_bookings}
 use Rattle.typing.specs.Calls.{listed_reading, smallest_reading}
-use Rattle.lent.specs.declared.BookedRead.{BookedRead}
-use Rattle.lent.specs.declared.BookedRead.TheVariants as read
 
 -- A sheet with its table of names, and a booking list of so many bookings for it.
 pub record BookedSheet (template script names : List ℕ) (e : Extent) (bookings : List ℕ) (count : ℕ) : Type 0 where
@@ -18,10 +18,10 @@ pub record BookedSheet (template script names : List ℕ) (e : Extent) (bookings
   pub list : read_bookings e.cards e.shapes bookings ≡ accepted count
 
 -- What reading template, script and bookings finds, in this order.
-abbrev pub BookedAs : List ℕ → List ℕ → List ℕ → List ℕ → BookedRead → Type 0
-BookedAs template script names bookings (read.Sheet e count) = BookedSheet template script names e bookings count
-BookedAs template script names bookings (read.Refused number place) =
-    listed_reading template script bookings ≡ turned_down number place
+abbrev pub BookedAs : List ℕ → List ℕ → List ℕ → List ℕ → Result (Extent × ℕ) Refusal → Type 0
+BookedAs template script names bookings (Ok (e, count)) = BookedSheet template script names e bookings count
+BookedAs template script names bookings (Err r) =
+    listed_reading template script bookings ≡ turned_down (number r.0) r.1
 
 -- These, for a desk and with a grid of the sheet's size.
 pub record ReadFor (template script names : List ℕ) (e : Extent) (bookings : List ℕ) (count desk : ℕ) (grid : List ℕ)
@@ -31,11 +31,11 @@ pub record ReadFor (template script names : List ℕ) (e : Extent) (bookings : L
   pub size : length grid ≡ e.cards * e.shapes
 
 -- What reading template, script and bookings finds, and then the desk and the grid.
-abbrev pub LentAs : List ℕ → List ℕ → List ℕ → List ℕ → ℕ → List ℕ → BookedRead → Type 0
-LentAs template script names bookings desk grid (read.Sheet e count) =
+abbrev pub LentAs : List ℕ → List ℕ → List ℕ → List ℕ → ℕ → List ℕ → Result (Extent × ℕ) Refusal → Type 0
+LentAs template script names bookings desk grid (Ok (e, count)) =
     ReadFor template script names e bookings count desk grid
-LentAs template script names bookings desk grid (read.Refused number place) =
-    smallest_reading template script bookings desk grid ≡ turned_down number place
+LentAs template script names bookings desk grid (Err r) =
+    smallest_reading template script bookings desk grid ≡ turned_down (number r.0) r.1
 
 -- What is read for a desk and a grid, and another grid of the sheet's size.
 pub record TwoGrids (template script names : List ℕ) (e : Extent) (bookings : List ℕ) (count desk : ℕ)

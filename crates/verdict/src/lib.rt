@@ -14,11 +14,11 @@ ghost use Rattle.verdict.specs.Judged.{JudgeLent, JudgeAsked};
 use board::first_over;
 use bookings::card_index;
 use judging::{first_unheld, first_unmet};
-use lent::{BookedRead, read_lent};
+use lent::read_lent;
 use pairs::{STARTS, chain_arrivals, test_pairs};
 use sheet::Extent;
-use typing::JudgeAnswer;
-use words::{Card, MAX_CARDS, MAX_GRID, MAX_LINKS, Shape, TABLE_SIZE};
+use typing::Judged;
+use words::{Card, Fault, MAX_CARDS, MAX_GRID, MAX_LINKS, Refusal, Shape, TABLE_SIZE};
 
 // The verdict on a grid of zeros and ones where the sheet's pairs are tested: its lowest pair that is not met under it,
 // then the desk's first booking that it does not hold.
@@ -34,7 +34,7 @@ fn judge_tested(
     e: Extent,
     fitting: &[u8],
     grid: &[u8],
-) -> JudgeAnswer
+) -> Result<Judged, Refusal>
     requires { JudgeAsked script.now names.now e starts.now first.now next.now fitting.now
         bookings.now count grid.now }
     ensures { (s : Sheet) → SheetTested s script.now names.now e fitting.now
@@ -47,11 +47,11 @@ fn judge_tested(
     if let Some(place) = unmet {
         let card = (place / shapes) as u16;
         let shape = (place % shapes) as u16;
-        return JudgeAnswer::NotMet(Card(card), Shape(shape));
+        return Ok(Err((Card(card), Shape(shape))));
     }
     match first_unheld(bookings, count, desk, shapes, grid) {
-        Some(booking) => JudgeAnswer::Refused(63, card_index(booking)),
-        None => JudgeAnswer::Accepted,
+        Some(booking) => Err(Refusal(Fault::UnheldBooking, card_index(booking))),
+        None => Ok(Ok(())),
     }
 }
 
@@ -68,7 +68,7 @@ fn judge_by(
     names: &[u8],
     e: Extent,
     grid: &[u8],
-) -> JudgeAnswer
+) -> Result<Judged, Refusal>
     requires { JudgeLent template.now script.now names.now e first.now next.now bookings.now count desk
         grid.now }
     ensures { (s : Sheet) → read_sheet template.now script.now ≡ accepted s
@@ -93,13 +93,13 @@ fn judge_of(
     names: &[u8],
     e: Extent,
     grid: &[u8],
-) -> JudgeAnswer
+) -> Result<Judged, Refusal>
     requires { ReadFor template.now script.now names.now e bookings.now count desk grid.now }
     ensures { (s : Sheet) → read_sheet template.now script.now ≡ accepted s
         → JudgeFound s bookings.now desk grid.now (judge_said result) }
 {
     if let Some(over) = first_over(grid) {
-        return JudgeAnswer::Refused(61, over);
+        return Err(Refusal(Fault::GridByte, over));
     }
     if e.incoming {
         let mut first = [0u16; MAX_CARDS];
@@ -123,16 +123,11 @@ pub fn judge(
     bookings: &[u16],
     desk: u16,
     grid: &[u8],
-) -> JudgeAnswer
+) -> Result<Judged, Refusal>
     ensures { JudgeSays template.now script.now bookings.now desk
         grid.now (judge_said result) }
 {
     let mut names = [0u8; TABLE_SIZE];
-    let read = read_lent(template, script, bookings, desk, grid, &mut names);
-    match read {
-        BookedRead::Refused(number, place) => JudgeAnswer::Refused(number, place),
-        BookedRead::Sheet(e, count) => {
-            judge_of(template, script, bookings, count, desk, &names, e, grid)
-        }
-    }
+    let (e, count) = read_lent(template, script, bookings, desk, grid, &mut names)?;
+    judge_of(template, script, bookings, count, desk, &names, e, grid)
 }

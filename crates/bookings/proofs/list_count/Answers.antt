@@ -1,7 +1,7 @@
 -- `bookings::list_count` looks at a list's count and length: a law of proofs/Reading for each refusal.
 -- Assumes nothing.
 use Prim.Native.Nat.{ℕ, ◌*◌, ◌≤◌}
-use mathlib.Core.Path.{◌≡◌, refl, ap}
+use mathlib.Core.Path.{◌≡◌, ap}
 use native.Mathlib.Omega.{arith}
 use lib.ListN.{get_or}
 use Rattle.words.specs.Limits.{max_bookings}
@@ -24,16 +24,7 @@ returns-then-bookings-eq0 c = λ rule. list-empty _ rule _ (omega arith)
 pub returns-then-wide-gt-MAX_BOOKINGS : goal.returns-then-wide-gt-MAX_BOOKINGS
 returns-then-wide-gt-MAX_BOOKINGS c = λ rule. list-many _ rule _ (λ e. absurd (omega arith)) (omega arith)
 
-pub overflow_mul-width : goal.overflow_mul-width
-overflow_mul-width c = omega (arith, few c)
-
-pub overflow_add-width : goal.overflow_add-width
-overflow_add-width c = omega (arith, few c)
-
 pub returns-then-bookings-width : goal.returns-then-bookings-width
 returns-then-bookings-width c =
     λ rule. list-other _ rule _ (λ e. absurd (omega arith)) (omega arith)
     (λ e. absurd (omega (arith, e, words (goal.at.returns-then-bookings-width c).After-wide-2)))
-
-pub returns : goal.returns
-returns c = (record { few = omega arith; size = omega (arith, words (goal.at.returns c).After-wide-2) }, refl)

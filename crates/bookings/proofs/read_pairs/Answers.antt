@@ -9,7 +9,6 @@ use Rattle.words.specs.Limits.{max_cards}
 use Rattle.words.proofs.Chains.{chained-none}
 use Rattle.bookings.specs.Bookings.{card_at, booking_at, repeated}
 use Rattle.bookings.proofs.Repeats.{booking-same, told-repeated}
-use Rattle.bookings.proofs.Accepted.{words-in}
 use Rattle.bookings.proofs.Reading.{each_next, each-end, rule-desk, rule-card, rule-shape, rule-repeat}
 use Rattle.bookings.proofs.Reading.{rule-passed}
 use Rattle.bookings.proofs.read_pairs.Goals as goal
@@ -32,18 +31,11 @@ loop-i-init c =
       rest = rw e refl;
     }
 
-pub desk_at-desk-requires : goal.desk_at-desk-requires
-desk_at-desk-requires c = words-in c.requires.sized (omega arith)
-
 pub returns-then-desk-gt1 : goal.returns-then-desk-gt1
 returns-then-desk-gt1 c =
     let desk-here = c.desk_at-desk.ensures in
     ap (turned_down 66) c.desk_index.ensures
     ∙ sym (c.loop-i.invariant.rest ∙ each_next _ _ _ _ (omega arith) ∙ rule-desk _ _ _ _ _ (omega (arith, desk-here)))
-
-pub card_at-card-requires : goal.card_at-card-requires
-card_at-card-requires c =
-    words-in c.requires.sized (omega arith)
 
 pub returns-then-cards-card : goal.returns-then-cards-card
 returns-then-cards-card c =
@@ -52,26 +44,12 @@ returns-then-cards-card c =
     ∙ rule-card _ _ _ _ _ (omega (arith, c.desk_at-desk.ensures))
     (omega (arith, c.card_at-card.ensures)))
 
-pub shape_at-shape-requires : goal.shape_at-shape-requires
-shape_at-shape-requires c =
-    words-in c.requires.sized (omega arith)
-
 pub returns-then-shapes-shape : goal.returns-then-shapes-shape
 returns-then-shapes-shape c =
     ap (turned_down 33) c.shape_index.ensures
     ∙ sym (c.loop-i.invariant.rest ∙ each_next _ _ _ _ (omega arith)
     ∙ rule-shape _ _ _ _ _ (omega (arith, c.desk_at-desk.ensures))
     (omega (arith, c.card_at-card.ensures)) (omega (arith, c.shape_at-shape.ensures)))
-
-pub enter_booking-requires : goal.enter_booking-requires
-enter_booking-requires c =
-    record {
-      chained = c.loop-i.invariant.chained;
-      words = omega (arith, c.requires.sized.size);
-      few = omega (arith, c.requires.sized.few);
-      room = omega (arith, c.requires.sized.few, c.loop-i.invariant.links);
-      card-in = omega (arith, c.requires.few-cards, c.loop-i.invariant.heads);
-    }
 
 pub returns-then-enter_booking : goal.returns-then-enter_booking
 returns-then-enter_booking c =

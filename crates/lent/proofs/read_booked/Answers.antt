@@ -1,41 +1,19 @@
--- `lent::read_booked` reads the sheet and then the bookings: a law of proofs/Readings for each answer.
--- Assumes nothing.
+-- `lent::read_booked` reads the sheet and then the bookings, of which there are not too many cards, as the script has
+-- them. Assumes nothing.
 use Prim.Native.Nat.{ℕ}
-use Rattle.words.specs.Reading.{Reading}
-use Rattle.sheet.specs.Opened.{Known}
+use mathlib.Core.Path.{sym}
+use Rattle.std.proofs.lemmas.Result.{err_from_is_err_and}
 use Rattle.bookings.specs.Bookings.{read_bookings}
-use Rattle.lent.proofs.KnownSheet.{read as accepted}
-use Rattle.lent.proofs.Readings.{known_by, sheet-refused, list-refused, list_read}
+use Rattle.lent.proofs.KnownSheet.{read}
+use Rattle.lent.proofs.Readings.{list-refused}
 use Rattle.lent.proofs.read_booked.Goals as goal
-use Rattle.lent.proofs.read_booked.Goals.{After-read_sheet-read, In-Sheet}
 
--- the reading of the list
-abbrev reading : After-read_sheet-read → ℕ → ℕ → Reading ℕ
-reading c cards shapes = read_bookings cards shapes c.args.bookings.now
+pub read_bookings-requires : goal.read_bookings-requires
+read_bookings-requires c = (read c.in_ok-e.ensures).links.cards-bound
 
-known : (c : In-Sheet) → let s = c.args in
-    Known s.template.now s.script.now c.read_sheet-read.new.names c.in-Sheet.e
-known c = known_by _ _ _ c.read_sheet-read.ensures c.in-Sheet.is
-
-pub read_bookings-list-requires : goal.read_bookings-list-requires
-read_bookings-list-requires c = (accepted (known c)).links.cards-bound
-
-pub returns-in-Refused : goal.returns-in-Refused
-returns-in-Refused c =
-    sheet-refused _ _ _ c.read_sheet-read.ensures (reading (goal.at.returns-in-Refused c).After-read_sheet-read)
-    c.in-Refused.is
-
-pub returns-in-Refused-list : goal.returns-in-Refused-list
-returns-in-Refused-list c =
-    list-refused (reading (goal.at.returns-in-Refused-list c).After-read_sheet-read) (known
-    (goal.at.returns-in-Refused-list c).In-Sheet) c.read_bookings-list.ensures
-    c.in-Refused-list.is
-
-pub returns-in-Count : goal.returns-in-Count
-returns-in-Count c =
-    let k = known (goal.at.returns-in-Count c).In-Sheet in
-    record {
-      known = k;
-      list = list_read (reading (goal.at.returns-in-Count c).After-read_sheet-read) k c.read_bookings-list.ensures
-          c.in-Count.is;
-    }
+pub returns-in_err-count : goal.returns-in_err-count
+returns-in_err-count c =
+    let p = err_from_is_err_and c.from_residual-in_err-count.result c.from_residual-in_err-count.ensures.1 in
+    rw (p.1, p.2)
+    (list-refused (λ (cards shapes : ℕ). read_bookings cards shapes c.args.bookings.now) c.in_ok-e.ensures
+    (sym c.in_err-count.ensures))
