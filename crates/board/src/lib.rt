@@ -23,6 +23,7 @@ pub fn strike_one(grid: &mut [u8], queue: &mut [u16], tail: usize, place: usize)
 }
 
 // Queues the places that are not on, and returns how many.
+#[tactic(auto, unfolding(crate::specs::Grid::tally))]
 pub fn list_off(grid: &[u8], queue: &mut [u16]) -> usize
     requires { Lent grid.now queue.old }
     ensures { Listed grid.now queue.new result (length grid.now) }
@@ -52,6 +53,7 @@ pub fn all_off(grid: &[u8]) -> bool
 }
 
 // Turns every place round: 0 where it was on, else 1.
+#[tactic(auto, unfolding(crate::specs::Grid::on))]
 pub fn flip(grid: &mut [u8])
     ensures { Flipped grid.old grid.new }
 {

@@ -7,9 +7,6 @@ use Rattle.board.proofs.Lists.{listed-none, listed-skip, listed-add}
 use Rattle.board.proofs.list_off.Goals as goal
 use Rattle.board.proofs.list_off.Goals.{then-byte-ne1, else-byte-ne1}
 
-pub loop-place-init : goal.loop-place-init
-loop-place-init c = (omega arith, refl, listed-none c.args.grid.now c.args.queue.now)
-
 pub loop-place-preserved : goal.loop-place-preserved
 loop-place-preserved c =
     let grid = c.args.grid.now in
