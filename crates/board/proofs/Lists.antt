@@ -1,17 +1,16 @@
 -- The queue of the places that are not on.
 --   listed-skip, listed-add  of a place more, that is on or is queued
 -- Assumes nothing.
-use mathlib.Core.Path.{◌≡◌, refl, sym, ◌∙◌, subst}
+use mathlib.Core.Path.{◌≡◌, sym, ◌∙◌, subst}
 use mathlib.Core.Logic.{⊎_elim}
 use mathlib.Core.List.{List}
 use mathlib.Core.Bool.{true, false, not}
 use Prim.Native.Nat.{ℕ, suc, ◌+◌, ◌<◌}
-use native.Mathlib.Nat.{not-suc-le-zero}
 use native.Mathlib.Numerals.{add-one}
 use native.Mathlib.Omega.{arith}
 use lib.ListN.{length, set}
 use lib.Seq.{get_or-set_same, get_or-set_other}
-use Rattle.board.specs.Grid.{on, tally}
+use Rattle.board.specs.Grid.{on}
 use Rattle.board.specs.Work.{entry, Queued}
 use Rattle.board.specs.Listing.{Listed}
 use Rattle.words.proofs.Bools.{never_both, not_of_false, not-of-true, last-or-below}

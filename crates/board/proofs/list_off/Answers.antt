@@ -1,9 +1,9 @@
 -- `board::list_off` lists what is not on. The invariant: the queue lists what is not on below `place`. Assumes nothing.
-use mathlib.Core.Path.{refl, ap, ◌∙◌}
+use mathlib.Core.Path.{ap, ◌∙◌}
 use native.Mathlib.Omega.{arith}
 use lib.ListN.{length, length-set}
 use Rattle.board.proofs.Grids.{on-yes, on-no}
-use Rattle.board.proofs.Lists.{listed-none, listed-skip, listed-add}
+use Rattle.board.proofs.Lists.{listed-skip, listed-add}
 use Rattle.board.proofs.list_off.Goals as goal
 use Rattle.board.proofs.list_off.Goals.{then-byte-ne1, else-byte-ne1}
 
