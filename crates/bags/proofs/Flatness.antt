@@ -8,15 +8,17 @@ use Prim.Native.Nat.{ℕ, suc, ◌+◌}
 use mathlib.Core.Path.{◌≡◌, refl, ap, ap₂}
 use mathlib.Core.Logic.{inl, inr, ⊎_elim, ◌↔◌}
 use native.Mathlib.Omega.{arith}
+use mathlib.Core.Bool.{Bool, true, false}
+use lib.Dec.{ltb, eqb}
+use borrow.Author.Tests.{ltb-false}
 use Rattle.bags.specs.Part.{Limit, Part, nothing, star, plus, optional, choice, all, link}
 use Rattle.bags.specs.Part.{Parts, none, more, Names, RunNames}
 use Rattle.bags.specs.Interval.{Interval, empty, within, from, In, link_interval}
 use Rattle.bags.specs.Interval.{interval, meet_run}
 use Rattle.bags.specs.Flat.{Flat, RunFlat, Has, RunHas}
-use Rattle.bags.specs.Span.{view}
+use Rattle.bags.specs.Span.{top, seen_as, view}
 use Rattle.bags.specs.declared.Span.{Span}
 use Rattle.bags.proofs.Intervals.{Proper, in_meet}
-use Rattle.bags.proofs.Spans.{Seen, is-empty, is-from, is_within, seen}
 
 -- ---- proper intervals
 pub proper-same : (I J : Interval) → Proper I → Proper J → ((i : ℕ) → In i I ↔ In i J) → I ≡ J
@@ -39,12 +41,13 @@ proper-same (from a) (from c) p q h =
     ap from (omega arith)
 
 pub view-proper : (x : Span) → Proper (view x)
-view-proper x = by-seen (seen x)
+unfolding view
+view-proper x = by_tests (ltb x.hi x.lo) refl (eqb x.hi top)
   where
-    by-seen : Seen x → Proper (view x)
-    by-seen (is-empty h e) = rw e tt
-    by-seen (is-from h f e) = rw e tt
-    by-seen (is_within h f e) = rw e h
+    by_tests : (s : Bool) → ltb x.hi x.lo ≡ s → (t : Bool) → Proper (seen_as s t x.lo x.hi)
+    by_tests true e t = tt
+    by_tests false e true = tt
+    by_tests false e false = ltb-false x.hi x.lo e
 
 -- ---- the links of a part
 mutual

@@ -1,5 +1,5 @@
 // Intervals of repetitions as two numbers (docs/FORMAT.md, "Bags and counts"; section 8.2 of the paper).
-#![tactic(auto)]
+#![tactic(auto, unfolding(crate::specs::Span::view, crate::specs::Span::Small))]
 
 ghost use Rattle.std.specs.Prelude.{◌≡◌, ℕ, ◌+◌};
 ghost use Rattle.bags.specs.Interval.{inside, meet, add, low_room, high_room, link_interval};

@@ -18,18 +18,15 @@ pub fn count_bare(script: &[u16], e: Extent, grid: &[u8]) -> usize
     ensures { (s : Sheet) → CountedAs s script.now e → result ≡ bare_cards s (on grid.now) }
 {
     let mut linked = [0u8; MAX_CARDS];
-    mark_linked(script, e.links as usize, &mut linked);
-    let cards = e.cards as usize;
-    let shapes = e.shapes as usize;
+    mark_linked(script, usize::from(e.links), &mut linked);
+    let shapes = usize::from(e.shapes);
     let mut bare = 0;
-    let mut n = 0;
-    while n < cards {
+    for n in 0..usize::from(e.cards) {
         let base = n * shapes;
         let end = base + shapes;
         if linked[n] == 1 && all_off(&grid[base..end]) {
             bare += 1;
         }
-        n += 1;
     }
     bare
 }

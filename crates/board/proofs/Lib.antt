@@ -7,6 +7,5 @@ pub mod Closure
 pub mod Flood
 pub mod Worklist
 pub mod Lists
-pub mod Flips
 pub mod Search
 pub mod Flooding

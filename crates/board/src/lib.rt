@@ -25,6 +25,7 @@ pub fn all_off(grid: &[u8]) -> bool
 }
 
 // Turns every place round: 0 where it was on, else 1.
+#[tactic(auto, unfolding(crate::specs::Grid::on))]
 pub fn flip(grid: &mut [u8])
     ensures { Flipped grid.old grid.new }
 {

@@ -55,6 +55,7 @@ pub fn count_on(links: &[u16], before: KindCount, kind: u16) -> KindCount
 }
 
 // How many of the links to a card have each kind. The counts are all 0 before.
+#[tactic(auto, unfolding(script::specs::Link::kind_at))]
 pub fn count_arriving(
     script: &[u16],
     first: &[u16],

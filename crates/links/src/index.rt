@@ -43,6 +43,7 @@ pub fn leaving_links<'s, 't>(script: &'s [u16], starts: &'t [u16], n: usize) -> 
 
 // Chains the links by the cards that they lead to: `first[m]` is one more than the last link to card m, or 0, and
 // `next[i]` one more than the last link before link i to the same card, or 0.
+#[tactic(auto, unfolding(script::specs::Link::to_at))]
 pub fn chain(script: &[u16], links: usize, first: &mut [u16], next: &mut [u16])
     requires { ChainAsked script.now links first.old next.old }
     ensures { ChainLeft script.now links first.old next.old

@@ -1,19 +1,14 @@
--- `bags::zero_span` meets its contract.
--- Assumes nothing.
+-- `bags::zero_span` meets its contract. Assumes nothing.
+use mathlib.Core.Path.{sym}
 use native.Mathlib.Omega.{arith}
-use Rattle.bags.proofs.Spans.{small-up, small-ends, zero-any, zero-alone}
+use Rattle.bags.specs.Span.{view}
+use Rattle.bags.proofs.Spans.{zero-from, zero-only}
 use Rattle.bags.proofs.zero_span.Goals as goal
 
-pub returns-then-low-eq0 : goal.returns-then-low-eq0
-returns-then-low-eq0 c = record {
-  view = λ high. zero-any c.args.low high (omega arith);
-  small = small-up 0 0
-      (omega arith);
-}
+pub returns-then-low-eq0-clause-view : goal.returns-then-low-eq0-clause-view
+unfolding view
+returns-then-low-eq0-clause-view c = λ high. sym (zero-from c.args.low high (omega arith))
 
-pub returns : goal.returns
-returns c = record {
-  view = λ high. zero-alone c.args.low high (omega arith);
-  small = small-ends 0 0 0 (omega
-      arith) (omega arith);
-}
+pub returns-clause-view : goal.returns-clause-view
+unfolding view
+returns-clause-view c = λ high. sym (zero-only c.args.low high (omega arith))

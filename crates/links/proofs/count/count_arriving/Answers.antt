@@ -38,17 +38,11 @@ loop-at-init c = (
       ∙ c.requires.arrivals.chained.heads c.args.card (omega (arith, c.requires.arrivals.cards-in))),
 )
 
-pub bounds-counts-kind : goal.bounds-counts-kind
-bounds-counts-kind c = kind-in (goal.at.bounds-counts-kind c).After-from-kind
-
 pub overflow_add-counts : goal.overflow_add-counts
 overflow_add-counts c =
     let small = arriving-small c.loop-at.invariant.1 c.from-kind.result (kind-in (goal.at.overflow_add-counts
     c).After-from-kind) in
     omega (arith, small, c.requires.within.few)
-
-pub bounds-counts-kind-in-loop-at : goal.bounds-counts-kind-in-loop-at
-bounds-counts-kind-in-loop-at c = kind-in (goal.at.bounds-counts-kind-in-loop-at c).After-from-kind
 
 pub loop-at-smaller : goal.loop-at-smaller
 loop-at-smaller c =
