@@ -133,11 +133,14 @@ module _ (template script : List ℕ) (e : Extent) (grid : List ℕ) where
 
   pub shapes-next : (at t count : ℕ) → ShapesFitted template script e grid at t → t < e.shapes →
       count ≡ get_or template at 0 → (after : List ℕ) → ColumnFitted template script e t grid after →
-      ShapesFitted template script e after (at + 1 + count) (t + 1)
+      ShapesFitted template script e after (at + (1 + count)) (t + 1)
   shapes-next at t count f l q after c = record {
     size = c.full;
     within = omega arith;
-    place = rw (q, add-one t, f.place) (sym (place-next template t 2));
+    place =
+        let next : at + 1 + count ≡ shape_place template (t + 1) 2 =
+        rw (q, add-one t, f.place) (sym (place-next template t 2)) in
+        omega (arith, next);
     each = λ parts r n s i j. ⊎_elim
         (λ (same : s ≡ t). rw same (c.each parts r n i))
         (λ below. c.others n s i (omega arith) (λ same. omega arith) ∙ f.each parts r n s i below)

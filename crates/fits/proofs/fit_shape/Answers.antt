@@ -1,5 +1,5 @@
 -- `fits::fit_shape` meets its contract. The invariant: the cards before the loop's have their bytes under the shape,
--- a twin's among them. The measure is the count of cards left. Assumes nothing.
+-- a twin's among them. Assumes nothing.
 use Prim.Native.Nat.{ℕ, ◌+◌, ◌*◌, ◌≤◌, ◌<◌}
 use mathlib.Core.Path.{refl, sym, ap, subst, ◌∙◌}
 use mathlib.Core.Logic.{⊎_elim}
@@ -50,70 +50,6 @@ twin a =
 twin-cell : (a : After-wide-twin) → Inside (goal.at.After-wide-twin a).In-loop-n a.wide-twin.result
 twin-cell a = cell (goal.at.After-wide-twin a).In-loop-n a.wide-twin.result (twin a).before
 
-pub plan_shape-plan-requires : goal.plan_shape-plan-requires
-plan_shape-plan-requires c =
-    let o = c.requires.opened in
-    record {
-      whole = template_as _ _ o.parts;
-      read = o.template-read;
-      shape = c.args.t;
-      below = c.requires.named.below;
-      place = c.requires.named.place;
-      blank = refl;
-    }
-
-pub looks_back-back-requires : goal.looks_back-back-requires
-looks_back-back-requires c =
-    c.requires.named.asked
-
-pub loop-n-init : goal.loop-n-init
-loop-n-init c = cards-start _ _ c.args.e _ _ c.requires.size
-
-pub bounds-twins-n : goal.bounds-twins-n
-bounds-twins-n c =
-    omega (arith, below (goal.at.bounds-twins-n c).In-loop-n, c.requires.alike.room)
-
-pub overflow_mul-grid : goal.overflow_mul-grid
-overflow_mul-grid c = let i = twin-cell (goal.at.overflow_mul-grid c).After-wide-twin in search rules
-
-pub overflow_add-grid : goal.overflow_add-grid
-overflow_add-grid c = let i = twin-cell (goal.at.overflow_add-grid c).After-wide-twin in search rules
-
-pub bounds-grid-twin : goal.bounds-grid-twin
-bounds-grid-twin c = let i = twin-cell (goal.at.bounds-grid-twin c).After-wide-twin in search rules
-
-pub overflow_mul-grid-then-not-back : goal.overflow_mul-grid-then-not-back
-overflow_mul-grid-then-not-back c = let i = own (goal.at.overflow_mul-grid-then-not-back c).In-loop-n in search rules
-
-pub overflow_add-grid-then-not-back : goal.overflow_add-grid-then-not-back
-overflow_add-grid-then-not-back c = let i = own (goal.at.overflow_add-grid-then-not-back c).In-loop-n in search rules
-
-pub bounds-grid-n : goal.bounds-grid-n
-bounds-grid-n c = let i = own (goal.at.bounds-grid-n c).In-loop-n in search rules
-
-pub pair_fits-fit-requires : goal.pair_fits-fit-requires
-pair_fits-fit-requires c =
-    record {
-      opened = c.requires.opened;
-      leaving = c.requires.leaving;
-      arriving = c.requires.arriving;
-      t = c.args.t;
-      at = c.args.at;
-      named = c.requires.named;
-      planned = c.plan_shape-plan.ensures;
-      seen = c.looks_back-back.ensures;
-      below = below (goal.at.pair_fits-fit-requires c).In-loop-n;
-    }
-
-pub overflow_mul-grid-else-twin-n : goal.overflow_mul-grid-else-twin-n
-overflow_mul-grid-else-twin-n c = let i = own (goal.at.overflow_mul-grid-else-twin-n c).In-loop-n in search rules
-
-pub overflow_add-grid-else-twin-n : goal.overflow_add-grid-else-twin-n
-overflow_add-grid-else-twin-n c = let i = own (goal.at.overflow_add-grid-else-twin-n c).In-loop-n in search rules
-
-pub bounds-grid-n-else-twin-n : goal.bounds-grid-n-else-twin-n
-bounds-grid-n-else-twin-n c = let i = own (goal.at.bounds-grid-n-else-twin-n c).In-loop-n in search rules
-
 pub loop-n-preserved : goal.loop-n-preserved
 loop-n-preserved c =
     let place = ap (λ (x : ℕ). c.loop-n.n * x + c.args.t) c.wide-shapes.ensures.same in
@@ -129,9 +65,5 @@ loop-n-preserved c =
     (λ w. rw w.grid-is (cards-next _ _ c.args.e _ _ _ _ _ _ c.loop-n.invariant (below (goal.at.loop-n-preserved
     c).In-loop-n) c.requires.named.below place
     (λ parts r. pair-byte _ _ c.args.e _ _ _ _ _ c.plan_shape-plan.ensures
-    c.requires.named.place c.requires.named.below _ w.pair_fits-fit.ensures _ w.bit.ensures parts r)))
+    c.requires.named.place c.requires.named.below _ w.pair_fits-fit.ensures _ w.from.ensures parts r)))
     c.if-twin-n.branch-raw
-
-pub returns : goal.returns
-returns c =
-    cards-end _ _ c.args.e _ _ _ _ c.loop-n.invariant (omega (arith, c.wide-cards.ensures.same))

@@ -18,10 +18,3 @@ returns-then-e c =
           sym (row-part c.args.row.now max_kinds (max_kinds + c.wide-stop.result - max_kinds) k (omega arith))
           ∙ c.some_named.ensures o k (omega (arith, full));
     }
-
-pub returns : goal.returns
-returns c =
-    record {
-      yes = λ y. absurd (false≢true y);
-      no = λ o k l. c.requires.ways c.if-e.false k (omega (arith, c.requires.few));
-    }
