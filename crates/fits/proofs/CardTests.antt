@@ -4,23 +4,22 @@
 -- flat-named, flat-met               a flat core: a kind is not named, or its interval is known
 -- other-passed, other-not            any other part: by its interval, and by the kinds that it does not name
 -- Assumes nothing.
-use Prim.Native.Nat.{ℕ, zero, suc, ◌+◌, ◌-◌, ◌*◌, ◌≤◌, ◌<◌}
-use mathlib.Core.Path.{◌≡◌, refl, sym, ap, ap₂, subst, ◌∙◌}
+use Prim.Native.Nat.{ℕ, zero, suc, ◌+◌, ◌-◌, ◌≤◌, ◌<◌}
+use mathlib.Core.Path.{◌≡◌, refl, sym, ap, ap₂, ◌∙◌}
 use mathlib.Core.Logic.{⊎_elim}
 use mathlib.Core.Bool.{Bool, true, false, ◌&&◌, ◌||◌}
 use mathlib.Core.List.{List}
 use native.Mathlib.Omega.{arith}
-use native.Mathlib.Numerals.{add-one}
 use lib.ListN.{length, get_or}
 use lib.Dec.{eqb}
 use Rattle.words.specs.Limits.{max_kinds, max_depth}
-use Rattle.words.proofs.Bools.{eq-or-ne, last-or-below, or_left, or_right}
+use Rattle.words.proofs.Bools.{eq-or-ne, or_left, or_right}
 use Rattle.bags.specs.Part.{Part, names}
 use Rattle.bags.specs.Interval.{interval, inside, others_zero, fits}
 use Rattle.bags.specs.declared.Span.{Span}
 use Rattle.bags.proofs.Decide.{others-all}
 use Rattle.links.specs.Runs.{kind_in, kinds_in, amount, KindsRise}
-use Rattle.links.proofs.Runs.{kinds-none, kinds-some, kind_at, amount-counted}
+use Rattle.links.proofs.Runs.{kinds-none, kinds-some, amount-counted}
 use Rattle.flat.specs.Meeting.{KindsUnder, MetAs}
 use Rattle.std.specs.Prelude.{Some, None}
 use Rattle.trees.specs.Trees.{tree_at}

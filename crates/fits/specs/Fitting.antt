@@ -17,9 +17,7 @@ use Rattle.bags.specs.Interval.{fits}
 use Rattle.bags.specs.Proposition.{label_count}
 use Rattle.template.specs.Template.{part_at, shape_place, opens, read_template}
 use Rattle.script.specs.Link.{neighbours}
-use Rattle.script.specs.Script.{counts_of, read_script}
 use Rattle.links.specs.Index.{StartsOf, ArrivalsOf}
-use Rattle.links.specs.Counts.{way_count}
 use Rattle.twins.specs.Twins.{TwinsOf}
 use Rattle.sheet.specs.declared.Extent.{Extent}
 use Rattle.sheet.specs.Opened.{template_as, Opened, Known}

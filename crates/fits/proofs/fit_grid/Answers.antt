@@ -7,7 +7,7 @@ use Rattle.sheet.specs.Opened.{template_as}
 use Rattle.fits.proofs.Rows.{row_inside, row_named}
 use Rattle.fits.proofs.Planning.{ShapeIn, shape-in}
 use Rattle.fits.proofs.Twins.{twins-asked, twins-found}
-use Rattle.fits.proofs.Cells.{shapes-start, shapes-next, shapes-end}
+use Rattle.fits.proofs.Cells.{shapes-start, shapes-next}
 use borrow.Author.Rules.{rules}
 use Rattle.fits.proofs.fit_grid.Goals as goal
 use Rattle.fits.proofs.fit_grid.Goals.{In-loop-t}

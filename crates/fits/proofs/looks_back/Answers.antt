@@ -4,7 +4,6 @@ use Prim.Native.Nat.{◌+◌, ◌-◌}
 use borrow.Rule.Slice.PartMut.{mid_len}
 use Rattle.words.specs.Limits.{max_kinds}
 use native.Mathlib.Omega.{arith}
-use mathlib.Core.Bool.{false≢true}
 use Rattle.fits.proofs.Rows.{row-part}
 use Rattle.fits.proofs.looks_back.Goals as goal
 
