@@ -3,23 +3,22 @@
 -- shape_at       the part of a shape; shape-kinds, none-back: it names kinds of the template, and maybe no incoming one
 -- leaving-read  where the links from each card start
 -- own-rise, own-under   the kinds of a card's links rise, and are the template's
--- ListedBack    the counts of incoming kinds are listed where they matter
+-- ListedBack    the counts of incoming kinds are listed where they matter; listed-none, listed-all: none, and all
 -- back-asked    what counting the links to a card asks
--- listed-few, listed_back   how many counts are listed, and which
 -- pair-byte     what is said of a pair is its byte
 -- pair-told     what is counted off fits a shape exactly if the card's neighbours do
 -- named-row     the row has the names of the part
 -- Assumes nothing.
 use Prim.Native.Nat.{ℕ, ◌+◌, ◌-◌, ◌≤◌, ◌<◌}
-use mathlib.Core.Path.{◌≡◌, sym, ap, ap₂, subst, ◌∙◌}
+use mathlib.Core.Path.{◌≡◌, refl, sym, ap, ap₂, subst, ◌∙◌}
 use mathlib.Core.Bool.{Bool, true, false, cond}
-use mathlib.Core.List.{List}
+use mathlib.Core.List.{List, []}
 use native.Mathlib.Omega.{arith}
-use lib.ListN.{length, get_or, take}
-use lib.Seq.{length-take-le, get_or-take}
+use lib.ListN.{length, get_or, replicate, length-replicate, get_or-replicate}
+use Rattle.std.specs.Int.{from_bool}
 use Rattle.words.specs.Limits.{max_kinds, max_labels, max_depth}
 use Rattle.words.specs.Reading.{accepted}
-use Rattle.words.proofs.Bools.{bool_case}
+use Rattle.words.proofs.Bools.{bool_case, never_both}
 use Rattle.bags.specs.Label.{Way, outgoing, incoming, label_of}
 use Rattle.bags.specs.Part.{Part, Names}
 use Rattle.bags.specs.Interval.{fits}
@@ -29,9 +28,9 @@ use Rattle.bags.proofs.Looking.{fits-alike}
 use Rattle.template.specs.Template.{open_at, part_at, shape_place, opens, read_template}
 use Rattle.template.proofs.Accepted.{template-accepted}
 use Rattle.script.specs.Link.{to_at, card_words, neighbours, below}
-use Rattle.script.specs.Script.{counts_of}
+use Rattle.script.specs.Script.{counts_of, read_script}
 use Rattle.words.specs.Chain.{Chained}
-use Rattle.links.specs.Index.{StartsOf, LeavingOf, CountArrivingAsked}
+use Rattle.links.specs.Index.{StartsOf, ArrivalsOf, LeavingOf, CountArrivingAsked}
 use Rattle.links.specs.Counts.{way_count}
 use Rattle.links.specs.Runs.{kinds_in, amount, KindsRise}
 use Rattle.script.proofs.Reading.{script-accepted}
@@ -47,7 +46,7 @@ use Rattle.trees.proofs.Agreement.{shape-tree}
 use Rattle.counts.proofs.OwnCounts.{own-way}
 use Rattle.fits.specs.declared.Plan.{Plan}
 use Rattle.fits.specs.Plans.{PlanOf}
-use Rattle.fits.specs.Fitting.{Named, WaysSeen, BackAsked, CountedBack, byte_at, PairFits}
+use Rattle.fits.specs.Fitting.{Named, WaysSeen, byte_at, PairFits}
 
 -- Where they matter, the counts of the links to card n are listed; else none is.
 pub record ListedBack (script : List ℕ) (e : Extent) (back : Bool) (n : ℕ) (listed : List ℕ) : Type 0 where
@@ -60,23 +59,32 @@ pub listed-short : (script : List ℕ) (e : Extent) (back : Bool) (n : ℕ) (lis
     ListedBack script e back n listed → length listed ≤ max_kinds
 listed-short script e back n listed b = bool_case back (λ y. omega (arith, b.yes y)) (λ o. omega (arith, b.no o))
 
+module _ (script : List ℕ) (e : Extent) (n : ℕ) {back : Bool} where
+  pub listed-none : back ≡ false → ListedBack script e back n []
+  listed-none off = record { yes = λ y. never_both y off; exact = λ y. never_both y off; no = λ o. refl }
+
+  pub listed-all : {listed : List ℕ} → back ≡ true → length listed ≡ max_kinds →
+      ((k : ℕ) → k < max_kinds → get_or listed k 0 ≡ way_count incoming script n k e.links) →
+      ListedBack script e back n listed
+  listed-all on size exact = record { yes = λ y. size; exact = λ y. exact; no = λ o. never_both on o }
+
 -- What counting the links to a card asks.
-pub back-asked : (script first next : List ℕ) (e : Extent) (back : Bool) (n : ℕ) (counts : List ℕ) (links : ℕ) →
-    BackAsked script first next e back n counts → back ≡ true → links ≡ e.links →
-    CountArrivingAsked script first next links n counts
-back-asked script first next e back n counts links b y q =
-    let w = script-accepted e.kinds script (counts_of e.cards e.links) b.read in
-    let a = b.arriving y in
-    let few = b.few in
+pub back-asked : (script first next : List ℕ) (e : Extent) (n links : ℕ) →
+    read_script e.kinds script ≡ accepted (counts_of e.cards e.links) → e.kinds ≤ max_kinds →
+    ArrivalsOf script first next e.cards e.links → n < e.cards → links ≡ e.links →
+    CountArrivingAsked script first next links n (replicate max_kinds 0)
+back-asked script first next e n links read few a below q =
+    let w = script-accepted e.kinds script (counts_of e.cards e.links) read in
+    let room : length (replicate {A = ℕ} max_kinds 0) ≡ max_kinds = length-replicate {A = ℕ} max_kinds 0 in
     record {
       within = record { order = omega arith; few = omega (arith, w.links-bound); end = omega (arith, w.size) };
       arrivals = record {
-        cards-in = omega (arith, a.cards-in, b.below);
+        cards-in = omega (arith, a.cards-in);
         links-in = omega (arith, a.links-in);
         chained = subst (Chained (to_at script) first next) (sym q) a.chained;
       };
-      kinds = λ i l. omega (arith, w.kind-below i (omega arith), b.room);
-      zeros = b.zeros;
+      kinds = λ i l. omega (arith, w.kind-below i (omega arith), room);
+      zeros = λ k l. get_or-replicate {A = ℕ} max_kinds k 0 0 (omega (arith, room));
     }
 
 -- The part of the shape whose count of words stands at a place.
@@ -201,23 +209,14 @@ named-row template row e t at start named q =
     subst (λ (x : ℕ). RowOf row e.kinds (tree_at max_depth template x).value) (sym q)
     (λ k h. named.names k (omega (arith, named.asked.few)))
 
--- The counts that are listed, taken out of all.
-module _ (script : List ℕ) (e : Extent) (back : Bool) (n : ℕ) (counts : List ℕ) (size : ℕ)
-    (c : CountedBack script e back n counts size) where
-  pub listed-few : size ≤ max_kinds
-  listed-few = bool_case back (λ y. omega (arith, c.yes y)) (λ o. omega (arith, c.no o))
-
-  pub listed_back : (taken : ℕ) → taken ≡ size → ListedBack script e back n (take taken counts)
-  listed_back taken q = record {
-    yes = λ y. length-take-le taken counts (omega (arith, c.yes y, c.room)) ∙ q ∙ c.yes y;
-    exact = λ y k l. get_or-take taken counts k 0 (omega (arith, c.yes y)) ∙ c.exact y k l;
-    no = λ o. length-take-le taken counts (omega (arith, c.no o)) ∙ q ∙ c.no o;
-  }
+byte-is : (fit : Bool) → from_bool fit ≡ cond fit 1 0
+byte-is true = refl
+byte-is false = refl
 
 -- What is said of a pair is its byte.
 pub pair-byte : (template script : List ℕ) (e : Extent) (plan : Plan) (places : List ℕ) (at t n : ℕ) →
     PlanOf template at places plan → at ≡ shape_place template t 2 → t < e.shapes → (fit : Bool) →
-    PairFits template script e plan n fit → (byte : ℕ) → byte ≡ cond fit 1 0 → (parts : List Part) →
+    PairFits template script e plan n fit → (byte : ℕ) → byte ≡ from_bool fit → (parts : List Part) →
     read_template template ≡ accepted (template_as e.kinds e.shapes parts) →
     byte ≡ byte_at script e (opens template t) (get_or parts t Part.nothing) n
 pair-byte template script e plan places at t n planned q l fit said byte b parts r =
@@ -226,5 +225,5 @@ pair-byte template script e plan places at t n planned q l fit said byte b parts
     let part : (tree_at max_depth template plan.start).value ≡ get_or parts t Part.nothing =
     ap (λ (x : ℕ). (tree_at max_depth template x).value) (planned.start ∙ ap (part_at template) q)
     ∙ shape-tree template (template_as e.kinds e.shapes parts) t r l in
-    b ∙ ap (λ (y : Bool). cond {A = ℕ} y 1 0)
+    b ∙ byte-is fit ∙ ap (λ (y : Bool). cond {A = ℕ} y 1 0)
     (said ∙ ap₂ (λ (o : Bool) (p : Part). fits o e.kinds p w) is_open part)

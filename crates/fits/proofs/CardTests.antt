@@ -1,29 +1,27 @@
 -- What the tests of a card's links say of fitting a shape.
--- NamedTo, named_start, named-next   the kinds of the links so far have entries
--- kind-below                         the kind of the next link is below the limit
+-- NamedTo                            the kinds of so many links have entries
 -- named-all, named-not               whether the kinds that a part does not name count 0, from the entries
 -- flat-named, flat-met               a flat core: a kind is not named, or its interval is known
 -- other-passed, other-not            any other part: by its interval, and by the kinds that it does not name
 -- Assumes nothing.
-use Prim.Native.Nat.{ℕ, zero, suc, ◌+◌, ◌-◌, ◌*◌, ◌≤◌, ◌<◌}
-use mathlib.Core.Path.{◌≡◌, refl, sym, ap, ap₂, subst, ◌∙◌}
+use Prim.Native.Nat.{ℕ, zero, suc, ◌+◌, ◌-◌, ◌≤◌, ◌<◌}
+use mathlib.Core.Path.{◌≡◌, refl, sym, ap, ap₂, ◌∙◌}
 use mathlib.Core.Logic.{⊎_elim}
 use mathlib.Core.Bool.{Bool, true, false, ◌&&◌, ◌||◌}
 use mathlib.Core.List.{List}
 use native.Mathlib.Omega.{arith}
-use native.Mathlib.Numerals.{add-one}
 use lib.ListN.{length, get_or}
 use lib.Dec.{eqb}
 use Rattle.words.specs.Limits.{max_kinds, max_depth}
-use Rattle.words.proofs.Bools.{eq-or-ne, last-or-below, or_left, or_right}
+use Rattle.words.proofs.Bools.{eq-or-ne, or_left, or_right}
 use Rattle.bags.specs.Part.{Part, names}
 use Rattle.bags.specs.Interval.{interval, inside, others_zero, fits}
 use Rattle.bags.specs.declared.Span.{Span}
 use Rattle.bags.proofs.Decide.{others-all}
 use Rattle.links.specs.Runs.{kind_in, kinds_in, amount, KindsRise}
-use Rattle.links.proofs.Runs.{kinds-none, kinds-some, kind_at, amount-counted}
+use Rattle.links.proofs.Runs.{kinds-none, kinds-some, amount-counted}
 use Rattle.flat.specs.Meeting.{KindsUnder, MetAs}
-use Rattle.flat.specs.declared.meet.Meeting.TheVariants as meeting
+use Rattle.std.specs.Prelude.{Some, None}
 use Rattle.trees.specs.Trees.{tree_at}
 use Rattle.evaluator.specs.Rows.{RowOf}
 use Rattle.evaluator.proofs.Testing.{others-named, others-zero, others-not, fits-passed, fits-failed}
@@ -31,62 +29,26 @@ use Rattle.trees.proofs.Wrapping.{core-names}
 use Rattle.fits.specs.declared.Plan.{Plan}
 use Rattle.fits.specs.Plans.{FlatPlan}
 
--- The kinds of the links before a place have entries in the row.
-pub record NamedTo (row links : List ℕ) (at : ℕ) : Type 0 where
-  pub link : ℕ
-  pub place : at ≡ 1 + 3 * link
-  pub inside : 3 * link ≤ length links
-  pub each : (i : ℕ) → i < link → get_or row (kind_in links i) 0 ≡ 0 → ⊥
+-- The kinds of so many links have entries in the row.
+abbrev pub NamedTo : List ℕ → List ℕ → ℕ → Type 0
+NamedTo row links many = (i : ℕ) → i < many → get_or row (kind_in links i) 0 ≡ 0 → ⊥
 
-pub named_start : (row links : List ℕ) → NamedTo row links 1
-named_start row links = record {
-  link = 0;
-  place = omega arith;
-  inside = omega arith;
-  each = λ i l. absurd (omega arith);
-}
-
-module _ (row links : List ℕ) (r : KindsRise links) (at : ℕ) (n : NamedTo row links at) where
-  -- the link that stands there
-  here : at < length links → n.link < r.many
-  here l = omega (arith, n.place, r.size)
-
-  kind-here : kind_in links n.link ≡ get_or links at 0
-  kind-here = sym (kind_at links n.link at n.place)
-
-  -- the kind that stands there
-  pub kind-below : ((i : ℕ) → 3 * i < length links → kind_in links i < max_kinds) → at < length links →
-      get_or links at 0 < max_kinds
-  kind-below leaving l = omega (arith, leaving n.link (omega (arith, n.place)), kind-here)
-
-  pub named-next : at < length links → (get_or row (get_or links at 0) 0 ≡ 0 → ⊥) → NamedTo row links (at + 3)
-  named-next l ne = record {
-    link = n.link + 1;
-    place = omega (arith, n.place);
-    inside = omega (arith, n.place, r.size);
-    each = λ i b. ⊎_elim
-        (λ (e : i ≡ n.link). λ z. ne (ap (λ (k : ℕ). get_or row k 0) (sym (ap (kind_in links) e ∙ kind-here)) ∙ z))
-        (λ below. n.each i below)
-        (last-or-below (rw (add-one n.link) at b));
-  }
-
+module _ (row links : List ℕ) (r : KindsRise links) (link : ℕ) (n : NamedTo row links link) where
   module _ (p : Part) (kinds : ℕ) (names : RowOf row kinds p) (u : KindsUnder links kinds) where
     -- a link's kind has no entry
-    pub named-not : at < length links → get_or row (get_or links at 0) 0 ≡ 0 → false ≡ others_zero kinds p
-        (kinds_in links)
+    pub named-not : link < r.many → get_or row (kind_in links link) 0 ≡ 0 →
+        false ≡ others_zero kinds p (kinds_in links)
     named-not l none =
-        let k = get_or links at 0 in
-        let below : k < kinds = omega (arith, u.below n.link (omega (arith, n.place)), kind-here) in
-        let some : 1 ≤ kinds_in links k =
-        subst (λ (j : ℕ). 1 ≤ kinds_in links j) kind-here (kinds-some links r n.link (here l)) in
-        others-not p (kinds_in links) k (get_or row k 0) (names k below) (λ z. omega arith) none kinds below
+        let k = kind_in links link in
+        let below : k < kinds = u.below link (omega (arith, r.size)) in
+        others-not p (kinds_in links) k (get_or row k 0) (names k below)
+        (λ z. omega (arith, kinds-some links r link l)) none kinds below
 
     -- all have entries
-    pub named-all : length links ≤ at → true ≡ others_zero kinds p (kinds_in links)
+    pub named-all : r.many ≤ link → true ≡ others_zero kinds p (kinds_in links)
     named-all l = sym (others-all p (kinds_in links) kinds (λ k below. ⊎_elim
         (λ (none : get_or row k 0 ≡ 0). others-zero p (kinds_in links) k (get_or row k 0) (names k below)
-        (kinds-none links r k (λ i b e. n.each i (omega (arith, n.place, r.size))
-        (ap (λ (j : ℕ). get_or row j 0) e ∙ none))))
+        (kinds-none links r k (λ i b e. n i (omega arith) (ap (λ (j : ℕ). get_or row j 0) e ∙ none))))
         (λ some. others-named p (kinds_in links) k (get_or row k 0) (names k below) some)
         (eq-or-ne (get_or row k 0) 0)))
 
@@ -99,7 +61,7 @@ others_same (suc kinds) p q v w n c =
     (ap₂ (λ (a b : Bool). a || b) (n kinds) (ap (λ (m : ℕ). eqb m 0) (c kinds (omega arith))))
 
 -- ---- a flat core
-module _ (words places : List ℕ) (plan : Plan) (f : FlatPlan words places plan) (kinds : ℕ) (w : ℕ → ℕ) where
+module _ (words places : List ℕ) (plan : Plan) (needed : ℕ) (f : FlatPlan words places plan needed) (kinds : ℕ) (w : ℕ → ℕ) where
   -- the core, and the whole part
   abbrev core : Part
   core = (tree_at f.left words plan.core).value
@@ -115,10 +77,10 @@ module _ (words places : List ℕ) (plan : Plan) (f : FlatPlan words places plan
   whole-others : others_zero kinds core w ≡ others_zero kinds whole w
   whole-others = others_same kinds core whole w w (λ k. sym (whole-names k)) (λ k l. refl)
 
-  pub flat-named : MetAs plan.opened kinds core w meeting.Unnamed → false ≡ fits plan.opened kinds whole w
+  pub flat-named : MetAs plan.opened kinds core w None → false ≡ fits plan.opened kinds whole w
   flat-named (o, n) = fits-failed plan.opened kinds whole w o (sym whole-others ∙ n)
 
-  module _ (span : Span) (m : MetAs plan.opened kinds core w (meeting.Met span)) where
+  module _ (span : Span) (m : MetAs plan.opened kinds core w (Some span)) where
     pub flat-met : (one : Bool)
         → one ≡ inside 1 (interval (tree_at (f.left + (plan.core - plan.start)) words plan.start).value w)
         → one ≡ fits plan.opened kinds whole w

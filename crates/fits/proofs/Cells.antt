@@ -3,28 +3,24 @@
 -- cards-start, cards-next, cards-end      at the first card, after one more, and after the last
 -- ShapesFitted   what holds before each shape: the shapes before it have their columns
 -- shapes-start, shapes-next, shapes-end   at the first shape, after one more, and after the last
--- cell-inside    the byte of a pair lies in the grid; pairs-bound: a sheet has no more pairs than the greatest grid
+-- cell-inside    the byte of a pair lies in the grid
 -- Assumes nothing.
 use Prim.Native.Nat.{ℕ, ◌+◌, ◌*◌, ◌≤◌, ◌<◌}
 use mathlib.Core.Path.{◌≡◌, refl, sym, ap, ◌∙◌}
 use mathlib.Core.Logic.{⊎_elim}
 use mathlib.Core.List.{List}
 use native.Mathlib.Omega.{arith}
-use native.Mathlib.Nat.{mul-le-mul, mul-le-mul_right, suc-mul}
+use native.Mathlib.Nat.{mul-le-mul_right, suc-mul}
 use native.Mathlib.Numerals.{add-one}
 use lib.ListN.{length, get_or, set, length-set}
 use lib.Seq.{get_or-set_same, get_or-set_other}
-use Rattle.words.specs.Limits.{max_cards, max_shapes}
-use Rattle.words.specs.Sizes.{max_grid}
 use Rattle.words.specs.Reading.{accepted}
 use Rattle.words.proofs.Bools.{le-or-lt, eq-or-ne, last-or-below}
 use Rattle.bags.specs.Part.{Part}
 use Rattle.template.specs.Template.{shape_place, opens, read_template}
-use Rattle.template.proofs.Accepted.{place-next, template-accepted}
-use Rattle.script.specs.Script.{counts_of}
-use Rattle.script.proofs.Reading.{script-accepted}
+use Rattle.template.proofs.Accepted.{place-next}
 use Rattle.sheet.specs.declared.Extent.{Extent}
-use Rattle.sheet.specs.Opened.{template_as, Opened}
+use Rattle.sheet.specs.Opened.{template_as}
 use Rattle.fits.specs.Fitting.{byte_at, ColumnFitted, Fitted}
 
 -- The row of a card c below n ends where that of card n starts, or before.
@@ -133,23 +129,16 @@ module _ (template script : List ℕ) (e : Extent) (grid : List ℕ) where
 
   pub shapes-next : (at t count : ℕ) → ShapesFitted template script e grid at t → t < e.shapes →
       count ≡ get_or template at 0 → (after : List ℕ) → ColumnFitted template script e t grid after →
-      ShapesFitted template script e after (at + 1 + count) (t + 1)
+      ShapesFitted template script e after (at + (1 + count)) (t + 1)
   shapes-next at t count f l q after c = record {
     size = c.full;
     within = omega arith;
-    place = rw (q, add-one t, f.place) (sym (place-next template t 2));
+    place =
+        let next : at + 1 + count ≡ shape_place template (t + 1) 2 =
+        rw (q, add-one t, f.place) (sym (place-next template t 2)) in
+        omega (arith, next);
     each = λ parts r n s i j. ⊎_elim
         (λ (same : s ≡ t). rw same (c.each parts r n i))
         (λ below. c.others n s i (omega arith) (λ same. omega arith) ∙ f.each parts r n s i below)
         (last-or-below (rw (add-one t) at j));
   }
-
--- A sheet has no more cards and shapes than the limits.
-pub pairs-bound :
-    (template script : List ℕ) (e : Extent) (n : ℕ) → Opened template script e → n ≤ e.cards →
-    (n * e.shapes ≤ max_grid) × (e.shapes ≤ max_shapes)
-pairs-bound template script e n o h =
-    let w = script-accepted e.kinds script (counts_of e.cards e.links) o.script-read in
-    let t = template-accepted template (template_as e.kinds e.shapes o.parts) o.template-read in
-    let a : n ≤ max_cards = omega (arith, w.cards-bound) in
-    (mul-le-mul a t.shapes-high, t.shapes-high)

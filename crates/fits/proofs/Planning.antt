@@ -173,11 +173,11 @@ module _ (words : List ℕ) (end : ℕ) (inside : end ≤ length words) where
   }
 
   -- The plan of a shape whose core is flat.
-  pub flat-plan : (places : List ℕ) (plan : Plan) → Core words max_depth plan.start end
+  pub flat-plan : (places : List ℕ) (plan : Plan) (needed : ℕ) → Core words max_depth plan.start end
       → CoreAt words plan.start end plan.core
-      → ((p : Part) → Standing words plan.core end p → Surveyed words p places plan.needed)
-      → FlatPlan words places plan
-  flat-plan places plan c found surveyed =
+      → ((p : Part) → Standing words plan.core end p → Surveyed words p places needed)
+      → FlatPlan words places plan needed
+  flat-plan places plan needed c found surveyed =
       let (left, level, core) = core-below plan.start plan.core c found in
       record {
         wrap = found.wrap;

@@ -3,7 +3,6 @@
 -- Named       a row has the names of the shape whose count of words stands at a place
 -- ShapeReady, PairReady     what testing all cards, and one card, under a shape asks
 -- WaysAsked, WaysSeen       what looking for incoming kinds in a row asks and says
--- BackAsked, CountedBack    what counting the links to a card asks and leaves
 -- byte_of      the byte of a shape, open or closed, for some counts: 1 where they fit it
 -- byte_at      the byte of a pair: by the counts of the card's links
 -- PairFits    what the test of a pair says
@@ -18,9 +17,7 @@ use Rattle.bags.specs.Interval.{fits}
 use Rattle.bags.specs.Proposition.{label_count}
 use Rattle.template.specs.Template.{part_at, shape_place, opens, read_template}
 use Rattle.script.specs.Link.{neighbours}
-use Rattle.script.specs.Script.{counts_of, read_script}
 use Rattle.links.specs.Index.{StartsOf, ArrivalsOf}
-use Rattle.links.specs.Counts.{way_count}
 use Rattle.twins.specs.Twins.{TwinsOf}
 use Rattle.sheet.specs.declared.Extent.{Extent}
 use Rattle.sheet.specs.Opened.{template_as, Opened, Known}
@@ -69,23 +66,6 @@ pub record ShapeReady (template script row starts first next twins : List ℕ) (
   pub alike : TwinsOf script e.cards e.links twins
   pub named : Named template row e t at
   pub size : length grid ≡ e.cards * e.shapes
-
--- A script that is read, the chains of the links to its cards, a card of it, and a count of each kind, all 0.
-pub record BackAsked (script first next : List ℕ) (e : Extent) (back : Bool) (n : ℕ) (counts : List ℕ) : Type 0 where
-  pub read : read_script e.kinds script ≡ accepted (counts_of e.cards e.links)
-  pub few : e.kinds ≤ max_kinds
-  pub arriving : back ≡ true → ArrivalsOf script first next e.cards e.links
-  pub below : n < e.cards
-  pub room : length counts ≡ max_kinds
-  pub zeros : (k : ℕ) → k < length counts → get_or counts k 0 ≡ 0
-
--- All kinds are counted, or none is listed.
-pub record CountedBack (script : List ℕ) (e : Extent) (back : Bool) (n : ℕ) (counts : List ℕ) (listed : ℕ)
-    : Type 0 where
-  pub room : length counts ≡ max_kinds
-  pub yes : back ≡ true → listed ≡ max_kinds
-  pub exact : back ≡ true → (k : ℕ) → k < max_kinds → get_or counts k 0 ≡ way_count incoming script n k e.links
-  pub no : back ≡ false → listed ≡ 0
 
 -- A sheet that is read, where its links stand, a shape of it with its plan, and a card.
 pub record PairReady (template script row places starts first next : List ℕ) (e : Extent) (plan : Plan) (back : Bool)

@@ -4,7 +4,7 @@
 -- NamesAsked  what looking up the kinds of a card's links in a row of names asks
 -- CardReady   what testing a card's links asks; CardFits: what the test says
 -- Assumes nothing.
-use Rattle.std.specs.Prelude.{ℕ, ◌+◌, ◌-◌, ◌*◌, ◌≤◌, ◌<◌, ◌≡◌, Bool, true, List, length, replicate}
+use Rattle.std.specs.Prelude.{ℕ, ◌+◌, ◌-◌, ◌*◌, ◌≤◌, ◌<◌, ◌≡◌, Bool, Some, List, length, replicate}
 use Rattle.words.specs.Limits.{max_kinds, max_labels, max_template, max_depth}
 use Rattle.words.specs.Reading.{accepted}
 use Rattle.bags.specs.Interval.{fits}
@@ -26,18 +26,18 @@ pub record PlanAsked (template : List ℕ) (at : ℕ) (places : List ℕ) : Type
   pub place : at ≡ shape_place template shape 2
   pub blank : places ≡ replicate max_labels 0
 
--- The core of the part is flat: wrappers stand before it, and its links have their places.
-pub record FlatPlan (template places : List ℕ) (plan : Plan) : Type 0 where
+-- The core of the part is flat: wrappers stand before it, its links have their places, and so many must be there.
+pub record FlatPlan (template places : List ℕ) (plan : Plan) (needed : ℕ) : Type 0 where
   pub wrap : WrapAsked template plan.start plan.core
   pub left : ℕ
   pub level : left + (plan.core - plan.start) ≡ max_depth
-  pub surveyed : Surveyed template (tree_at left template plan.core).value places plan.needed
+  pub surveyed : Surveyed template (tree_at left template plan.core).value places needed
 
 -- The plan of the shape whose count of words stands at a place.
 pub record PlanOf (template : List ℕ) (at : ℕ) (places : List ℕ) (plan : Plan) : Type 0 where
   pub is_open : plan.opened ≡ open_at template at
   pub start : plan.start ≡ part_at template at
-  pub flat : plan.flat ≡ true → FlatPlan template places plan
+  pub flat : (needed : ℕ) → plan.needed ≡ Some needed → FlatPlan template places plan needed
 
 -- A row of names for all labels, and a card's links, each of an outgoing kind.
 pub record NamesAsked (row links : List ℕ) : Type 0 where
@@ -48,7 +48,7 @@ pub record NamesAsked (row links : List ℕ) : Type 0 where
 -- Such a row and such links, a plan, and counts of incoming kinds at most.
 pub record CardReady (template row places : List ℕ) (plan : Plan) (links arriving : List ℕ) : Type 0 where
   pub short : length template ≤ max_template
-  pub flat : plan.flat ≡ true → FlatPlan template places plan
+  pub flat : (needed : ℕ) → plan.needed ≡ Some needed → FlatPlan template places plan needed
   pub names : NamesAsked row links
   pub few : length arriving ≤ max_kinds
 

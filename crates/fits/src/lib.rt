@@ -3,7 +3,7 @@
 // the same kinds share the byte of a shape that names no incoming kind.
 #![tactic(auto)]
 
-ghost use Rattle.std.specs.Prelude.{ℕ, ◌≡◌, cond, List};
+ghost use Rattle.std.specs.Prelude.{ℕ, ◌≡◌, List};
 ghost use Rattle.bags.specs.Part.{Part};
 ghost use Rattle.bags.specs.Interval.{others_zero};
 ghost use Rattle.words.specs.Reading.{accepted};
@@ -13,11 +13,11 @@ ghost use Rattle.sheet.specs.Opened.{template_as};
 ghost use Rattle.flat.specs.Meeting.{KindsUnder};
 ghost use Rattle.evaluator.specs.Rows.{RowOf};
 ghost use Rattle.fits.specs.Plans.{PlanAsked, PlanOf, NamesAsked, CardReady, CardFits};
-ghost use Rattle.fits.specs.Fitting.{GridReady, ShapeReady, WaysAsked, WaysSeen, BackAsked, CountedBack};
+ghost use Rattle.fits.specs.Fitting.{GridReady, ShapeReady, WaysAsked, WaysSeen};
 ghost use Rattle.fits.specs.Fitting.{PairReady, PairFits, ColumnFitted, Fitted};
 
 use evaluator::part_fits;
-use flat::{Meeting, Survey, meet_card, survey_part};
+use flat::{meet_card, survey_part};
 use links::{count_arriving, leaving_links};
 use sheet::{Extent, some_named};
 use template::{open_at, part_at};
@@ -32,8 +32,7 @@ struct Plan {
     opened: bool,
     start: usize,
     core: usize,
-    flat: bool,
-    needed: usize,
+    needed: Option<usize>,
 }
 
 // Looks a shape over, whose count of words stands at `at`. The places of a flat core's links are entered, which are
@@ -46,22 +45,12 @@ fn plan_shape(template: &[u16], at: usize, places: &mut [u16]) -> Plan
     let opened = open_at(template, at);
     let start = part_at(template, at);
     let core = core_place(template, start, end);
-    let found = survey_part(template, core, end, places);
-    match found {
-        Survey::Flat(needed) => Plan {
-            opened,
-            start,
-            core,
-            flat: true,
-            needed,
-        },
-        Survey::Other => Plan {
-            opened,
-            start,
-            core,
-            flat: false,
-            needed: 0,
-        },
+    let needed = survey_part(template, core, end, places);
+    Plan {
+        opened,
+        start,
+        core,
+        needed,
     }
 }
 
@@ -71,12 +60,10 @@ fn all_named(row: &[u8], links: &[u16]) -> bool
     ensures { (p : Part) (kinds : ℕ) → RowOf row.now kinds p →
         KindsUnder links.now kinds → result ≡ others_zero kinds p (kinds_in links.now) }
 {
-    let mut at = 1;
-    while at < links.len() {
-        if row[wide(links[at])] == 0 {
+    for i in 0..links.len() / 3 {
+        if row[wide(links[3 * i + 1])] == 0 {
             return false;
         }
-        at += 3;
     }
     true
 }
@@ -94,20 +81,14 @@ fn card_fits(
     ensures { CardFits template.now row.now plan links.now
         arriving.now result }
 {
-    if plan.flat {
-        let met = meet_card(template, places, plan.opened, plan.needed, links, arriving);
-        return match met {
-            Meeting::Unnamed => false,
-            Meeting::Met(span) => core_fits(template, plan.start, plan.core, span),
-        };
+    match plan.needed {
+        Some(needed) => match meet_card(template, places, plan.opened, needed, links, arriving) {
+            Some(span) => core_fits(template, plan.start, plan.core, span),
+            None => false,
+        },
+        None => (plan.opened || all_named(row, links))
+            && part_fits(template, links, arriving, plan.start),
     }
-    if plan.opened {
-        return part_fits(template, links, arriving, plan.start);
-    }
-    if all_named(row, links) {
-        return part_fits(template, links, arriving, plan.start);
-    }
-    false
 }
 
 // Whether a shape names an incoming kind, by its row of the table of names.
@@ -120,27 +101,6 @@ fn looks_back(row: &[u8], e: Extent) -> bool
         return some_named(&row[MAX_KINDS..stop]);
     }
     false
-}
-
-// Counts the links to card n by kind, if they matter, and returns how many counts there are. The counts are all 0
-// before.
-fn count_back(
-    script: &[u16],
-    first: &[u16],
-    next: &[u16],
-    e: Extent,
-    back: bool,
-    n: usize,
-    counts: &mut [u16],
-) -> usize
-    requires { BackAsked script.now first.now next.now e back n counts.old }
-    ensures { CountedBack script.now e back n counts.new result }
-{
-    if back {
-        count_arriving(script, first, next, wide(e.links), n, counts);
-        return counts.len();
-    }
-    0
 }
 
 // Whether the links of card n fit a shape. Those to it are looked at if the shape names an incoming kind.
@@ -162,15 +122,12 @@ fn pair_fits(
     ensures { PairFits template.now script.now e plan n result }
 {
     let own = leaving_links(script, starts, n);
+    if !back {
+        return card_fits(template, row, places, plan, own, &[]);
+    }
     let mut arriving = [0u16; MAX_KINDS];
-    let listed = count_back(script, first, next, e, back, n, &mut arriving);
-    card_fits(template, row, places, plan, own, &arriving[0..listed])
-}
-
-fn bit(fit: bool) -> u8
-    ensures { result ≡ cond fit 1 0 }
-{
-    if fit { 1 } else { 0 }
+    count_arriving(script, first, next, wide(e.links), n, &mut arriving);
+    card_fits(template, row, places, plan, own, &arriving)
 }
 
 // Tests the shape t, whose count of words stands at `at`, on each card: its column of the grid is 1 where the counts
@@ -199,8 +156,7 @@ fn fit_shape(
     let back = looks_back(row, e);
     let cards = wide(e.cards);
     let shapes = wide(e.shapes);
-    let mut n = 0;
-    while n < cards {
+    for n in 0..cards {
         let twin = wide(twins[n]);
         if twin < n && !back {
             grid[n * shapes + t] = grid[twin * shapes + t];
@@ -208,9 +164,8 @@ fn fit_shape(
             let fit = pair_fits(
                 template, script, row, &places, starts, first, next, e, plan, back, n,
             );
-            grid[n * shapes + t] = bit(fit);
+            grid[n * shapes + t] = u8::from(fit);
         }
-        n += 1;
     }
 }
 
@@ -235,8 +190,7 @@ pub fn fit_grid(
     find_twins(script, starts, wide(e.cards), &mut twins);
     let shapes = wide(e.shapes);
     let mut at = 2;
-    let mut t = 0;
-    while t < shapes {
+    for t in 0..shapes {
         let base = t * MAX_LABELS;
         let end = base + MAX_LABELS;
         fit_shape(
@@ -252,7 +206,6 @@ pub fn fit_grid(
             at,
             grid,
         );
-        at = at + 1 + wide(template[at]);
-        t += 1;
+        at += 1 + wide(template[at]);
     }
 }

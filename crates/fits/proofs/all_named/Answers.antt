@@ -1,32 +1,43 @@
--- `fits::all_named` meets its contract. The invariant: the kinds of the links so far have entries. The measure is the
--- count of words left. Assumes nothing.
-use Prim.Native.Nat.{ℕ}
-use mathlib.Core.Path.{◌∙◌, ap, sym}
+-- `fits::all_named` meets its contract. The invariant: the kinds of the links so far have entries. Assumes nothing.
+use Prim.Native.Nat.{ℕ, ◌+◌, ◌*◌}
+use mathlib.Core.Path.{◌≡◌, ◌∙◌, ap, sym}
 use native.Mathlib.Omega.{arith}
+use borrow.Author.Count.{below_more}
 use lib.ListN.{get_or}
-use Rattle.fits.proofs.CardTests.{named_start, named-next, named-not, named-all, kind-below}
+use Rattle.links.specs.Runs.{kind_in}
+use Rattle.links.proofs.Runs.{kind_at}
+use Rattle.fits.proofs.CardTests.{named-not, named-all}
 use Rattle.fits.proofs.all_named.Goals as goal
+use Rattle.fits.proofs.all_named.Goals.{After-wide, In-loop-i}
 
-pub loop-at-init : goal.loop-at-init
-loop-at-init c = named_start _ _
+-- The kind of the loop's link.
+kind_is : (l : In-loop-i) → get_or l.args.links.now (3 * l.loop-i.i + 1) 0 ≡ kind_in l.args.links.now l.loop-i.i
+kind_is l = kind_at l.args.links.now l.loop-i.i _ (omega arith)
+
+-- And its entry.
+entry_is : (a : After-wide) →
+    get_or a.args.row.now a.wide.result 0 ≡ get_or a.args.row.now (kind_in a.args.links.now a.loop-i.i) 0
+entry_is a =
+    ap (λ (k : ℕ). get_or a.args.row.now k 0) (a.wide.ensures.same ∙ kind_is (goal.at.After-wide a).In-loop-i)
 
 pub bounds-row-wide : goal.bounds-row-wide
 bounds-row-wide c =
-    let below = kind-below _ _ c.requires.rise _ c.loop-at.invariant c.requires.leaving (omega arith) in
-    omega (arith, c.requires.full, c.wide.ensures.same)
+    let rise = c.requires.rise in
+    let kind = kind_is (goal.at.bounds-row-wide c).In-loop-i in
+    omega (arith, c.requires.leaving c.loop-i.i (omega (arith, rise.size)), kind, c.wide.ensures.same, c.requires.full)
 
 pub returns-then-row-wide-eq0 : goal.returns-then-row-wide-eq0
 returns-then-row-wide-eq0 c p kinds names under =
-    named-not _ _ c.requires.rise _ c.loop-at.invariant p kinds names under (omega arith)
-    (ap (λ (k : ℕ). get_or c.args.row.now k 0) (sym c.wide.ensures.same)
-    ∙ c.if-row-wide-eq0.true)
+    let rise = c.requires.rise in
+    named-not _ _ rise _ c.loop-i.invariant p kinds names under (omega (arith, rise.size))
+    (sym (entry_is (goal.at.returns-then-row-wide-eq0 c).After-wide) ∙ c.if-row-wide-eq0.true)
 
-pub loop-at-preserved : goal.loop-at-preserved
-loop-at-preserved c =
-    named-next _ _ c.requires.rise _ c.loop-at.invariant (omega arith)
-    (λ none. c.if-row-wide-eq0.false
-    (ap (λ (k : ℕ). get_or c.args.row.now k 0) c.wide.ensures.same ∙ none))
+pub loop-i-preserved : goal.loop-i-preserved
+loop-i-preserved c =
+    below_more _ _ c.loop-i.invariant
+    (λ none. c.if-row-wide-eq0.false (entry_is (goal.at.loop-i-preserved c).After-wide ∙ none))
 
 pub returns : goal.returns
 returns c p kinds names under =
-    named-all _ _ c.requires.rise _ c.loop-at.invariant p kinds names under (omega arith)
+    let rise = c.requires.rise in
+    named-all _ _ rise _ c.loop-i.invariant p kinds names under (omega (arith, rise.size))

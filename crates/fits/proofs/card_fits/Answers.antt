@@ -1,56 +1,53 @@
 -- `fits::card_fits` meets its contract: a law of proofs/CardTests for each answer. Assumes nothing.
-use mathlib.Core.Path.{subst}
+use mathlib.Core.Path.{sym, ◌∙◌}
+use native.Mathlib.Omega.{arith}
 use Rattle.words.specs.Limits.{max_depth}
 use Rattle.links.specs.Runs.{amount}
-use Rattle.flat.specs.Meeting.{MetAs}
 use Rattle.trees.specs.Trees.{tree_at}
 use Rattle.fits.proofs.CardTests.{flat-named, flat-met, other-open, other-named, other-not}
 use Rattle.fits.proofs.card_fits.Goals as goal
+use Rattle.fits.proofs.card_fits.Goals.{then-plan, else-plan}
 
-pub meet_card-met-requires : goal.meet_card-met-requires
-meet_card-met-requires c =
+pub meet_card-requires : goal.meet_card-requires
+meet_card-requires c =
     let names = c.requires.names in
     record {
-      placed = (c.requires.flat c.if-plan.true).surveyed.placed;
+      placed = (c.requires.flat _ c.in-Some.is).surveyed.placed;
       rise = names.rise;
       leaving = names.leaving;
       few = c.requires.few;
     }
 
 pub core_fits-requires : goal.core_fits-requires
-core_fits-requires c =
-    (c.requires.flat c.if-plan.true).wrap
+core_fits-requires c = (c.requires.flat _ c.in-Some.is).wrap
 
-pub returns-in-Unnamed : goal.returns-in-Unnamed
-returns-in-Unnamed c kinds names under =
-    let f = c.requires.flat c.if-plan.true in
+pub returns-in-Some-meet_card : goal.returns-in-Some-meet_card
+returns-in-Some-meet_card c kinds names under =
+    let f = c.requires.flat _ c.in-Some.is in
     let w = amount c.args.links.now c.args.arriving.now in
-    flat-named _ _ c.args.plan f kinds w
-    (subst (MetAs c.args.plan.opened kinds _ w) c.in-Unnamed.is
-    (c.meet_card-met.ensures _ kinds f.surveyed under))
+    let m = c.in-Some-meet_card.ensures _ kinds f.surveyed under in
+    flat-met _ _ c.args.plan _ f kinds w _ m _ (c.core_fits.ensures w f.left m.0)
 
-pub returns-in-Met : goal.returns-in-Met
-returns-in-Met c kinds names under =
-    let f = c.requires.flat c.if-plan.true in
+pub returns-in-None-meet_card : goal.returns-in-None-meet_card
+returns-in-None-meet_card c kinds names under =
+    let f = c.requires.flat _ c.in-Some.is in
     let w = amount c.args.links.now c.args.arriving.now in
-    let m = subst (MetAs c.args.plan.opened kinds _ w) c.in-Met.is
-    (c.meet_card-met.ensures _ kinds f.surveyed under) in
-    flat-met _ _ c.args.plan f kinds w _ m _
-    (c.core_fits.ensures w f.left m.0)
-
-pub returns-then-plan-2 : goal.returns-then-plan-2
-returns-then-plan-2 c kinds names under =
-    other-open _ kinds (tree_at max_depth c.args.template.now c.args.plan.start).value _ _ c.requires.few under
-    c.if-plan-2.true _ c.part_fits.ensures
+    flat-named _ _ c.args.plan _ f kinds w (c.in-None-meet_card.ensures _ kinds f.surveyed under)
 
 pub returns-then-all_named : goal.returns-then-all_named
 returns-then-all_named c kinds names under =
     let p = (tree_at max_depth c.args.template.now c.args.plan.start).value in
-    other-named c.args.plan.opened kinds p _ _ c.requires.few under _
-    (c.all_named.ensures p kinds names under) c.if-all_named.true _ c.part_fits-then-all_named.ensures
+    elim c.if-plan.branch [
+      | then-plan w ↦ other-open _ kinds p _ _ c.requires.few under w.if-plan.true _ c.part_fits.ensures
+      | else-plan w ↦ other-named c.args.plan.opened kinds p _ _ c.requires.few under _
+          (w.all_named.ensures p kinds names under) (sym w.value-is ∙ c.if-all_named.true) _ c.part_fits.ensures
+    ]
 
-pub returns : goal.returns
-returns c kinds names under =
+pub returns-else-all_named : goal.returns-else-all_named
+returns-else-all_named c kinds names under =
     let p = (tree_at max_depth c.args.template.now c.args.plan.start).value in
-    other-not _ kinds p _ _ c.requires.few under _ (c.all_named.ensures p kinds names under)
-    c.if-plan-2.false c.if-all_named.false
+    elim c.if-plan.branch [
+      | then-plan w ↦ grind arith
+      | else-plan w ↦ c.if-all_named.false ∙ other-not _ kinds p _ _ c.requires.few under _
+          (w.all_named.ensures p kinds names under) w.if-plan.false (sym w.value-is ∙ c.if-all_named.false)
+    ]

@@ -1,5 +1,5 @@
 -- `fits::fit_grid` meets its contract. The invariant: the loop is at the shape's place, and the shapes before it have
--- their columns. The measure is the count of shapes left. Assumes nothing.
+-- their columns. Assumes nothing.
 use Prim.Native.Nat.{◌<◌}
 use mathlib.Core.Path.{refl}
 use native.Mathlib.Omega.{arith}
@@ -7,7 +7,7 @@ use Rattle.sheet.specs.Opened.{template_as}
 use Rattle.fits.proofs.Rows.{row_inside, row_named}
 use Rattle.fits.proofs.Planning.{ShapeIn, shape-in}
 use Rattle.fits.proofs.Twins.{twins-asked, twins-found}
-use Rattle.fits.proofs.Cells.{shapes-start, shapes-next, shapes-end}
+use Rattle.fits.proofs.Cells.{shapes-start, shapes-next}
 use borrow.Author.Rules.{rules}
 use Rattle.fits.proofs.fit_grid.Goals as goal
 use Rattle.fits.proofs.fit_grid.Goals.{In-loop-t}
@@ -31,18 +31,6 @@ find_twins-requires c =
 pub loop-t-init : goal.loop-t-init
 loop-t-init c = shapes-start _ _ c.args.e _ c.requires.size
 
-pub overflow_mul-base : goal.overflow_mul-base
-overflow_mul-base c =
-    let row = row_inside _ _ _ c.args.e c.requires.sheet.known _ (below c) in
-    let room = c.requires.sheet.known.room in
-    search rules
-
-pub overflow_add-end : goal.overflow_add-end
-overflow_add-end c =
-    let row = row_inside _ _ _ c.args.e c.requires.sheet.known _ (below c) in
-    let room = c.requires.sheet.known.room in
-    search rules
-
 pub slice_bounds-fit_shape-end : goal.slice_bounds-fit_shape-end
 slice_bounds-fit_shape-end c =
     let row = row_inside _ _ _ c.args.e c.requires.sheet.known _ (below c) in
@@ -63,9 +51,6 @@ fit_shape-requires c =
       size = c.loop-t.invariant.size;
     }
 
-pub overflow_add-at : goal.overflow_add-at
-overflow_add-at c = let i = shape_of (goal.at.overflow_add-at c).In-loop-t in search rules
-
 pub offset_bounds-template-at : goal.offset_bounds-template-at
 offset_bounds-template-at c = let i = shape_of (goal.at.offset_bounds-template-at c).In-loop-t in search rules
 
@@ -80,7 +65,3 @@ loop-t-preserved c =
     shapes-next _ _ c.args.e _ _ _ _ c.loop-t.invariant (below (goal.at.loop-t-preserved c).In-loop-t)
     c.wide-in-loop-t.ensures.same _
     c.fit_shape.ensures
-
-pub returns : goal.returns
-returns c =
-    shapes-end _ _ c.args.e _ _ _ c.loop-t.invariant (omega (arith, c.wide-shapes.ensures.same))

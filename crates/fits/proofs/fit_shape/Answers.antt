@@ -1,137 +1,41 @@
 -- `fits::fit_shape` meets its contract. The invariant: the cards before the loop's have their bytes under the shape,
--- a twin's among them. The measure is the count of cards left. Assumes nothing.
-use Prim.Native.Nat.{ℕ, ◌+◌, ◌*◌, ◌≤◌, ◌<◌}
-use mathlib.Core.Path.{refl, sym, ap, subst, ◌∙◌}
-use mathlib.Core.Logic.{⊎_elim}
-use lib.ListN.{length, get_or}
-use Rattle.words.specs.Limits.{max_shapes}
-use Rattle.words.specs.Sizes.{max_grid}
+-- a twin's among them. Assumes nothing.
+use Prim.Native.Nat.{ℕ, ◌+◌, ◌*◌, ◌<◌}
+use mathlib.Core.Path.{sym, ap, subst, ◌∙◌}
+use lib.ListN.{get_or}
 use native.Mathlib.Omega.{arith}
 use Rattle.twins.specs.Twins.{TwinOf}
-use Rattle.sheet.specs.Opened.{template_as}
 use Rattle.fits.proofs.CardCounts.{pair-byte}
 use Rattle.fits.proofs.Twins.{twin-byte}
-use Rattle.fits.proofs.Cells.{cards-start, cards-next, cards-end, cell-inside, pairs-bound}
-use borrow.Author.Rules.{rules}
+use Rattle.fits.proofs.Cells.{cards-next}
 use Rattle.fits.proofs.fit_shape.Goals as goal
-use Rattle.fits.proofs.fit_shape.Goals.{After-wide-twin, In-loop-n}
+use Rattle.fits.proofs.fit_shape.Goals.{After-wide-twin, In-loop-n, then-twin-n+then-not-back, else-twin-n}
 
 -- The card that the loop comes to is one of the script's.
 below : (c : In-loop-n) → c.loop-n.n < c.args.e.cards
 below c = omega (arith, c.wide-cards.ensures.same)
 
--- The byte of a card m lies in the grid: of the loop's card, or of one before it.
-abbrev Inside : In-loop-n → ℕ → Type 0
-Inside c m =
-    (m * c.wide-shapes.result ≤ max_grid) × (c.args.t < max_shapes)
-    × (m * c.wide-shapes.result + c.args.t < length c.loop-n.grid)
-
-cell : (c : In-loop-n) (m : ℕ) → m ≤ c.loop-n.n → Inside c m
-cell c m h =
-    let n : m < c.args.e.cards = omega (arith, below c) in
-    let (few, shapes) = pairs-bound _ _ c.args.e m c.requires.opened (omega arith) in
-    subst (λ (x : ℕ). (m * x ≤ max_grid) × (c.args.t < max_shapes)
-    × (m * x + c.args.t < length c.loop-n.grid)) (sym c.wide-shapes.ensures.same) (
-      few,
-      omega (arith, c.requires.named.below),
-      cell-inside c.loop-n.grid _ _ _ _ c.loop-n.invariant.size n c.requires.named.below,
-    )
-
-own : (c : In-loop-n) → Inside c c.loop-n.n
-own c = cell c c.loop-n.n (omega arith)
-
--- The card's twin, whose byte lies in the grid too.
+-- The card's twin.
 twin : (a : After-wide-twin) →
     TwinOf a.args.script.now a.args.e.links a.loop-n.n a.wide-twin.result
 twin a =
     subst (TwinOf a.args.script.now a.args.e.links a.loop-n.n) (sym a.wide-twin.ensures.same)
     (a.requires.alike.each _ (below (goal.at.After-wide-twin a).In-loop-n))
 
-twin-cell : (a : After-wide-twin) → Inside (goal.at.After-wide-twin a).In-loop-n a.wide-twin.result
-twin-cell a = cell (goal.at.After-wide-twin a).In-loop-n a.wide-twin.result (twin a).before
-
-pub plan_shape-plan-requires : goal.plan_shape-plan-requires
-plan_shape-plan-requires c =
-    let o = c.requires.opened in
-    record {
-      whole = template_as _ _ o.parts;
-      read = o.template-read;
-      shape = c.args.t;
-      below = c.requires.named.below;
-      place = c.requires.named.place;
-      blank = refl;
-    }
-
-pub looks_back-back-requires : goal.looks_back-back-requires
-looks_back-back-requires c =
-    c.requires.named.asked
-
-pub loop-n-init : goal.loop-n-init
-loop-n-init c = cards-start _ _ c.args.e _ _ c.requires.size
-
-pub bounds-twins-n : goal.bounds-twins-n
-bounds-twins-n c =
-    omega (arith, below (goal.at.bounds-twins-n c).In-loop-n, c.requires.alike.room)
-
-pub overflow_mul-grid : goal.overflow_mul-grid
-overflow_mul-grid c = let i = twin-cell (goal.at.overflow_mul-grid c).After-wide-twin in search rules
-
-pub overflow_add-grid : goal.overflow_add-grid
-overflow_add-grid c = let i = twin-cell (goal.at.overflow_add-grid c).After-wide-twin in search rules
-
-pub bounds-grid-twin : goal.bounds-grid-twin
-bounds-grid-twin c = let i = twin-cell (goal.at.bounds-grid-twin c).After-wide-twin in search rules
-
-pub overflow_mul-grid-then-not-back : goal.overflow_mul-grid-then-not-back
-overflow_mul-grid-then-not-back c = let i = own (goal.at.overflow_mul-grid-then-not-back c).In-loop-n in search rules
-
-pub overflow_add-grid-then-not-back : goal.overflow_add-grid-then-not-back
-overflow_add-grid-then-not-back c = let i = own (goal.at.overflow_add-grid-then-not-back c).In-loop-n in search rules
-
-pub bounds-grid-n : goal.bounds-grid-n
-bounds-grid-n c = let i = own (goal.at.bounds-grid-n c).In-loop-n in search rules
-
-pub pair_fits-fit-requires : goal.pair_fits-fit-requires
-pair_fits-fit-requires c =
-    record {
-      opened = c.requires.opened;
-      leaving = c.requires.leaving;
-      arriving = c.requires.arriving;
-      t = c.args.t;
-      at = c.args.at;
-      named = c.requires.named;
-      planned = c.plan_shape-plan.ensures;
-      seen = c.looks_back-back.ensures;
-      below = below (goal.at.pair_fits-fit-requires c).In-loop-n;
-    }
-
-pub overflow_mul-grid-else-twin-n : goal.overflow_mul-grid-else-twin-n
-overflow_mul-grid-else-twin-n c = let i = own (goal.at.overflow_mul-grid-else-twin-n c).In-loop-n in search rules
-
-pub overflow_add-grid-else-twin-n : goal.overflow_add-grid-else-twin-n
-overflow_add-grid-else-twin-n c = let i = own (goal.at.overflow_add-grid-else-twin-n c).In-loop-n in search rules
-
-pub bounds-grid-n-else-twin-n : goal.bounds-grid-n-else-twin-n
-bounds-grid-n-else-twin-n c = let i = own (goal.at.bounds-grid-n-else-twin-n c).In-loop-n in search rules
-
 pub loop-n-preserved : goal.loop-n-preserved
 loop-n-preserved c =
     let place = ap (λ (x : ℕ). c.loop-n.n * x + c.args.t) c.wide-shapes.ensures.same in
-    ⊎_elim
-    (λ w. rw w.grid-is (cards-next _ _ c.args.e _ _ _ _ _ _ c.loop-n.invariant (below (goal.at.loop-n-preserved
-    c).In-loop-n) c.requires.named.below place
-    (λ parts r.
-    ap (λ (x : ℕ). get_or c.loop-n.grid (c.wide-twin.result * x + c.args.t) 0) c.wide-shapes.ensures.same
-    ∙ c.loop-n.invariant.each parts r _ w.if-twin-n.true
-    ∙ twin-byte _ _ c.args.e c.requires.opened _ _ (twin (goal.at.loop-n-preserved c).After-wide-twin) _ _ _
-    c.requires.named _
-    c.looks_back-back.ensures w.if-not-back.true parts r)))
-    (λ w. rw w.grid-is (cards-next _ _ c.args.e _ _ _ _ _ _ c.loop-n.invariant (below (goal.at.loop-n-preserved
-    c).In-loop-n) c.requires.named.below place
-    (λ parts r. pair-byte _ _ c.args.e _ _ _ _ _ c.plan_shape-plan.ensures
-    c.requires.named.place c.requires.named.below _ w.pair_fits-fit.ensures _ w.bit.ensures parts r)))
-    c.if-twin-n.branch-raw
-
-pub returns : goal.returns
-returns c =
-    cards-end _ _ c.args.e _ _ _ _ c.loop-n.invariant (omega (arith, c.wide-cards.ensures.same))
+    let here = below (goal.at.loop-n-preserved c).In-loop-n in
+    elim c.if-twin-n.branch [
+      | then-twin-n+then-not-back w ↦ rw w.grid-is (cards-next _ _ c.args.e _ _ _ _ _ _ c.loop-n.invariant here
+          c.requires.named.below place
+          (λ parts r.
+          ap (λ (x : ℕ). get_or c.loop-n.grid (c.wide-twin.result * x + c.args.t) 0) c.wide-shapes.ensures.same
+          ∙ c.loop-n.invariant.each parts r _ w.if-twin-n.true
+          ∙ twin-byte _ _ c.args.e c.requires.opened _ _ (twin (goal.at.loop-n-preserved c).After-wide-twin) _ _ _
+          c.requires.named _ c.looks_back-back.ensures w.if-not-back.true parts r))
+      | else-twin-n w ↦ rw w.grid-is (cards-next _ _ c.args.e _ _ _ _ _ _ c.loop-n.invariant here
+          c.requires.named.below place
+          (λ parts r. pair-byte _ _ c.args.e _ _ _ _ _ c.plan_shape-plan.ensures
+          c.requires.named.place c.requires.named.below _ w.pair_fits-fit.ensures _ w.from.ensures parts r))
+    ]

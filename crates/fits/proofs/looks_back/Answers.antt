@@ -4,7 +4,6 @@ use Prim.Native.Nat.{◌+◌, ◌-◌}
 use borrow.Rule.Slice.PartMut.{mid_len}
 use Rattle.words.specs.Limits.{max_kinds}
 use native.Mathlib.Omega.{arith}
-use mathlib.Core.Bool.{false≢true}
 use Rattle.fits.proofs.Rows.{row-part}
 use Rattle.fits.proofs.looks_back.Goals as goal
 
@@ -17,11 +16,4 @@ returns-then-e c =
           (omega (arith, c.requires.full, c.requires.few)) in
           sym (row-part c.args.row.now max_kinds (max_kinds + c.wide-stop.result - max_kinds) k (omega arith))
           ∙ c.some_named.ensures o k (omega (arith, full));
-    }
-
-pub returns : goal.returns
-returns c =
-    record {
-      yes = λ y. absurd (false≢true y);
-      no = λ o k l. c.requires.ways c.if-e.false k (omega (arith, c.requires.few));
     }

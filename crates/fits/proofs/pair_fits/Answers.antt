@@ -1,20 +1,23 @@
 -- `fits::pair_fits` meets its contract: what is counted off the card's links fits exactly if its neighbours do.
 -- Assumes nothing.
-use Prim.Native.Nat.{ℕ, ◌+◌, ◌-◌}
-use mathlib.Core.Path.{◌≡◌}
+use Prim.Native.Nat.{ℕ, ◌+◌}
+use mathlib.Core.Path.{◌≡◌, ap, ◌∙◌}
+use mathlib.Core.Bool.{Bool}
+use mathlib.Core.List.{List, []}
 use native.Mathlib.Omega.{arith}
-use lib.ListN.{get_or-replicate}
-use Rattle.words.specs.Limits.{max_kinds}
 use Rattle.template.proofs.Accepted.{template-accepted}
 use Rattle.script.specs.Link.{card_words}
 use Rattle.links.specs.Index.{LeavingOf}
 use Rattle.links.proofs.Leaving.{leaving-fewer}
+use Rattle.links.specs.Counts.{way_count}
+use Rattle.bags.specs.Label.{incoming}
 use Rattle.sheet.specs.Opened.{template_as}
-use Rattle.fits.proofs.CardCounts.{leaving-read, own-rise, own-under, listed-few, listed_back, listed-short}
-use Rattle.fits.proofs.CardCounts.{pair-told, named-row}
-use borrow.Author.Rules.{rules}
+use Rattle.fits.specs.Plans.{CardReady, CardFits}
+use Rattle.fits.specs.Fitting.{PairFits}
+use Rattle.fits.proofs.CardCounts.{leaving-read, own-rise, own-under, ListedBack, listed-none, listed-all, listed-short}
+use Rattle.fits.proofs.CardCounts.{back-asked, pair-told, named-row}
 use Rattle.fits.proofs.pair_fits.Goals as goal
-use Rattle.fits.proofs.pair_fits.Goals.{After-leaving_links-own, Start}
+use Rattle.fits.proofs.pair_fits.Goals.{After-leaving_links-own, After-count_arriving, Start}
 
 -- Where the links of the cards up to card n start, and the words of its own.
 leaving : (s : Start) →
@@ -33,45 +36,66 @@ pub leaving_links-own-requires : goal.leaving_links-own-requires
 leaving_links-own-requires c =
     record { links = c.args.e.links; leaving = leaving (goal.at.leaving_links-own-requires c).Start }
 
-pub count_back-listed-requires : goal.count_back-listed-requires
-count_back-listed-requires c =
+-- What the test of the card asks, where so many counts are listed.
+ready : (a : After-leaving_links-own) (listed : List ℕ) → let s = a.args in
+    ListedBack s.script.now s.e s.back s.n listed
+    → CardReady s.template.now s.row.now s.places.now s.plan a.leaving_links-own.result.now listed
+ready a listed b =
+    let o = a.requires.opened in
+    let own = own-words a in
+    let under = own-under _ _ a.args.e o _ _ own in
     record {
-      read = c.requires.opened.script-read;
-      few = c.requires.named.asked.few;
-      arriving = λ y. c.requires.arriving (c.requires.seen.yes y);
-      below = c.requires.below;
-      room = omega arith;
-      zeros = λ k l. get_or-replicate {A = ℕ} max_kinds k 0 0 (omega (arith, l));
+      short = (template-accepted _ (template_as _ _ o.parts) o.template-read).words-high;
+      flat = a.requires.planned.flat;
+      names = record {
+        full = a.requires.named.asked.full;
+        rise = own-rise _ _ a.args.e o _ _ own;
+        leaving = λ i h. omega (arith, under.below i h, under.few);
+      };
+      few = listed-short _ _ _ _ _ b;
     }
 
-pub slice_bounds-card_fits-end : goal.slice_bounds-card_fits-end
-slice_bounds-card_fits-end c =
-    let few = listed-few _ _ _ _ _ _ c.count_back-listed.ensures in
-    search rules
+-- And what it says.
+told : (a : After-leaving_links-own) (listed : List ℕ) (fit : Bool) → let s = a.args in
+    ListedBack s.script.now s.e s.back s.n listed
+    → CardFits s.template.now s.row.now s.plan a.leaving_links-own.result.now listed fit
+    → PairFits s.template.now s.script.now s.e s.plan s.n fit
+told a listed fit b said =
+    let e = a.args.e in
+    let o = a.requires.opened in
+    let own = own-words a in
+    let place = a.requires.planned.start in
+    pair-told _ _ e o _ _ own _ _ _ a.requires.named _ a.requires.seen _ b _ place a.args.plan.opened _
+    (said e.kinds (named-row _ _ e _ _ _ a.requires.named place) (own-under _ _ e o _ _ own))
 
 pub card_fits-requires : goal.card_fits-requires
 card_fits-requires c =
-    let o = c.requires.opened in
-    let under = own-under _ _ c.args.e o _ _ (own-words (goal.at.card_fits-requires c).After-leaving_links-own) in
-    record {
-      short = (template-accepted _ (template_as _ _ o.parts) o.template-read).words-high;
-      flat = c.requires.planned.flat;
-      names = record {
-        full = c.requires.named.asked.full;
-        rise = own-rise _ _ c.args.e o _ _ (own-words (goal.at.card_fits-requires c).After-leaving_links-own);
-        leaving = λ i h. omega (arith, under.below i h, under.few);
-      };
-      few = listed-short _ _ _ _ _
-          (listed_back _ _ _ _ _ _ c.count_back-listed.ensures (c.count_back-listed.result - 0) (omega arith));
-    }
+    ready (goal.at.card_fits-requires c).After-leaving_links-own [] (listed-none _ _ _ (grind arith))
+
+pub returns-then-not-back : goal.returns-then-not-back
+returns-then-not-back c =
+    told (goal.at.returns-then-not-back c).After-leaving_links-own [] _ (listed-none _ _ _ (grind arith))
+    c.card_fits.ensures
+
+pub count_arriving-requires : goal.count_arriving-requires
+count_arriving-requires c =
+    back-asked _ _ _ c.args.e _ _ c.requires.opened.script-read c.requires.named.asked.few
+    (c.requires.arriving (c.requires.seen.yes (grind arith))) c.requires.below c.wide.ensures.same
+
+-- The counts of the links to the card.
+listed : (a : After-count_arriving) → let s = a.args in
+    ListedBack s.script.now s.e s.back s.n a.count_arriving.new.counts
+listed a =
+    listed-all _ _ _ (grind arith) a.count_arriving.ensures.size
+    (λ k l. a.count_arriving.ensures.exact k (omega (arith, l))
+    ∙ ap (way_count incoming a.args.script.now a.args.n k) a.wide.ensures.same)
+
+pub card_fits-requires-2 : goal.card_fits-requires-2
+card_fits-requires-2 c =
+    ready (goal.at.card_fits-requires-2 c).After-leaving_links-own _ (listed (goal.at.card_fits-requires-2
+    c).After-count_arriving)
 
 pub returns : goal.returns
 returns c =
-    let e = c.args.e in
-    let o = c.requires.opened in
-    let own = own-words (goal.at.returns c).After-leaving_links-own in
-    let place = c.requires.planned.start in
-    pair-told _ _ e o _ _ own _ _ _ c.requires.named _ c.requires.seen _
-    (listed_back _ _ _ _ _ _ c.count_back-listed.ensures (c.count_back-listed.result - 0) (omega arith)) _ place
-    c.args.plan.opened _
-    (c.card_fits.ensures e.kinds (named-row _ _ e _ _ _ c.requires.named place) (own-under _ _ e o _ _ own))
+    told (goal.at.returns c).After-leaving_links-own _ _ (listed (goal.at.returns c).After-count_arriving)
+    c.card_fits-2.ensures

@@ -2,7 +2,6 @@
 -- places. Assumes nothing.
 use Prim.Native.Nat.{ℕ, ◌+◌, ◌≤◌}
 use mathlib.Core.Path.{◌≡◌, sym, subst}
-use mathlib.Core.Bool.{false≢true}
 use native.Mathlib.Omega.{arith}
 use lib.ListN.{length, get_or}
 use Rattle.words.specs.Limits.{max_depth}
@@ -55,28 +54,23 @@ part_at-start-requires c = (shape_of (goal.at.part_at-start-requires c).Start).s
 pub core_place-core-requires : goal.core_place-core-requires
 core_place-core-requires c = (omega (arith, (part-core c).standing.ends), end-in c)
 
-pub survey_part-found-requires : goal.survey_part-found-requires
-survey_part-found-requires c =
+pub survey_part-needed-requires : goal.survey_part-needed-requires
+survey_part-needed-requires c =
     let found = c.core_place-core.ensures in
-    let (left, level, core) = core-below _ _ (end-in (goal.at.survey_part-found-requires c).After-part_at-start) _
-    _ (part-core (goal.at.survey_part-found-requires c).After-part_at-start) found in
+    let (left, level, core) = core-below _ _ (end-in (goal.at.survey_part-needed-requires c).After-part_at-start) _
+    _ (part-core (goal.at.survey_part-needed-requires c).After-part_at-start) found in
     let near = part-near c.args.template.now c.args.at in
-    survey-asked _ _ (end-in (goal.at.survey_part-found-requires c).After-part_at-start) left _ _ core (omega
+    survey-asked _ _ (end-in (goal.at.survey_part-needed-requires c).After-part_at-start) left _ _ core (omega
     (arith, near, found.wrap.order, c.part_at-start.ensures))
-    (shape_of (goal.at.survey_part-found-requires c).Start).short c.requires.blank
+    (shape_of (goal.at.survey_part-needed-requires c).Start).short c.requires.blank
 
-pub returns-in-Flat : goal.returns-in-Flat
-returns-in-Flat c =
-    let surveyed = c.survey_part-found.ensures in
+pub returns : goal.returns
+returns c =
+    let surveyed = c.survey_part-needed.ensures in
     record {
       is_open = c.open_at-opened.ensures;
       start = c.part_at-start.ensures;
-      flat = λ y. flat-plan _ _ (end-in (goal.at.returns-in-Flat c).After-part_at-start) _ _ (part-core
-          (goal.at.returns-in-Flat c).After-part_at-start) c.core_place-core.ensures
-          (λ p standing. subst (SurveyedAs c.args.template.now p _) c.in-Flat.is
-          (surveyed p standing));
+      flat = λ needed is. flat-plan _ _ (end-in (goal.at.returns c).After-part_at-start) _ _ needed (part-core
+          (goal.at.returns c).After-part_at-start) c.core_place-core.ensures
+          (λ p standing. subst (SurveyedAs c.args.template.now p _) is (surveyed p standing));
     }
-
-pub returns-in-Other : goal.returns-in-Other
-returns-in-Other c =
-    record { is_open = c.open_at-opened.ensures; start = c.part_at-start.ensures; flat = λ y. absurd (false≢true y) }
