@@ -4,6 +4,7 @@
 --   leaving-asked, arriving-asked   what testing the links from its card, and those to it, asks
 --   unmet-from, met-from, met-both  one whose counts fit, by what these tests find
 --   booking-asked          what looking for one of the bookings asks
+--   first-found            what a search through the numbers below an end finds
 -- Assumes nothing.
 use mathlib.Core.Path.{◌≡◌, refl, sym, ap, ◌∙◌, subst}
 use mathlib.Core.Logic.{◌↔◌}
@@ -12,6 +13,8 @@ use mathlib.Core.Bool.{Bool, true, false}
 use Prim.Native.Nat.{ℕ, suc, ◌+◌, ◌-◌, ◌*◌, ◌/◌, ◌%◌, ◌≤◌, ◌<◌}
 use native.Mathlib.Omega.{arith}
 use lib.ListN.{length, get_or, take, drop}
+use Rattle.std.specs.Prelude.{Option, Some, None, MatchOption}
+use Rattle.words.specs.First.{FirstFound}
 use Rattle.words.specs.Limits.{max_kinds, max_labels}
 use Rattle.words.proofs.Bools.{false-true, never_both, is_false, bools-equal}
 use Rattle.words.proofs.Places.{place_in, card-in, shape-in}
@@ -153,3 +156,13 @@ booking-asked {bookings} {count} {shapes} {i} asked below =
         asked.full,
       );
     }
+
+-- ---- the first of the numbers below an end with a fault, as a search through them finds it
+pub first-found : (Fault : ℕ → Type 0) (end : ℕ) (found : Option ℕ)
+    → MatchOption found ((q : ℕ) → 0 ≤ q → q < end → Fault q → ⊥)
+    (λ p. (0 ≤ p) × (p < end) × Fault p × ((q : ℕ) → 0 ≤ q → q < p → Fault q → ⊥))
+    → FirstFound Fault end found
+first-found Fault end None none =
+    record { within = omega arith; before = λ q l f. none q (omega arith) l f; here = λ l. absurd (omega arith) }
+first-found Fault end (Some p) (z, below, here, before) =
+    (below, record { within = omega arith; before = λ q l f. before q (omega arith) l f; here = λ _. here })

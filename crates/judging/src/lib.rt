@@ -129,12 +129,7 @@ pub fn first_unmet(
         fitting,
         grid,
     };
-    for (place, held) in grid.iter().enumerate() {
-        if *held == 1 && !judged.pair_met(place) {
-            return Some(place);
-        }
-    }
-    None
+    (0..grid.len()).find(|place| grid[*place] == 1 && !judged.pair_met(*place))
 }
 
 // Whether the grid has the pair of booking i.
@@ -159,10 +154,5 @@ pub fn first_unheld(
     requires { HeldAsked bookings.now count shapes grid.now }
     ensures { FirstFound (Missing bookings.now desk shapes grid.now) count result }
 {
-    for i in 0..wide(count) {
-        if desk_at(bookings, i) == desk && !is_held(bookings, i, shapes, grid) {
-            return Some(i);
-        }
-    }
-    None
+    (0..wide(count)).find(|i| desk_at(bookings, *i) == desk && !is_held(bookings, *i, shapes, grid))
 }
