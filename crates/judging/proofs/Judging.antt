@@ -6,7 +6,7 @@
 --   booking-asked          what looking for one of the bookings asks
 --   first-found            what a search through the numbers below an end finds
 -- Assumes nothing.
-use mathlib.Core.Path.{◌≡◌, refl, sym, ap, ◌∙◌, subst}
+use mathlib.Core.Path.{◌≡◌, refl, sym, ap, subst}
 use mathlib.Core.Logic.{◌↔◌}
 use mathlib.Core.List.{List}
 use mathlib.Core.Bool.{Bool, true, false}
@@ -26,7 +26,7 @@ use Rattle.bookings.proofs.Accepted.{words-in}
 use Rattle.typing.specs.Needs.{Needs, Ready}
 use Rattle.typing.proofs.Boards.{board-lawful}
 use Rattle.walks.specs.Walks.{Leaving, Arriving, HasAll}
-use Rattle.walks.proofs.Entries.{had-nothing}
+use Rattle.walks.proofs.Entries.{one-named, had-nothing, had-named}
 use Rattle.walks.proofs.Needs.{Half, half-row, row-asked, range-rising, range-in, arrivals-at}
 use Rattle.walks.proofs.Following.{had-first, had-out, had-both}
 use Rattle.judging.specs.Judging.{LinkGood, LeavingTested, ArrivingTested, met, MetAsked, PairAsked, HeldAsked}
@@ -46,14 +46,12 @@ module _ (way : Way) (j : Judged) (row : List ℕ) (i : ℕ) {kind card : ℕ} (
 
   module _ {shape : ℕ} (e : get_or row kind 0 ≡ suc shape) where
     pub link-named : LinkGood way j row i (card * j.shapes + shape)
-    link-named = record { shape = shape; names-it = sym entry-is ∙ e; at = omega (arith, base-is) }
+    link-named = subst (LinkGood way j row i) (omega (arith, base-is, e)) (one-named entry-is (omega (arith, e)))
 
     pub link-both : (on j.grid.now (card * j.shapes + shape) ≡ true) ↔ HasAll (on j.grid.now) (LinkGood way j row i)
-    link-both = (
-      λ has q g. subst (λ (p : ℕ). on j.grid.now p ≡ true)
-          (omega (arith, base-is, entry-is, e, g.names-it, g.at)) has,
-      λ all. all (card * j.shapes + shape) link-named,
-    )
+    link-both =
+        subst (λ (p : ℕ). (on j.grid.now p ≡ true) ↔ HasAll (on j.grid.now) (LinkGood way j row i))
+        (omega (arith, base-is, e)) (had-named entry-is (on j.grid.now) (omega (arith, e)))
 
 -- ---- a pair
 module _ {j : Judged} {p : ℕ} (asked : MetAsked j p) where

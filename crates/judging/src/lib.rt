@@ -132,6 +132,7 @@ pub fn first_unmet(
     (0..grid.len()).find(|place| grid[*place] == 1 && !judged.pair_met(*place))
 }
 
+#[tactic(auto, unfolding(board::specs::Grid::on))]
 // Whether the grid has the pair of booking i.
 fn is_held(bookings: &[u16], i: usize, shapes: usize, grid: &[u8]) -> bool
     requires { PairAsked bookings.now i shapes grid.now }
