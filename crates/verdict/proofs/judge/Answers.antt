@@ -1,18 +1,8 @@
--- `verdict::judge` answers as the format says: a law of proofs/WaysOut for each way out. Assumes nothing.
+-- `verdict::judge` answers as the format says: by the law of proofs/WaysOut where everything is read. Assumes nothing.
 use Rattle.lent.proofs.KnownSheet.{sheet, asked}
-use Rattle.lent.proofs.Readings.{lent-read, lent-refused, lent-asked}
-use Rattle.verdict.proofs.WaysOut.{judge-refused, judge-done}
+use Rattle.lent.proofs.Readings.{lent-read, lent-asked}
+use Rattle.verdict.proofs.WaysOut.{judge-done}
 use Rattle.verdict.proofs.judge.Goals as goal
-
-pub judge_of-requires : goal.judge_of-requires
-judge_of-requires c =
-    lent-read _ _ _ _ _ _ c.read_lent-read.ensures c.in-Sheet.is
-
-pub returns-in-Refused : goal.returns-in-Refused
-returns-in-Refused c =
-    let s = c.args in
-    judge-refused s.template.now s.script.now s.bookings.now s.desk s.grid.now _ _
-    (lent-refused _ _ _ _ _ _ c.read_lent-read.ensures c.in-Refused.is)
 
 pub returns-in-Sheet : goal.returns-in-Sheet
 returns-in-Sheet c =
