@@ -31,8 +31,8 @@ struct Judged<'a> {
 }
 
 impl<'a> Judged<'a> {
-    // Whether the grid has what link i makes good for a card: the pair of the card and of the shape that a row names for
-    // the link's kind, if it names one.
+    // Whether the grid has what link i makes good for a card: its pair with the shape that a row names for the link's
+    // kind, if it names one.
     fn link_had(&self, row: &[u8], i: usize, card: usize) -> bool
         requires { LinkTested self.now row.now i card }
         ensures { (way : Way) → card ≡ far_at way self.now.script.now i
