@@ -4,14 +4,17 @@
 --   leaving-asked, arriving-asked   what testing the links from its card, and those to it, asks
 --   unmet-from, met-from, met-both  one whose counts fit, by what these tests find
 --   booking-asked          what looking for one of the bookings asks
+--   first-found            what a search through the numbers below an end finds
 -- Assumes nothing.
-use mathlib.Core.Path.{◌≡◌, refl, sym, ap, ◌∙◌, subst}
+use mathlib.Core.Path.{◌≡◌, refl, sym, ap, subst}
 use mathlib.Core.Logic.{◌↔◌}
 use mathlib.Core.List.{List}
 use mathlib.Core.Bool.{Bool, true, false}
 use Prim.Native.Nat.{ℕ, suc, ◌+◌, ◌-◌, ◌*◌, ◌/◌, ◌%◌, ◌≤◌, ◌<◌}
 use native.Mathlib.Omega.{arith}
 use lib.ListN.{length, get_or, take, drop}
+use Rattle.std.specs.Prelude.{Option, Some, None, MatchOption}
+use Rattle.words.specs.First.{FirstFound}
 use Rattle.words.specs.Limits.{max_kinds, max_labels}
 use Rattle.words.proofs.Bools.{false-true, never_both, is_false, bools-equal}
 use Rattle.words.proofs.Places.{place_in, card-in, shape-in}
@@ -23,7 +26,7 @@ use Rattle.bookings.proofs.Accepted.{words-in}
 use Rattle.typing.specs.Needs.{Needs, Ready}
 use Rattle.typing.proofs.Boards.{board-lawful}
 use Rattle.walks.specs.Walks.{Leaving, Arriving, HasAll}
-use Rattle.walks.proofs.Entries.{had-nothing}
+use Rattle.walks.proofs.Entries.{one-named, had-nothing, had-named}
 use Rattle.walks.proofs.Needs.{Half, half-row, row-asked, range-rising, range-in, arrivals-at}
 use Rattle.walks.proofs.Following.{had-first, had-out, had-both}
 use Rattle.judging.specs.Judging.{LinkGood, LeavingTested, ArrivingTested, met, MetAsked, PairAsked, HeldAsked}
@@ -43,14 +46,12 @@ module _ (way : Way) (j : Judged) (row : List ℕ) (i : ℕ) {kind card : ℕ} (
 
   module _ {shape : ℕ} (e : get_or row kind 0 ≡ suc shape) where
     pub link-named : LinkGood way j row i (card * j.shapes + shape)
-    link-named = record { shape = shape; names-it = sym entry-is ∙ e; at = omega (arith, base-is) }
+    link-named = subst (LinkGood way j row i) (omega (arith, base-is, e)) (one-named entry-is (omega (arith, e)))
 
     pub link-both : (on j.grid.now (card * j.shapes + shape) ≡ true) ↔ HasAll (on j.grid.now) (LinkGood way j row i)
-    link-both = (
-      λ has q g. subst (λ (p : ℕ). on j.grid.now p ≡ true)
-          (omega (arith, base-is, entry-is, e, g.names-it, g.at)) has,
-      λ all. all (card * j.shapes + shape) link-named,
-    )
+    link-both =
+        subst (λ (p : ℕ). (on j.grid.now p ≡ true) ↔ HasAll (on j.grid.now) (LinkGood way j row i))
+        (omega (arith, base-is, e)) (had-named entry-is (on j.grid.now) (omega (arith, e)))
 
 -- ---- a pair
 module _ {j : Judged} {p : ℕ} (asked : MetAsked j p) where
@@ -153,3 +154,13 @@ booking-asked {bookings} {count} {shapes} {i} asked below =
         asked.full,
       );
     }
+
+-- ---- the first of the numbers below an end with a fault, as a search through them finds it
+pub first-found : (Fault : ℕ → Type 0) (end : ℕ) (found : Option ℕ)
+    → MatchOption found ((q : ℕ) → 0 ≤ q → q < end → Fault q → ⊥)
+    (λ p. (0 ≤ p) × (p < end) × Fault p × ((q : ℕ) → 0 ≤ q → q < p → Fault q → ⊥))
+    → FirstFound Fault end found
+first-found Fault end None none =
+    record { within = omega arith; before = λ q l f. none q (omega arith) l f; here = λ l. absurd (omega arith) }
+first-found Fault end (Some p) (z, below, here, before) =
+    (below, record { within = omega arith; before = λ q l f. before q (omega arith) l f; here = λ _. here })

@@ -31,8 +31,8 @@ struct Judged<'a> {
 }
 
 impl<'a> Judged<'a> {
-    // Whether the grid has what link i makes good for a card: the pair of the card and of the shape that a row names for
-    // the link's kind, if it names one.
+    // Whether the grid has what link i makes good for a card: its pair with the shape that a row names for the link's
+    // kind, if it names one.
     fn link_had(&self, row: &[u8], i: usize, card: usize) -> bool
         requires { LinkTested self.now row.now i card }
         ensures { (way : Way) → card ≡ far_at way self.now.script.now i
@@ -129,14 +129,10 @@ pub fn first_unmet(
         fitting,
         grid,
     };
-    for (place, held) in grid.iter().enumerate() {
-        if *held == 1 && !judged.pair_met(place) {
-            return Some(place);
-        }
-    }
-    None
+    (0..grid.len()).find(|place| grid[*place] == 1 && !judged.pair_met(*place))
 }
 
+#[tactic(auto, unfolding(board::specs::Grid::on))]
 // Whether the grid has the pair of booking i.
 fn is_held(bookings: &[u16], i: usize, shapes: usize, grid: &[u8]) -> bool
     requires { PairAsked bookings.now i shapes grid.now }
@@ -159,10 +155,5 @@ pub fn first_unheld(
     requires { HeldAsked bookings.now count shapes grid.now }
     ensures { FirstFound (Missing bookings.now desk shapes grid.now) count result }
 {
-    for i in 0..wide(count) {
-        if desk_at(bookings, i) == desk && !is_held(bookings, i, shapes, grid) {
-            return Some(i);
-        }
-    }
-    None
+    (0..wide(count)).find(|i| desk_at(bookings, *i) == desk && !is_held(bookings, *i, shapes, grid))
 }

@@ -1,12 +1,11 @@
 -- What testing a grid finds is its verdict.
---   over-found, marks-by         a byte that is over 1; where there is none the grid is one of zeros and ones
+--   over-found                   a byte that is over 1
 --   unmet-found, sound-by        a pair that is not met; where there is none the grid is sound
 --   unheld-found, passes-found   a booking that is not held; where there is none the grid passes
 --   unmet-tested, unheld-tested, passes-tested   the same of a sheet whose pairs are tested
 -- Assumes nothing.
-use Prim.Native.Nat.{ℕ, zero, suc, ◌*◌, ◌/◌, ◌%◌, ◌<◌}
+use Prim.Native.Nat.{ℕ, ◌*◌, ◌/◌, ◌%◌, ◌<◌}
 use mathlib.Core.Path.{◌≡◌, refl, sym, subst, subst₂}
-use mathlib.Core.Logic.{◌⊎◌, inl, inr}
 use mathlib.Core.Bool.{Bool, true}
 use mathlib.Core.List.{List, [], ◌∷◌}
 use native.Mathlib.Omega.{arith}
@@ -28,27 +27,18 @@ use Rattle.judging.specs.Judging.{Failing, Missing}
 use Rattle.pairs.specs.Pairs.{SheetTested}
 use Rattle.pairs.proofs.Tested.{cards-same, shapes-same, stands}
 
--- A byte that is not over 1 is 0 or 1.
-zero-or-one : (x : ℕ) → (1 < x → ⊥) → (x ≡ 0) ⊎ (x ≡ 1)
-zero-or-one zero low = inl refl
-zero-or-one (suc zero) low = inr refl
-zero-or-one (suc (suc x)) low = absurd (low (omega arith))
-
-module _ (grid : List ℕ) where
-  pub over-found : {p : ℕ} → (p < length grid) × First (λ q. 1 < get_or grid q 0) (length grid) p → {s : Sheet}
-      {bookings : List ℕ} {desk : ℕ} → length grid ≡ size s → JudgeFound s bookings desk grid (refusal 61 (p ∷ []))
-  over-found {p} (l, found) full = record {
-    verdict = over p;
-    says = refl;
-    right = record {
-      inside = omega (arith, full);
-      over-one = found.here l;
-      first = λ q lq. omega (arith, found.before q lq);
-    };
-  }
-
-  pub marks-by : First (λ q. 1 < get_or grid q 0) (length grid) (length grid) → Marks grid
-  marks-by none q l = zero-or-one (get_or grid q 0) (none.before q l)
+pub over-found : (grid : List ℕ) {p : ℕ} → (p < length grid) × First (λ q. 1 < get_or grid q 0) (length grid) p
+    → {s : Sheet} {bookings : List ℕ} {desk : ℕ} → length grid ≡ size s
+    → JudgeFound s bookings desk grid (refusal 61 (p ∷ []))
+over-found grid {p} (l, found) full = record {
+  verdict = over p;
+  says = refl;
+  right = record {
+    inside = omega (arith, full);
+    over-one = found.here l;
+    first = λ q lq. omega (arith, found.before q lq);
+  };
+}
 
 module _ {s : Sheet} {script names : List ℕ} (fitting : List ℕ) {grid : List ℕ}
     (rep : Represents s (board_of script names s.shapes fitting)) (typed : Typing s grid) where

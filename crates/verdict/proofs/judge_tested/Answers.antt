@@ -2,11 +2,9 @@
 -- lent. Assumes nothing.
 use mathlib.Core.Path.{◌∙◌, ap}
 use Prim.Native.Nat.{ℕ, ◌*◌}
-use native.Mathlib.Nat.{div-le_self}
 use native.Mathlib.Omega.{arith}
-use Rattle.words.proofs.Places.{shape-in}
 use Rattle.bookings.proofs.Accepted.{bookings-count, bookings-sized, bookings-each}
-use Rattle.lent.proofs.KnownSheet.{read, few-pairs}
+use Rattle.lent.proofs.KnownSheet.{read}
 use Rattle.pairs.proofs.Links.{links-ready}
 use Rattle.verdict.proofs.Verdicts.{unmet-tested, unheld-tested, passes-tested}
 use Rattle.verdict.proofs.judge_tested.Goals as goal
@@ -20,32 +18,6 @@ first_unmet-unmet-requires c =
       full = asked.size ∙ ap (λ (n : ℕ). n * c.args.e.shapes) (read k).links.cards;
       tested = omega (arith, asked.some.tested.fits.full, asked.size);
     }
-
-pub nonzero_div-card : goal.nonzero_div-card
-nonzero_div-card c = (read c.requires.some.tested.known).shapes.shapes-low
-
-pub overflow_cast-card : goal.overflow_cast-card
-overflow_cast-card c =
-    let asked = c.requires in
-    omega (
-      arith,
-      c.in-Some.ensures.0,
-      div-le_self c.in-Some.place c.args.e.shapes,
-      asked.size,
-      few-pairs asked.some.tested.known,
-    )
-
-pub nonzero_rem-shape : goal.nonzero_rem-shape
-nonzero_rem-shape c = (read c.requires.some.tested.known).shapes.shapes-low
-
-pub overflow_cast-shape : goal.overflow_cast-shape
-overflow_cast-shape c =
-    let accepted = read c.requires.some.tested.known in
-    omega (
-      arith,
-      shape-in c.args.e.shapes accepted.shapes.shapes-low c.in-Some.place,
-      accepted.shapes.shapes-high,
-    )
 
 pub returns-in-Some : goal.returns-in-Some
 returns-in-Some c sheet t =
