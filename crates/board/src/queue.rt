@@ -28,8 +28,9 @@ impl Queue {
         requires { (self.old.len < max_grid) × (place < max_grid) }
         ensures { self.new ≡ pushed self.old place }
     {
-        self.places[self.len] = place as u16;
-        self.len += 1;
+        let end = self.len;
+        self.places[end] = place as u16;
+        self.len = end + 1;
     }
 
     // The place that was queued as number `i`.

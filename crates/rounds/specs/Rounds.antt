@@ -1,24 +1,23 @@
 -- The rounds of the search backwards: what they ask and find; no part of a promise.
 -- SourceCardAsked   what finding the card of the next pair asks
--- TableAsked   what indexing the table of names asks
 -- RoundsAsked  what the rounds ask; StrikeAsked: with indexes still to be built
 -- Searched     the answer; StrikesLeft: with what becomes of the grid
 -- Assumes nothing.
-use Rattle.std.specs.Prelude.{ℕ, suc, ◌+◌, ◌*◌, ◌≤◌, ◌<◌, ◌≡◌, List, Bool, false, length, get_or}
-use Rattle.words.specs.Limits.{max_cards, max_kinds}
+use Rattle.std.specs.Prelude.{ℕ, suc, ◌+◌, ◌*◌, ◌≤◌, ◌<◌, ◌≡◌, List, Bool, length, get_or, Option}
+use Rattle.std.specs.Borrow.{Bor}
+use Rattle.words.specs.Limits.{max_cards}
 use Rattle.words.specs.Sizes.{max_grid}
 use Rattle.links.specs.Index.{ArrivalsOf}
-use Rattle.sheet.specs.Opened.{OnlyOutgoing}
 use Rattle.board.specs.Grid.{on}
 use Rattle.board.specs.Board.{Board, Finished}
 use Rattle.board.specs.Machine.{Marks}
 use Rattle.board.specs.declared.queue.Queue.{Queue}
 use Rattle.board.specs.Listing.{Listed}
-use Rattle.typing.specs.Needs.{board_of, Ready}
+use Rattle.typing.specs.Needs.{board_of}
 use Rattle.walks.specs.declared.walk.Walk.{Walk}
 use Rattle.walks.specs.Walks.{WalkReady}
 use Rattle.walks.specs.Cards.{Reciprocal}
-use Rattle.strikes.specs.declared.index.NameIndexes.{NameIndexes}
+use Rattle.strikes.specs.declared.index.NameIndex.{NameIndex}
 use Rattle.strikes.specs.Strikes.{StrikeReady}
 
 -- What finding the card of the pair at place q asks, where the guess is by the last link to the card `last`.
@@ -31,14 +30,10 @@ pub record SourceCardAsked (script first : List ℕ) (shapes factor last q : ℕ
   pub by : Reciprocal shapes factor
   pub on-board : q < max_grid
 
--- What indexing the table of names asks: where it is said to name no incoming kinds, it names none.
-pub record TableAsked (walk : Walk) : Type 0 where
-  pub ready : Ready walk.script.now walk.names.now walk.shapes
-  pub ways : walk.incoming ≡ false → OnlyOutgoing walk.names.now walk.shapes max_kinds
-
 -- What the rounds ask: what striking goes by, a byte for each pair, and the pairs that are off queued.
-pub record RoundsAsked (walk : Walk) (indexes : NameIndexes) (grid : List ℕ) (queue : Queue) : Type 0 where
-  pub by : StrikeReady walk indexes
+pub record RoundsAsked (walk : Walk) (out : NameIndex) (back : Option (Bor NameIndex)) (grid : List ℕ) (queue : Queue)
+    : Type 0 where
+  pub by : StrikeReady walk out back
   pub full : length grid ≡ get_or walk.script.now 0 0 * walk.shapes
   pub listed : Listed grid queue.places queue.len (length grid)
 

@@ -3,11 +3,10 @@
 #![tactic(auto)]
 
 ghost use Rattle.std.specs.Prelude.{◌≡◌, ◌/◌};
-ghost use Rattle.strikes.specs.Indexes.{IndexedBy};
-ghost use Rattle.rounds.specs.Rounds.{SourceCardAsked, TableAsked, RoundsAsked, StrikeAsked, StrikesLeft};
+ghost use Rattle.rounds.specs.Rounds.{SourceCardAsked, RoundsAsked, StrikeAsked, StrikesLeft};
 
 use board::{Queue, list_off};
-use strikes::{NameIndexes, index_names, strike_needing};
+use strikes::{NameIndex, index_names, strike_needing};
 use tally::Tally;
 use walks::{Walk, guessed_card, reciprocal, scaled_card};
 use words::{MAX_KINDS, wide};
@@ -27,29 +26,16 @@ fn source_card(walk: &Walk, factor: usize, alone: bool, last: usize, q: usize) -
     scaled_card(q, factor)
 }
 
-// Indexes the outgoing names, and the incoming ones if some shape names one.
-fn index_table(walk: &Walk) -> NameIndexes
-    requires { TableAsked walk.now }
-    ensures { IndexedBy walk.now.names.now walk.now.shapes result }
-{
-    let outgoing = index_names(walk.names, 0, walk.shapes);
-    let incoming = if walk.incoming {
-        Some(index_names(walk.names, MAX_KINDS, walk.shapes))
-    } else {
-        None
-    };
-    NameIndexes { outgoing, incoming }
-}
-
 // Strikes rounds from the pairs in the grid, those whose counts fit, until one strikes nothing; the others are queued.
-// The tally has the rounds that are closed; the one at the end is closed like the others.
+// Links are looked at from both ends where there is an index of incoming names. The tally has the rounds that are closed; the one at the end is closed like the others.
 fn strike_rounds(
     walk: &Walk,
-    indexes: &NameIndexes,
+    outgoing: &NameIndex,
+    incoming: Option<&NameIndex>,
     grid: &mut [u8],
     queue: &mut Queue,
 ) -> Tally
-    requires { RoundsAsked walk.now indexes.now grid.old queue.old }
+    requires { RoundsAsked walk.now outgoing.now incoming grid.old queue.old }
     ensures { StrikesLeft walk.now.script.now walk.now.names.now walk.now.shapes
         grid.old grid.new result.rounds result.struck }
 {
@@ -64,7 +50,7 @@ fn strike_rounds(
         tally.at_head(head, queue.len);
         let q = queue.at(head);
         let m = source_card(walk, factor, head + 1 == queue.len, last, q);
-        strike_needing(walk, indexes, m, q, grid, queue);
+        strike_needing(walk, outgoing, incoming, m, q, grid, queue);
         last = m;
         head += 1;
     }
@@ -72,13 +58,20 @@ fn strike_rounds(
     tally
 }
 
-// Strikes rounds from a grid that has the pairs whose counts fit, until one strikes nothing.
+// Strikes rounds from a grid that has the pairs whose counts fit, until one strikes nothing. The incoming names are
+// indexed where some shape names one.
 pub fn strike_all(walk: &Walk, grid: &mut [u8], queue: &mut Queue) -> Tally
     requires { StrikeAsked walk.now grid.old }
     ensures { StrikesLeft walk.now.script.now walk.now.names.now walk.now.shapes
         grid.old grid.new result.rounds result.struck }
 {
-    let indexes = index_table(walk);
+    let mut outgoing = NameIndex::new(0);
+    index_names(walk.names, walk.shapes, &mut outgoing);
     list_off(grid, queue);
-    strike_rounds(walk, &indexes, grid, queue)
+    if walk.incoming {
+        let mut incoming = NameIndex::new(MAX_KINDS);
+        index_names(walk.names, walk.shapes, &mut incoming);
+        return strike_rounds(walk, &outgoing, Some(&incoming), grid, queue);
+    }
+    strike_rounds(walk, &outgoing, None, grid, queue)
 }

@@ -1,5 +1,5 @@
 -- The chains of the places of one half of the table, by kind and shape named.
---   ready-table            the table of a script that is ready
+--   ready-table            the table of a script that is ready; names-asked: what indexing one half of it asks
 --   half_place             the entry that is read at a place of the half
 --   half-bound             an entry of a half is a shape plus one, or 0
 --   key-none, key_of       the key of a place that names no shape, and of one that does
@@ -8,7 +8,7 @@
 --   row_in                 such pairs are on the board
 --   named-exact            the numbers of such a chain make good just the pairs of NamedGood
 -- Assumes nothing.
-use mathlib.Core.Path.{◌≡◌, refl, sym, ap, ap₂, ◌∙◌}
+use mathlib.Core.Path.{◌≡◌, refl, sym, subst, ap, ap₂, ◌∙◌}
 use mathlib.Core.Logic.{⊎_elim}
 use mathlib.Core.List.{List}
 use Prim.Native.Nat.{ℕ, suc, ◌+◌, ◌-◌, ◌*◌, ◌/◌, ◌%◌, ◌≤◌, ◌<◌}
@@ -22,13 +22,19 @@ use Rattle.words.specs.Limits.{max_kinds, max_labels, max_shapes}
 use Rattle.template.specs.Machine.{entry_at}
 use Rattle.typing.specs.Needs.{Ready}
 use Rattle.typing.proofs.Boards.{entries-bound}
-use Rattle.strikes.specs.Indexes.{half_entry, entry_key, name_keys, Table}
+use Rattle.strikes.specs.Indexes.{half_entry, entry_key, name_keys, no_names, Table, NamesAsked}
+use Rattle.strikes.specs.declared.index.NameIndex.{NameIndex}
 use Rattle.strikes.specs.Strikes.{NamedGood}
 use Rattle.words.proofs.Places.{place_in, card-in, card-of, shape-in, shape_of}
 use Rattle.walks.proofs.Walks.{Later}
 
 pub ready-table : {script names : List ℕ} {shapes : ℕ} → Ready script names shapes → Table names shapes
 ready-table ready = record { few-shapes = ready.few-shapes; rows = ready.table; entries = entries-bound ready }
+
+pub names-asked : {script names : List ℕ} {shapes start : ℕ} {index : NameIndex} → Ready script names shapes
+    → start ≤ max_kinds → index ≡ no_names start → NamesAsked names shapes index
+names-asked {shapes = shapes} {index = index} ready half e =
+    subst (NamesAsked _ shapes) (sym e) (record { table = ready-table ready; half = half; blank = refl })
 
 module _ (names : List ℕ) (start p : ℕ) where
   -- the entry at a place of the half is read at its shape's row and its kind's label

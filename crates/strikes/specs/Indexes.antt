@@ -4,19 +4,20 @@
 -- half_entry    the entry at a place of a half
 -- entry_key     by which a half's places are chained: a kind and the shape named for it; name_keys: how many such keys
 -- Table        a table of names with a row for each shape
+-- no_names     the index of no names yet
 -- NamesAsked   what chaining the places of a half asks
 -- IndexOf      the chains of a half's places; WayIndex: of the half of a way
 -- IndexedBy    the indexes of a table
 -- Assumes nothing.
 use Rattle.std.specs.Prelude.{ℕ, ◌+◌, ◌-◌, ◌*◌, ◌/◌, ◌%◌, ◌≤◌, ◌<◌, ◌≡◌, List, cond, length, get_or, eqb}
-use Rattle.std.specs.Prelude.{MatchOption}
+use Rattle.std.specs.Prelude.{replicate, Option, MatchOption}
+use Rattle.std.specs.Borrow.{Bor}
 use Rattle.words.specs.Limits.{max_kinds, max_labels, max_shapes}
 use Rattle.words.specs.Chain.{Chained}
 use Rattle.bags.specs.Label.{Way, outgoing, incoming, first_label}
 use Rattle.template.specs.Machine.{entry_at}
 use Rattle.sheet.specs.Opened.{OnlyOutgoing}
 use Rattle.strikes.specs.declared.index.NameIndex.{NameIndex}
-use Rattle.strikes.specs.declared.index.NameIndexes.{NameIndexes}
 
 abbrev pub half_entry : List ℕ → ℕ → ℕ → ℕ
 half_entry names start p = entry_at names (p / max_kinds) (start + p % max_kinds)
@@ -37,10 +38,15 @@ pub record Table (names : List ℕ) (shapes : ℕ) : Type 0 where
   pub rows : shapes * max_labels ≤ length names
   pub entries : (p : ℕ) → p < shapes * max_labels → get_or names p 0 ≤ max_shapes
 
+-- The index of no names yet.
+abbrev pub no_names : ℕ → NameIndex
+no_names start = record { start = start; first = replicate name_keys 0; next = replicate name_keys 0 }
+
 -- What chaining the places of a half asks.
-pub record NamesAsked (names : List ℕ) (start shapes : ℕ) : Type 0 where
+pub record NamesAsked (names : List ℕ) (shapes : ℕ) (index : NameIndex) : Type 0 where
   pub table : Table names shapes
-  pub half : start ≤ max_kinds
+  pub half : index.start ≤ max_kinds
+  pub blank : index ≡ no_names index.start
 
 -- The places of a half are chained by their keys.
 pub record IndexOf (names : List ℕ) (shapes : ℕ) (index : NameIndex) : Type 0 where
@@ -54,6 +60,6 @@ pub record WayIndex (names : List ℕ) (shapes : ℕ) (way : Way) (index : NameI
   pub half : index.start ≡ first_label way
 
 -- The indexes of a table: of the outgoing names, and of the incoming ones unless there are none.
-pub record IndexedBy (names : List ℕ) (shapes : ℕ) (indexes : NameIndexes) : Type 0 where
-  pub outward : WayIndex names shapes outgoing indexes.outgoing
-  pub inward : MatchOption indexes.incoming (OnlyOutgoing names shapes max_kinds) (WayIndex names shapes incoming)
+pub record IndexedBy (names : List ℕ) (shapes : ℕ) (out : NameIndex) (back : Option (Bor NameIndex)) : Type 0 where
+  pub outward : WayIndex names shapes outgoing out
+  pub inward : MatchOption back (OnlyOutgoing names shapes max_kinds) (λ index. WayIndex names shapes incoming index.now)

@@ -5,7 +5,8 @@
 -- StrikeReady  what striking goes by
 -- NeedingAsked what striking all pairs that need one asks
 -- Assumes nothing.
-use Rattle.std.specs.Prelude.{ℕ, suc, ◌+◌, ◌*◌, ◌/◌, ◌≤◌, ◌<◌, ◌≡◌, List, length, get_or}
+use Rattle.std.specs.Prelude.{ℕ, suc, ◌+◌, ◌*◌, ◌/◌, ◌≤◌, ◌<◌, ◌≡◌, List, length, get_or, Option}
+use Rattle.std.specs.Borrow.{Bor}
 use Rattle.words.specs.Limits.{max_kinds, max_shapes}
 use Rattle.words.specs.Sizes.{max_grid}
 use Rattle.bags.specs.Label.{Way, outgoing, incoming}
@@ -17,7 +18,6 @@ use Rattle.typing.specs.Needs.{Ready}
 use Rattle.walks.specs.Walks.{Starts}
 use Rattle.walks.specs.declared.walk.Walk.{Walk}
 use Rattle.strikes.specs.declared.index.NameIndex.{NameIndex}
-use Rattle.strikes.specs.declared.index.NameIndexes.{NameIndexes}
 use Rattle.strikes.specs.Indexes.{Table, IndexOf, WayIndex, IndexedBy}
 
 -- The pairs of the card at `base` whose shape names u for the label k.
@@ -64,16 +64,17 @@ pub record TargetsAsked (walk : Walk) (index : NameIndex) (lo hi u : ℕ) (w : W
   pub links-in : hi ≤ get_or walk.script.now 1 0
 
 -- What striking goes by: a script, where its links stand, those to a card too, and the indexes of its names.
-pub record StrikeReady (walk : Walk) (indexes : NameIndexes) : Type 0 where
+pub record StrikeReady (walk : Walk) (out : NameIndex) (back : Option (Bor NameIndex)) : Type 0 where
   pub ready : Ready walk.script.now walk.names.now walk.shapes
   pub leaving : Starts walk.script.now walk.starts.now
   pub arriving : ArrivalsOf walk.script.now walk.first.now walk.next.now (get_or walk.script.now 0 0)
       (get_or walk.script.now 1 0)
-  pub places : IndexedBy walk.names.now walk.shapes indexes
+  pub places : IndexedBy walk.names.now walk.shapes out back
 
 -- What striking all pairs that need the one at place q, of card m, asks.
-pub record NeedingAsked (walk : Walk) (indexes : NameIndexes) (m q : ℕ) (w : Work) : Type 0 where
-  pub by : StrikeReady walk indexes
+pub record NeedingAsked (walk : Walk) (out : NameIndex) (back : Option (Bor NameIndex)) (m q : ℕ) (w : Work)
+    : Type 0 where
+  pub by : StrikeReady walk out back
   pub card : m ≡ q / walk.shapes
   pub on-board : q < length w.grid
   pub full : length w.grid ≡ get_or walk.script.now 0 0 * walk.shapes

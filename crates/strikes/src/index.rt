@@ -2,7 +2,7 @@
 // entries of one way; its place p is that of the shape p / MAX_KINDS and the kind p % MAX_KINDS.
 ghost use Rattle.std.specs.Prelude.{◌≡◌, ◌+◌, ◌*◌, ◌≤◌};
 ghost use Rattle.words.specs.Limits.{max_kinds, max_labels, max_shapes};
-ghost use Rattle.strikes.specs.Indexes.{IndexOf, NamesAsked};
+ghost use Rattle.strikes.specs.Indexes.{IndexOf, NamesAsked, no_names};
 
 use words::{Kind, MAX_KINDS, MAX_LABELS, MAX_SHAPES, Shape, byte};
 
@@ -18,11 +18,17 @@ pub struct NameIndex {
     pub next: [u16; HALF_TABLE],
 }
 
-// The index of the outgoing names, and that of the incoming ones if some shape names one.
-#[derive(Drop)]
-pub struct NameIndexes {
-    pub outgoing: NameIndex,
-    pub incoming: Option<NameIndex>,
+impl NameIndex {
+    // The index of no names yet, of the half whose labels start at `start`.
+    pub fn new(start: usize) -> NameIndex
+        ensures { result ≡ no_names start }
+    {
+        NameIndex {
+            start,
+            first: [0; HALF_TABLE],
+            next: [0; HALF_TABLE],
+        }
+    }
 }
 
 // Where a shape's entry for a kind stands in the table of names. `start` is where the labels of the way start.
@@ -40,17 +46,12 @@ pub fn name_key(kind: Kind, shape: Shape) -> usize
     kind.0 as usize * MAX_SHAPES + shape.0 as usize
 }
 
-// Chains the places by kind and shape named. `start` is where the labels of the way start; a place that names no shape
-// is passed over.
-pub fn index_names(names: &[u8], start: usize, shapes: usize) -> NameIndex
-    requires { NamesAsked names.now start shapes }
-    ensures { IndexOf names.now shapes result × (result.start ≡ start) }
+// Chains the places of the index's half by kind and shape named; a place that names no shape is passed over.
+pub fn index_names(names: &[u8], shapes: usize, index: &mut NameIndex)
+    requires { NamesAsked names.now shapes index.old }
+    ensures { IndexOf names.now shapes index.new × (index.new.start ≡ index.old.start) }
 {
-    let mut index = NameIndex {
-        start,
-        first: [0; HALF_TABLE],
-        next: [0; HALF_TABLE],
-    };
+    let start = index.start;
     for p in 0..shapes * MAX_KINDS {
         let shape = Shape((p / MAX_KINDS) as u16);
         let kind = Kind((p % MAX_KINDS) as u16);
@@ -61,5 +62,4 @@ pub fn index_names(names: &[u8], start: usize, shapes: usize) -> NameIndex
             index.first[key] = (p + 1) as u16;
         }
     }
-    index
 }

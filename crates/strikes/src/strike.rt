@@ -1,13 +1,13 @@
 // What is struck by one pair: the pairs that need it, by the links to its card and by those from it.
 ghost use Rattle.std.specs.Prelude.{◌+◌, ◌*◌};
-ghost use Rattle.bags.specs.Label.{outgoing, incoming as arriving};
+ghost use Rattle.bags.specs.Label.{outgoing as leaving, incoming as arriving};
 ghost use Rattle.board.specs.Work.{work, Swept};
 ghost use Rattle.typing.specs.Needs.{Needs};
 ghost use Rattle.walks.specs.Walks.{Leaving, Arriving};
 ghost use Rattle.strikes.specs.Strikes.{NamedGood, NamedAsked, NeedGood, SourcesAsked, TargetsAsked};
 ghost use Rattle.strikes.specs.Strikes.{NeedingAsked};
 
-use crate::index::{NameIndex, NameIndexes, name_key};
+use crate::index::{NameIndex, name_key};
 use board::{Queue, strike_one};
 use walks::Walk;
 use words::{Kind, MAX_KINDS, Shape, wide};
@@ -51,7 +51,7 @@ fn strike_sources(
 )
     requires { SourcesAsked walk.now index.now m u.0 (work grid.old queue.old) }
     ensures { Swept (Arriving walk.now.script.now m
-        (NeedGood outgoing walk.now.script.now walk.now.names.now walk.now.shapes u.0))
+        (NeedGood leaving walk.now.script.now walk.now.names.now walk.now.shapes u.0))
         (work grid.old queue.old) (work grid.new queue.new) }
 {
     let script = walk.script;
@@ -90,22 +90,23 @@ fn strike_targets(
 }
 
 // Strikes what needs the pair at place q, of card m: by the links to its card, and, where some shape names an incoming
-// kind, by those from it.
+// kind, by those from it: there is an index of such names.
 pub fn strike_needing(
     walk: &Walk,
-    indexes: &NameIndexes,
+    outgoing: &NameIndex,
+    incoming: Option<&NameIndex>,
     m: usize,
     q: usize,
     grid: &mut [u8],
     queue: &mut Queue,
 )
-    requires { NeedingAsked walk.now indexes.now m q (work grid.old queue.old) }
+    requires { NeedingAsked walk.now outgoing.now incoming m q (work grid.old queue.old) }
     ensures { Swept (λ p. Needs walk.now.script.now walk.now.names.now walk.now.shapes p q)
         (work grid.old queue.old) (work grid.new queue.new) }
 {
     let u = Shape((q - m * walk.shapes) as u16);
-    strike_sources(walk, &indexes.outgoing, m, u, grid, queue);
-    if let Some(index) = &indexes.incoming {
+    strike_sources(walk, outgoing, m, u, grid, queue);
+    if let Some(index) = incoming {
         let lo = wide(walk.starts[m]);
         let hi = wide(walk.starts[m + 1]);
         strike_targets(walk, index, lo, hi, u, grid, queue);

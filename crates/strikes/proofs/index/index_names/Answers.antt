@@ -1,6 +1,6 @@
 -- `strikes::index_names` chains the places of a half of the table. The invariant: those below p are chained, and from p
 -- on the links of the chains are 0. Assumes nothing.
-use mathlib.Core.Path.{subst₂, ◌≡◌, refl, sym, ap, ◌∙◌}
+use mathlib.Core.Path.{subst, subst₂, ◌≡◌, refl, sym, ap, ◌∙◌}
 use mathlib.Core.List.{List}
 use Prim.Native.Nat.{ℕ, ◌≤◌, ◌<◌, ◌+◌, ◌*◌, ◌-◌, ◌%◌}
 use native.Mathlib.Omega.{arith}
@@ -10,6 +10,7 @@ use Rattle.words.specs.Limits.{max_kinds, max_shapes}
 use Rattle.words.proofs.Places.{shape-in}
 use Rattle.words.specs.Chain.{Chained}
 use Rattle.words.proofs.Chains.{chained-none, chained_more, chained-skip}
+use Rattle.strikes.specs.declared.index.NameIndex.{NameIndex}
 use Rattle.strikes.specs.Indexes.{entry_key, half_entry, name_keys}
 use Rattle.strikes.proofs.Names.{half_place, half_in, half-bound, key-none, key_of, key-own}
 use Rattle.strikes.proofs.index.index_names.Invariants.{IndexedTo}
@@ -22,14 +23,15 @@ zero-at : (i : ℕ) → i < length {A = ℕ} (replicate name_keys 0) → get_or 
 zero-at i l = get_or-replicate {A = ℕ} name_keys i 0 0 (omega (arith, length-replicate {A = ℕ} name_keys 0))
 
 pub loop-p-init : goal.loop-p-init
-loop-p-init c = record {
-  half = refl;
-  keys = length-replicate {A = ℕ} name_keys 0;
-  places = length-replicate {A = ℕ} name_keys 0;
-  chained = chained-none (entry_key c.args.names.now c.args.start) (replicate name_keys 0) (replicate name_keys 0)
-      zero-at;
-  zeros = λ i _ l. zero-at i l;
-}
+loop-p-init c =
+    let start = c.args.index.now.start in
+    subst (λ (index : NameIndex). IndexedTo c.args.names.now start index 0) (sym c.requires.blank) (record {
+      half = refl;
+      keys = length-replicate {A = ℕ} name_keys 0;
+      places = length-replicate {A = ℕ} name_keys 0;
+      chained = chained-none (entry_key c.args.names.now start) (replicate name_keys 0) (replicate name_keys 0) zero-at;
+      zeros = λ i _ l. zero-at i l;
+    })
 
 -- the place that a turn reads is in the table
 place_here : (e : After-entry_place)
@@ -38,18 +40,18 @@ place_here e =
     omega (
       arith,
       e.entry_place.ensures,
-      half_in e.args.names.now e.args.start e.loop-p.p e.args.shapes e.requires.half
+      half_in e.args.names.now e.args.index.now.start e.loop-p.p e.args.shapes e.requires.half
           e.loop-p-test.true,
       e.requires.table.rows,
     )
 
 -- its entry
-entry-is : (a : After-byte-entry) → a.byte-entry.result ≡ half_entry a.args.names.now a.args.start a.loop-p.p
+entry-is : (a : After-byte-entry) → a.byte-entry.result ≡ half_entry a.args.names.now a.args.index.now.start a.loop-p.p
 entry-is a =
     let names = a.args.names.now in
     a.byte-entry.ensures.same
     ∙ ap (λ (x : ℕ). get_or names x 0) a.entry_place.ensures
-    ∙ half_place names a.args.start a.loop-p.p
+    ∙ half_place names a.args.index.now.start a.loop-p.p
 
 -- an entry is a shape plus one at most, so its key has a head
 entry-low : (a : After-byte-entry) → a.byte-entry.result ≤ max_shapes
@@ -57,7 +59,7 @@ entry-low a =
     omega (
       arith,
       entry-is a,
-      half-bound a.args.names.now a.args.start a.loop-p.p a.requires.table a.requires.half
+      half-bound a.args.names.now a.args.index.now.start a.loop-p.p a.requires.table a.requires.half
           a.loop-p-test.true,
     )
 
@@ -78,7 +80,7 @@ place-low a = omega (arith, a.loop-p-test.true, a.requires.table.few-shapes)
 -- after a turn: the state that the next one starts from
 abbrev After : After-byte-entry → List ℕ → List ℕ → Type 0
 After a first next =
-    IndexedTo a.args.names.now a.args.start (record a.loop-p.index { first = first; next = next }) (a.loop-p.p + 1)
+    IndexedTo a.args.names.now a.args.index.now.start (record a.loop-p.index { first = first; next = next }) (a.loop-p.p + 1)
 
 -- the place names a shape, and is chained
 one_more : (k : After-byte-entry) (key : ℕ) → 0 < k.byte-entry.result
@@ -96,12 +98,12 @@ one_more k key some named =
     omega (arith, named, entry-low k, shape-in max_kinds (omega arith) p, so_far.keys) in
     let is = named
     ∙ ap (λ (x : ℕ). p % max_kinds * max_shapes + (x - 1)) (entry-is k)
-    ∙ sym (key_of names k.args.start p (λ z. omega (arith, entry-is k, z, some))) in
+    ∙ sym (key_of names k.args.index.now.start p (λ z. omega (arith, entry-is k, z, some))) in
     record {
       half = so_far.half;
       keys = length-set first key (p + 1) ∙ so_far.keys;
       places = length-set next p head ∙ so_far.places;
-      chained = chained_more (entry_key names k.args.start) first next p key so_far.chained is low (omega (
+      chained = chained_more (entry_key names k.args.index.now.start) first next p key so_far.chained is low (omega (
         arith,
         place-low k,
         so_far.places,
@@ -114,7 +116,7 @@ one_more k key some named =
 none_here : (a : After-byte-entry) → a.byte-entry.result ≤ 0 → After a a.loop-p.index.first a.loop-p.index.next
 none_here a none =
     let names = a.args.names.now in
-    let start = a.args.start in
+    let start = a.args.index.now.start in
     let p = a.loop-p.p in
     let so_far = a.loop-p.invariant in
     let empty : half_entry names start p ≡ 0 = omega (arith, entry-is a, none) in

@@ -18,4 +18,4 @@ pub record IndexedTo (names : List ℕ) (start : ℕ) (index : NameIndex) (p : �
   pub zeros : (i : ℕ) → p ≤ i → i < length index.next → get_or index.next i 0 ≡ 0
 
 abbrev pub invariant-loop-p : goal.invariant-loop-p
-invariant-loop-p l = IndexedTo l.names l.start l.index l.p
+invariant-loop-p l = IndexedTo l.names l.initial.index.start l.index l.p
