@@ -3,18 +3,17 @@
 --   words-split    some words, and those after them
 --   part-words     a part of the words of all bytes is the words from its place on
 --   section-words  a section of the input, as a part of its words
---   parts_in       sections of an input are parts of its words
+--   part_in_words  and it is a part of them
 -- Assumes nothing.
-use Prim.Native.Nat.{ℕ, zero, suc, ◌+◌, ◌-◌, ◌*◌, ◌/◌}
+use Prim.Native.Nat.{ℕ, zero, suc, ◌+◌, ◌-◌, ◌*◌, ◌/◌, ◌≤◌}
 use mathlib.Core.Path.{◌≡◌, refl, sym, ap, ap₂, ◌∙◌}
 use mathlib.Core.List.{List, [], ◌∷◌, ◌++◌, append_assoc, append-nil}
 use native.Mathlib.Omega.{arith}
 use lib.ListN.{length, take, drop, length-append}
 use lib.Seq.{take_at, drop_at}
 use Rattle.input.specs.Input.{word_at, words_from}
-use Rattle.input.specs.Machine.{words_in, part_in, Parts, Within}
+use Rattle.input.specs.Machine.{words_in, part_in, Within}
 use Rattle.input.specs.declared.Section.{Section}
-use Rattle.input.specs.declared.Sections.{Sections}
 
 module _ (bytes : List ℕ) where
   pub words-length : (at n : ℕ) → length (words_from bytes at n) ≡ n
@@ -58,12 +57,6 @@ module _ (bytes words : List ℕ) (decoded : words ≡ words_from bytes 0 (lengt
       ∙ part-words bytes a k (n - (a + k))
       ∙ ap (λ (p : ℕ). words_from bytes p k) (sym w.even)
 
-  pub parts_in : (s : Sections) → Within bytes s.template → Within bytes s.script → Within bytes s.bookings
-      → Parts words s
-  parts_in s f g h =
-      let long = ap length decoded ∙ words-length bytes 0 (length bytes / 2) in
-      record {
-        template = omega (arith, long, f.ends, f.even);
-        script = omega (arith, long, g.ends, g.even);
-        bookings = omega (arith, long, h.ends, h.even);
-      }
+  pub part_in_words : (s : Section) → Within bytes s → s.at / 2 + s.count ≤ length words
+  part_in_words s w =
+      omega (arith, ap length decoded ∙ words-length bytes 0 (length bytes / 2), w.ends, w.even)

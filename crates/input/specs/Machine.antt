@@ -1,8 +1,8 @@
 -- What finding and decoding the sections of the input does; no part of a promise.
 -- words_in, sections_read  the words of a section, and the reading that an answer stands for
--- part_in, Parts   the words of a section as a part of all words; each section is such a part
+-- part_in          the words of a section as a part of all words
 -- SectionFound     a section that stands after its count
--- Within      a section is in the input
+-- Within, AllWithin   a section is in the input, each section is
 -- FrontLaid, FrontInside     each section of an answer is in an input of at most so many bytes, the last up to a place
 -- Laid, SectionsInside     the same of the printer's input
 -- Assumes nothing.
@@ -27,12 +27,6 @@ sections_read bytes None = turned_down 60 0
 abbrev pub part_in : List ℕ → Section → List ℕ
 part_in words s = take s.count (drop (s.at / 2) words)
 
--- Each section is a part of the words.
-pub record Parts (words : List ℕ) (s : Sections) : Type 0 where
-  pub template : s.template.at / 2 + s.template.count ≤ length words
-  pub script : s.script.at / 2 + s.script.count ≤ length words
-  pub bookings : s.bookings.at / 2 + s.bookings.count ≤ length words
-
 -- The words of a section stand after its count, which stands at a byte, and are all there.
 pub record SectionFound (bytes : List ℕ) (at : ℕ) (s : Section) : Type 0 where
   pub starts : s.at ≡ at + 2
@@ -44,12 +38,16 @@ pub record Within (bytes : List ℕ) (s : Section) : Type 0 where
   pub ends : s.at + 2 * s.count ≤ length bytes
   pub even : s.at ≡ 2 * (s.at / 2)
 
--- The bytes are no more than so many, each section is in them, and past the last one the bookings end.
-pub record FrontLaid (most : ℕ) (bytes : List ℕ) (s : Sections) : Type 0 where
-  pub few : length bytes ≤ most
+-- Each section is.
+pub record AllWithin (bytes : List ℕ) (s : Sections) : Type 0 where
   pub template : Within bytes s.template
   pub script : Within bytes s.script
   pub bookings : Within bytes s.bookings
+
+-- The bytes are no more than so many, each section is in them, and past the last one the bookings end.
+pub record FrontLaid (most : ℕ) (bytes : List ℕ) (s : Sections) : Type 0 where
+  pub few : length bytes ≤ most
+  pub within : AllWithin bytes s
   pub end : s.bookings.at + 2 * s.bookings.count ≡ input_end bytes
 
 -- The sections of an answer are.
@@ -59,9 +57,7 @@ FrontInside most bytes found = IfSome found (FrontLaid most bytes)
 -- The bytes are no more than the printer's input can be, and each section is in them.
 pub record Laid (bytes : List ℕ) (s : Sections) : Type 0 where
   pub few : length bytes ≤ max_input
-  pub template : Within bytes s.template
-  pub script : Within bytes s.script
-  pub bookings : Within bytes s.bookings
+  pub within : AllWithin bytes s
 
 -- The sections of an answer are.
 abbrev pub SectionsInside : List ℕ → Option Sections → Type 0

@@ -5,7 +5,8 @@
 ghost use Rattle.std.specs.Prelude.{◌≡◌, ◌+◌, ◌*◌, ◌/◌, ◌^◌, ◌≤◌, ◌<◌, length, Some, MatchOption};
 ghost use Rattle.words.specs.Bounded.{Bounded};
 ghost use Rattle.input.specs.Input.{word_at, words_from, section_end, read_front, read_input};
-ghost use Rattle.input.specs.Machine.{part_in, sections_read, SectionFound, FrontInside, SectionsInside};
+ghost use Rattle.input.specs.Machine.{words_in, part_in, sections_read, SectionFound, AllWithin};
+ghost use Rattle.input.specs.Machine.{FrontInside, SectionsInside};
 
 use words::{MAX_INPUT, wide};
 
@@ -24,6 +25,14 @@ pub struct Sections {
     pub bookings: Section,
 }
 
+// The words of an input's sections.
+#[derive(Clone, Copy)]
+pub struct Lists<'a> {
+    pub template: &'a [u16],
+    pub script: &'a [u16],
+    pub bookings: &'a [u16],
+}
+
 // The word at a byte: its low byte comes first.
 pub fn word_at(bytes: &[u8], at: usize) -> u16
     requires { at + 2 ≤ length bytes.now }
@@ -32,14 +41,16 @@ pub fn word_at(bytes: &[u8], at: usize) -> u16
     u16::from_le_bytes([bytes[at], bytes[at + 1]])
 }
 
-// Fills a buffer with the words at the front of the bytes.
-pub fn decode(bytes: &[u8], words: &mut [u16])
-    requires { 2 * length words.old ≤ length bytes.now }
-    ensures { words.new ≡ words_from bytes.now 0 (length words.old) }
+// Decodes the words of the bytes to the front of a buffer, which lends them.
+pub fn decode<'a>(bytes: &[u8], room: &'a mut [u16]) -> &'a [u16]
+    requires { length bytes.now / 2 ≤ length room.old }
+    ensures { result.now ≡ words_from bytes.now 0 (length bytes.now / 2) }
 {
+    let words = &mut room[..bytes.len() / 2];
     for (i, word) in words.iter_mut().enumerate() {
         *word = word_at(bytes, 2 * i);
     }
+    words
 }
 
 // How many words a section has whose count stands at a byte.
@@ -60,12 +71,30 @@ impl Section {
     }
 
     // Its words, among those of all bytes.
-    pub fn part<'a>(&self, words: &'a [u16]) -> &'a [u16]
+    fn part<'a>(&self, words: &'a [u16]) -> &'a [u16]
         requires { self.now.at / 2 + self.now.count ≤ length words.now }
         ensures { result.now ≡ part_in words.now self.now }
     {
         let start = self.at / 2;
         &words[start..start + self.count]
+    }
+}
+
+impl Sections {
+    // The words of each, decoded to a buffer, which lends them.
+    pub fn decode<'a>(&self, bytes: &[u8], room: &'a mut [u16]) -> Lists<'a>
+        requires inside { AllWithin bytes.now self.now }
+        requires room { length bytes.now / 2 ≤ length room.old }
+        ensures template { result.template.now ≡ words_in bytes.now self.now.template }
+        ensures script { result.script.now ≡ words_in bytes.now self.now.script }
+        ensures bookings { result.bookings.now ≡ words_in bytes.now self.now.bookings }
+    {
+        let words = decode(bytes, room);
+        Lists {
+            template: self.template.part(words),
+            script: self.script.part(words),
+            bookings: self.bookings.part(words),
+        }
     }
 }
 

@@ -1,5 +1,5 @@
 -- Laws of the grid judge's input: what reading it gives under the tests that lead there.
---   no-grid, grid-short, grid-going-on   the faults after the files
+--   no-grid, grid-apart          the faults after the files
 --   grid-read                    else the desk and the grid
 --   desk-is, grid-is             these, by where the files end and by the count that stands there
 --   judge-input-numbers          an input is refused with 60
@@ -11,7 +11,9 @@ use mathlib.Core.List.{List}
 use native.Mathlib.Omega.{arith}
 use lib.Dec.{ltb}
 use lib.ListN.{length, take, drop}
+use mathlib.Core.Logic.{inl, inr}
 use borrow.Author.Tests.{lt-ltb, le-ltb}
+use Rattle.std.proofs.lemmas.Bool.{cases_lt}
 use Rattle.words.specs.Reading.{Reading, accepted, turned_down, refuse}
 use Rattle.words.proofs.Readings.{refused, Numbered, refuse-numbered, then-numbered}
 use Rattle.input.specs.Input.{word_at, input_end, Input, read_front}
@@ -37,10 +39,10 @@ module _ (bytes : List ℕ) {end : ℕ} (ends : end ≡ input_end bytes) where
     size_is : count ≡ grid_size bytes
     size_is = counts ∙ ap (λ (p : ℕ). word_at bytes (p + 2)) ends
 
-    pub grid-is : take (end + 4 + count - (end + 4)) (drop (end + 4) bytes)
+    pub grid-is : length bytes ≡ end + 4 + count → take (length bytes - (end + 4)) (drop (end + 4) bytes)
         ≡ take (grid_size bytes) (drop (grid_start bytes) bytes)
-    grid-is =
-        let many : end + 4 + count - (end + 4) ≡ grid_size bytes = omega (arith, size_is) in
+    grid-is whole =
+        let many : length bytes - (end + 4) ≡ grid_size bytes = omega (arith, size_is) in
         let from : end + 4 ≡ grid_start bytes = omega (arith, ends) in
         ap₂ (λ (n p : ℕ). take n (drop p bytes)) many from
 
@@ -48,26 +50,20 @@ module _ (bytes : List ℕ) {end : ℕ} (ends : end ≡ input_end bytes) where
       starts : ltb (length bytes) (grid_start bytes) ≡ false
       starts = le-ltb (length bytes) (grid_start bytes) (omega (arith, ends))
 
-      pub grid-short : length bytes < end + 4 + count → read_grid bytes files ≡ turned_down 60 0
+      pub grid-apart : (length bytes ≡ end + 4 + count → ⊥) → read_grid bytes files ≡ turned_down 60 0
       unfolding read_grid
-      grid-short l =
-          passes _ starts (refused 60 0 _ _ (lt-ltb (length bytes) (grid_end bytes) (omega (arith, ends, size_is))))
+      grid-apart apart = elim (cases_lt (length bytes) (end + 4 + count)) [
+        | inl short ↦ passes _ starts (refused 60 0 _ _ (lt-ltb (length bytes) (grid_end bytes) (omega (arith, ends, size_is))))
+        | inr long ↦ passes _ starts (passes _ (le-ltb (length bytes) (grid_end bytes) (omega (arith, ends, size_is)))
+            (refused 60 0 _ _ (lt-ltb (grid_end bytes) (length bytes) (omega (arith, ends, size_is, apart)))))
+      ]
 
-      module _ (complete : end + 4 + count ≤ length bytes) where
-        whole : ltb (length bytes) (grid_end bytes) ≡ false
-        whole = le-ltb (length bytes) (grid_end bytes) (omega (arith, ends, size_is))
-
-        pub grid-going-on : end + 4 + count < length bytes → read_grid bytes files ≡ turned_down 60 0
-        unfolding read_grid
-        grid-going-on l =
-            passes _ starts (passes _ whole
-            (refused 60 0 _ _ (lt-ltb (grid_end bytes) (length bytes) (omega (arith, ends, size_is)))))
-
-        pub grid-read : length bytes ≤ end + 4 + count → read_grid bytes files ≡ accepted (judge_input_of bytes files)
-        unfolding read_grid
-        grid-read l =
-            passes _ starts (passes _ whole
-            (passes _ (le-ltb (grid_end bytes) (length bytes) (omega (arith, ends, size_is))) refl))
+      pub grid-read : length bytes ≡ end + 4 + count → read_grid bytes files ≡ accepted (judge_input_of bytes files)
+      unfolding read_grid
+      grid-read whole =
+          passes _ starts
+          (passes _ (le-ltb (length bytes) (grid_end bytes) (omega (arith, ends, size_is)))
+          (passes _ (le-ltb (grid_end bytes) (length bytes) (omega (arith, ends, size_is))) refl))
 
 -- The number that an input is refused with.
 abbrev InputNumber : ℕ → Type 0

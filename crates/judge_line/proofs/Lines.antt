@@ -1,16 +1,12 @@
 -- From what is said of an input to the line that is written for it.
---   refused_end, pair_end   where a refusal's line ends
 --   verdict-wrote      a line, by what the judge answers
---   same-words         equal words are judged alike
 --   line_refused       60 of the grid is written; line-judged: or what the judge answers
 --   faulty-judged, front-judged   what is written for all of the input
 -- Assumes nothing.
-use Prim.Native.Nat.{ℕ, ◌+◌, ◌≤◌}
+use Prim.Native.Nat.{ℕ}
 use mathlib.Core.Path.{◌≡◌, refl, sym, ap, subst}
 use mathlib.Core.List.{List, [], ◌∷◌}
-use native.Mathlib.Omega.{arith}
-use lib.ListN.{length}
-use Rattle.words.specs.Said.{Said, refusal}
+use Rattle.words.specs.Said.{refusal}
 use Rattle.words.specs.Reading.{Reading, accepted, turned_down, then}
 use Rattle.words.specs.Wrote.{Wrote}
 use Rattle.words.proofs.Writing.{wrote-same}
@@ -18,33 +14,20 @@ use Rattle.input.specs.Input.{Input, read_front}
 use Rattle.text.specs.Output.{Outputs}
 use Rattle.text.specs.Text.{refused_line}
 use Rattle.text.specs.Verdict.{verdict_line}
-use Rattle.text.proofs.Lines.{verdict-refused, refused-bound, pair-bound}
+use Rattle.text.proofs.Lines.{verdict-refused}
 use Rattle.text.proofs.Output.{outputs-wrote}
 use Rattle.typing.specs.declared.JudgeAnswer.{JudgeAnswer}
 use Rattle.typing.specs.Answer.{judge_said}
 use Rattle.typing.specs.Judge.{JudgeSays}
 use Rattle.judge_line.specs.JudgeInput.{max_judged, JudgeInput, read_grid, read_judge_input}
 use Rattle.judge_line.specs.JudgeLine.{InputJudged, Judges}
-use Rattle.judge_line.specs.Steps.{line_room, LineWritten}
-
--- Where the line of a refusal ends.
-pub refused_end : (number place : ℕ) → 0 + length (refused_line number place) ≤ line_room
-refused_end number place = omega (arith, refused-bound number place)
-
-pub pair_end : (number card shape : ℕ) → 0 + length (verdict_line (refusal number (card ∷ shape ∷ []))) ≤ line_room
-pair_end number card shape = omega (arith, pair-bound number card shape)
+use Rattle.judge_line.specs.Steps.{LineWritten}
 
 -- A line, by what the judge answers.
 pub verdict-wrote : {before after : List ℕ} {next : ℕ} {said answer : JudgeAnswer} → said ≡ answer
     → Wrote before 0 (verdict_line (judge_said answer)) after next
     → Wrote before 0 (verdict_line (judge_said said)) after next
 verdict-wrote e w = rw e w
-
--- Words in place of equal ones.
-pub same-words : {template script bookings words list pairs : List ℕ} (desk : ℕ) (grid : List ℕ) (said : Said)
-    → words ≡ template → list ≡ script → pairs ≡ bookings
-    → JudgeSays words list pairs desk grid said → JudgeSays template script bookings desk grid said
-same-words desk grid said e f g x = rw (sym e, sym f, sym g) x
 
 module _ {reading : Reading JudgeInput} {before after : List ℕ} {next : ℕ} where
   pub line_refused : {number place : ℕ} → reading ≡ turned_down number place

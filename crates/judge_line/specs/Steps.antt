@@ -8,7 +8,7 @@ use Rattle.words.specs.Said.{Said}
 use Rattle.words.specs.Reading.{Reading}
 use Rattle.words.specs.Wrote.{Wrote}
 use Rattle.input.specs.Machine.{FrontLaid}
-use Rattle.input.specs.declared.Section.{Section}
+use Rattle.input.specs.declared.Sections.{Sections}
 use Rattle.text.specs.Verdict.{verdict_line}
 use Rattle.judge_line.specs.JudgeInput.{max_judged, JudgeInput}
 use Rattle.judge_line.specs.JudgeLine.{InputJudged}
@@ -18,8 +18,8 @@ abbrev pub line_room : ℕ
 line_room = 71
 
 -- The sections at the front of an input, and room for a line.
-pub record FrontLent (input : List ℕ) (first second third : Section) (out : List ℕ) : Type 0 where
-  pub laid : FrontLaid max_judged input first second third
+pub record FrontLent (input : List ℕ) (sections : Sections) (out : List ℕ) : Type 0 where
+  pub laid : FrontLaid max_judged input sections
   pub room : line_room ≤ length out
 
 -- The line of what is said of a reading was written to the front of a buffer.

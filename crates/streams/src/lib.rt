@@ -14,6 +14,7 @@ pub fn read_full<R: Read>(reader: &mut R, buffer: &mut [u8]) -> usize
     ensures taken { Consumes (R.remaining reader.old) (R.remaining reader.new) (take result buffer.new) }
 {
     let mut done = 0;
+    // a cursor: each step's width depends on what the read gave
     while done < buffer.len() {
         match reader.read(&mut buffer[done..]) {
             Ok(count) if 0 < count => done += count,

@@ -24,7 +24,7 @@ impl Writer<'_> {
     }
 
     // Adds bytes.
-    fn bytes(&mut self, text: &[u8])
+    pub fn bytes(&mut self, text: &[u8])
         requires { Fits self.old text.now }
         ensures { Adds self.old text.now self.new }
     {

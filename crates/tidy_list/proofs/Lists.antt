@@ -1,8 +1,7 @@
 -- From what the call says and writes to the text.
 --   Told, told                  what an answer tells, with a buffer of the size that the call wants
 --   refused-wrote, list_wrote   the text, by what was said
---   same-words                  equal words have the same text
---   input-wrote, faulty-wrote   the text for all of the input
+--   faulty-wrote                the text for an input at fault
 -- Assumes nothing.
 use Prim.Native.Nat.{ℕ, ◌≤◌}
 use mathlib.Core.Path.{◌≡◌, refl, sym, ap, ◌∙◌, subst}
@@ -110,18 +109,7 @@ module _ {before after : List ℕ} {next : ℕ} where
     unfolding list_text
     list_wrote e f w = wrote-same (ap write_words f ∙ sym (ap list_text e)) w
 
-  -- words in place of equal ones
-  pub same-words : {template script bookings words list pairs : List ℕ} → words ≡ template → list ≡ script
-      → pairs ≡ bookings → Wrote before 0 (list_text (tidied_words words list pairs)) after next
-      → Wrote before 0 (list_text (tidied_words template script bookings)) after next
-  same-words e f g w = rw (sym e, sym f, sym g) w
-
-  -- the text for all of the input
-  pub input-wrote : (input : List ℕ) {i : Input} → read_input input ≡ accepted i
-      → Wrote before 0 (list_text (read-on i)) after next → Writes (tidy_text input) before after (values (next ∷ []))
-  input-wrote input e w =
-      wrote-writes (wrote-same (sym (ap (λ (r : Reading Input). list_text (then r read-on)) e)) w)
-
+  -- the text for an input at fault
   pub faulty-wrote : (input : List ℕ) → read_input input ≡ turned_down 60 0 → Wrote before 0 (refused_line 60 0)
       after next
       → Writes (tidy_text input) before after (values (next ∷ []))

@@ -3,12 +3,11 @@
 -- BufferFor        words of the buffer that the call wants for a list
 -- Tidying          such a buffer, and room for the text
 -- SectionsLent     where the sections of an input are, and room for the text
--- PartsLent        each section is a part of all words, and there is room for the text
 -- Assumes nothing.
 use Rattle.std.specs.Prelude.{ℕ, ◌+◌, ◌*◌, ◌≤◌, ◌≡◌, List, length, get_or}
 use Rattle.words.specs.Limits.{max_bookings}
-use Rattle.input.specs.Machine.{Laid, Parts}
-use Rattle.input.specs.declared.Section.{Section}
+use Rattle.input.specs.Machine.{Laid}
+use Rattle.input.specs.declared.Sections.{Sections}
 
 -- A word for the count, and three for each booking.
 abbrev pub list_words : ℕ
@@ -29,11 +28,6 @@ pub record Tidying (bookings list out : List ℕ) : Type 0 where
   pub room : list_room ≤ length out
 
 -- The sections of an input, and room for the text.
-pub record SectionsLent (input : List ℕ) (first second third : Section) (out : List ℕ) : Type 0 where
-  pub laid : Laid input first second third
-  pub room : list_room ≤ length out
-
--- Each section is a part of the words, and there is room for the text.
-pub record PartsLent (words : List ℕ) (first second third : Section) (out : List ℕ) : Type 0 where
-  pub parts : Parts words first second third
+pub record SectionsLent (input : List ℕ) (sections : Sections) (out : List ℕ) : Type 0 where
+  pub laid : Laid input sections
   pub room : list_room ≤ length out

@@ -47,18 +47,16 @@ returns-clause-reads c =
 pub returns-clause-inside : goal.returns-clause-inside
 unfolding input_end
 returns-clause-inside c =
-    let template = c.in_ok-template in
-    let second = c.in_ok-script in
-    let third = c.in_ok-bookings in
-    let script = script-at template.ensures c.end.ensures refl in
-    let bookings = bookings-at second.ensures c.end-2.ensures script in record {
+    let template = c.in_ok-template.ensures in
+    let second = c.in_ok-script.ensures in
+    let third = c.in_ok-bookings.ensures in
+    let script = script-at template c.end.ensures refl in
+    let bookings = bookings-at second c.end-2.ensures script in record {
       few = omega arith;
-      template = record { ends = template.ensures.ends; even = omega (arith, template.ensures.starts) };
-      script = record { ends = second.ensures.ends; even = omega (arith, template.ensures.starts, second.ensures.starts) };
-      bookings =
-          record {
-            ends = third.ensures.ends;
-            even = omega (arith, template.ensures.starts, second.ensures.starts, third.ensures.starts);
-          };
-      end = found-end third.bookings third.ensures bookings;
+      within = record {
+        template = record { ends = template.ends; even = omega (arith, template.starts) };
+        script = record { ends = second.ends; even = omega (arith, template.starts, second.starts) };
+        bookings = record { ends = third.ends; even = omega (arith, template.starts, second.starts, third.starts) };
+      };
+      end = found-end c.in_ok-bookings.bookings third bookings;
     }

@@ -1,29 +1,37 @@
 -- `judge_line::put_verdict` writes the line of each answer. Assumes nothing.
+use mathlib.Core.Path.{◌∙◌, ap, ap₂}
+use mathlib.Core.List.{[], ◌∷◌}
+use Prim.Native.Nat.{ℕ}
 use native.Mathlib.Omega.{arith}
-use native.Mathlib.Nat.{le_trans}
-use Rattle.text.proofs.Lines.{accepted-bound, verdict-refused}
+use Rattle.words.specs.Said.{refusal}
 use Rattle.words.proofs.Writing.{wrote-same}
-use Rattle.judge_line.proofs.Lines.{refused_end, pair_end, verdict-wrote}
+use Rattle.text.specs.Steps.{refused, accepted}
+use Rattle.text.specs.Text.{refused_line}
+use Rattle.text.specs.Verdict.{verdict_line}
+use Rattle.text.proofs.Lines.{line-bound, accepted-line, pair-line, verdict-refused, refused-bound}
+use Rattle.judge_line.proofs.Lines.{verdict-wrote}
 use Rattle.judge_line.proofs.put_verdict.Goals as goal
 
-pub put_accepted-requires : goal.put_accepted-requires
-put_accepted-requires c = omega (arith, accepted-bound)
+pub put_line-requires : goal.put_line-requires
+put_line-requires c = omega (arith, line-bound accepted [])
 
-pub put_refused_pair-requires : goal.put_refused_pair-requires
-put_refused_pair-requires c = le_trans (pair_end _ _ _) (omega arith)
+pub put_line-requires-in-NotMet : goal.put_line-requires-in-NotMet
+put_line-requires-in-NotMet c =
+    omega (arith, line-bound refused (62 ∷ c.from.result ∷ c.from-in-NotMet.result ∷ []))
 
 pub put_refused-requires : goal.put_refused-requires
-put_refused-requires c = le_trans (refused_end _ _) (omega arith)
+put_refused-requires c = omega (arith, refused-bound c.from-in-Refused.result c.in-Refused.place)
 
 pub returns-in-Accepted : goal.returns-in-Accepted
-returns-in-Accepted c =
-    verdict-wrote c.in-Accepted.is c.put_accepted.ensures
+returns-in-Accepted c = verdict-wrote c.in-Accepted.is (wrote-same accepted-line c.put_line.ensures)
 
 pub returns-in-NotMet : goal.returns-in-NotMet
 returns-in-NotMet c =
-    verdict-wrote c.in-NotMet.is c.put_refused_pair.ensures
+    verdict-wrote c.in-NotMet.is (wrote-same (pair-line 62 c.from.result c.from-in-NotMet.result
+    ∙ ap₂ (λ (n t : ℕ). verdict_line (refusal 62 (n ∷ t ∷ []))) c.from.ensures c.from-in-NotMet.ensures)
+    c.put_line-in-NotMet.ensures)
 
 pub returns-in-Refused : goal.returns-in-Refused
 returns-in-Refused c =
-    let told = verdict-refused c.in-Refused.number c.in-Refused.place in
-    verdict-wrote c.in-Refused.is (wrote-same told c.put_refused.ensures)
+    verdict-wrote c.in-Refused.is (wrote-same (ap (λ (n : ℕ). refused_line n c.in-Refused.place)
+    c.from-in-Refused.ensures ∙ verdict-refused c.in-Refused.number c.in-Refused.place) c.put_refused.ensures)

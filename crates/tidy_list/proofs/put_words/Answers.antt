@@ -1,45 +1,29 @@
--- `tidy_list::put_words` writes the bytes of words. The invariant: those of the words below `i` are written. Assumes
--- nothing.
-use mathlib.Core.Path.{◌≡◌, refl, ap, ◌∙◌}
+-- `tidy_list::put_words` writes the bytes of words. The invariant: those of the words below the index are written.
+-- Assumes nothing.
+use mathlib.Core.Path.{ap, ◌∙◌}
+use mathlib.Core.List.{List, ◌++◌}
 use Prim.Native.Nat.{ℕ}
 use native.Mathlib.Omega.{arith}
-use lib.ListN.{length, take}
-use lib.Seq.{length-take-le, take-length}
+use borrow.Author.Rules.{rules}
+use lib.ListN.{take, get_or}
+use lib.Seq.{length-take-le}
 use Rattle.words.specs.Bytes.{write_words}
-use Rattle.words.proofs.Writing.{wrote_nothing, wrote-append, wrote-same}
 use Rattle.input.proofs.RoundTrip.{words_size}
-use Rattle.tidy_list.proofs.Words.{write-next}
+use Rattle.text.proofs.Adding.{adds-append, adds-same}
+use Rattle.tidy_list.proofs.Words.{write-next, word-bytes}
 use Rattle.tidy_list.proofs.put_words.Goals as goal
 
-pub loop-i-init : goal.loop-i-init
-loop-i-init c =
-    let args = c.args in
-    (omega arith, refl, wrote_nothing args.out.now 0 (omega arith))
-
-pub put_word-next-requires : goal.put_word-next-requires
-put_word-next-requires c =
+pub bytes-requires : goal.bytes-requires
+bytes-requires c =
     let words = c.args.words.now in
-    let i = c.loop-i.i in
-    omega (
-      arith,
-      words_size words,
-      words_size (take i words),
-      length-take-le i words (omega arith),
-      c.loop-i.invariant.2.moved,
-    )
+    let i = c.loop-word.word-index in
+    omega (arith, words_size words, words_size (take i words), length-take-le i words (omega arith))
 
-pub loop-i-preserved : goal.loop-i-preserved
-loop-i-preserved c =
-    let words = c.args.words.now in (
-      omega arith,
-      omega arith,
-      wrote-same (write-next words c.loop-i.i (omega arith))
-          (wrote-append c.loop-i.invariant.2 c.put_word-next.ensures),
-    )
-
-pub returns : goal.returns
-returns c =
+pub loop-word-preserved : goal.loop-word-preserved
+loop-word-preserved c =
     let words = c.args.words.now in
-    let all_words : c.loop-i.i ≡ length words = omega arith in
-    wrote-same (ap (λ (n : ℕ). write_words (take n words)) all_words ∙ ap write_words (take-length words))
-    c.loop-i.invariant.2
+    let i = c.loop-word.word-index in
+    let bytes = word-bytes (get_or words i 0) (search rules) in
+    adds-same (adds-append c.loop-word.invariant c.bytes.ensures)
+    (ap (λ (l : List ℕ). write_words (take i words) ++ l) (c.to_le_bytes.ensures ∙ bytes)
+    ∙ write-next words i (omega arith))
