@@ -1,21 +1,30 @@
 -- The queue of the places that are not on.
---   listed-skip, listed-add  of a place more, that is on or is queued
+--   listed-none, listed-skip, listed-add  of no places; of a place more, that is on or is queued
 -- Assumes nothing.
-use mathlib.Core.Path.{◌≡◌, sym, ◌∙◌, subst}
+use mathlib.Core.Path.{◌≡◌, refl, sym, ◌∙◌, subst}
 use mathlib.Core.Logic.{⊎_elim}
 use mathlib.Core.List.{List}
 use mathlib.Core.Bool.{true, false, not}
 use Prim.Native.Nat.{ℕ, suc, ◌+◌, ◌<◌}
+use native.Mathlib.Nat.{not-suc-le-zero}
 use native.Mathlib.Numerals.{add-one}
 use native.Mathlib.Omega.{arith}
 use lib.ListN.{length, set}
 use lib.Seq.{get_or-set_same, get_or-set_other}
-use Rattle.board.specs.Grid.{on}
+use Rattle.board.specs.Grid.{on, tally}
 use Rattle.board.specs.Work.{entry, Queued}
 use Rattle.board.specs.Listing.{Listed}
 use Rattle.words.proofs.Bools.{never_both, not_of_false, not-of-true, last-or-below}
 use Rattle.board.proofs.Tally.{tally-hit, tally-miss}
 use Rattle.board.proofs.Queues.{each-entry, queued-more, queued-last}
+
+pub listed-none : (g q : List ℕ) → Listed g q 0 0
+unfolding tally
+listed-none g q = record {
+  count = refl;
+  queued = λ i l. absurd (not-suc-le-zero l);
+  listed = λ p l. absurd (not-suc-le-zero l);
+}
 
 module _ (g q : List ℕ) {t n : ℕ} (s : Listed g q t n) where
   pub listed-skip : on g n ≡ true → Listed g q t (n + 1)
