@@ -2,9 +2,10 @@
 --   all           whether every place below a size passes a test
 --   Marks         every byte of a grid is 0 or 1
 --   Flipped       a grid has just the places that another one has not
---   FirstMissing  the lowest place that one grid has and another has not
+--   FirstMissing  the lowest place that one grid has and another has not, or the end of the grid
+--   MissingFound  the place, if there is one
 -- Assumes nothing.
-use Rattle.std.specs.Prelude.{◌≡◌, ◌⊎◌, List, Bool, true, false, not, ℕ, ◌≤◌, ◌<◌, eqb, length, get_or}
+use Rattle.std.specs.Prelude.{◌≡◌, ◌⊎◌, List, Bool, true, false, not, ℕ, ◌≤◌, ◌<◌, eqb, length, get_or, Option, MatchOption}
 use Rattle.board.specs.Grid.{on, tally}
 
 -- Whether every place below a size passes a test: none fails.
@@ -32,3 +33,9 @@ pub record FirstMissing (wanted had : List ℕ) (place : ℕ) : Type 0 where
   pub before : (p : ℕ) → p < place → on wanted p ≡ true → on had p ≡ true
   -- a place below the length is wanted and not had
   pub missing : place < length wanted → (on wanted place ≡ true) × (on had place ≡ false)
+
+-- The lowest place that `wanted` has and `had` has not, if there is one.
+abbrev pub MissingFound : List ℕ → List ℕ → Option ℕ → Type 0
+MissingFound wanted had found =
+    MatchOption found (FirstMissing wanted had (length wanted))
+    (λ place. (place < length wanted) × FirstMissing wanted had place)

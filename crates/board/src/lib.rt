@@ -2,9 +2,9 @@
 #![tactic(auto)]
 
 ghost use Rattle.std.specs.Prelude.{◌≡◌, eqb, length, get_or, replicate, ◌<◌};
-ghost use Rattle.words.specs.First.{First};
+ghost use Rattle.words.specs.First.{FirstFound};
 ghost use Rattle.board.specs.Grid.{on, tally};
-ghost use Rattle.board.specs.Machine.{Flipped, FirstMissing};
+ghost use Rattle.board.specs.Machine.{Flipped, MissingFound};
 ghost use Rattle.board.specs.Work.{work, strike_one, Lent, Strikable};
 ghost use Rattle.board.specs.Listing.{Listed};
 
@@ -28,13 +28,11 @@ pub fn list_off(grid: &[u8], queue: &mut [u16]) -> usize
     ensures { Listed grid.now queue.new result (length grid.now) }
 {
     let mut listed = 0;
-    let mut place = 0;
-    while place < grid.len() {
-        if grid[place] != 1 {
+    for (place, byte) in grid.iter().enumerate() {
+        if *byte != 1 {
             queue[listed] = place as u16;
             listed += 1;
         }
-        place += 1;
     }
     listed
 }
@@ -43,67 +41,40 @@ pub fn list_off(grid: &[u8], queue: &mut [u16]) -> usize
 pub fn fill(grid: &mut [u8], value: u8)
     ensures { grid.new ≡ replicate (length grid.old) value }
 {
-    let mut place = 0;
-    while place < grid.len() {
-        grid[place] = value;
-        place += 1;
-    }
+    grid.fill(value);
 }
 
 // Whether none of the places is on.
 pub fn all_off(grid: &[u8]) -> bool
     ensures { result ≡ eqb (tally (on grid.now) (length grid.now)) 0 }
 {
-    let mut place = 0;
-    while place < grid.len() {
-        if grid[place] == 1 {
-            return false;
-        }
-        place += 1;
-    }
-    true
+    !grid.contains(&1)
 }
 
 // Turns every place round: 0 where it was on, else 1.
 pub fn flip(grid: &mut [u8])
     ensures { Flipped grid.old grid.new }
 {
-    let mut place = 0;
-    while place < grid.len() {
-        if grid[place] == 1 {
-            grid[place] = 0;
-        } else {
-            grid[place] = 1;
-        }
-        place += 1;
+    for byte in grid.iter_mut() {
+        *byte = u8::from(*byte != 1);
     }
 }
 
-// Finds the lowest place that is on in `wanted` and not in `had`: the length where there is none.
-pub fn first_missing(wanted: &[u8], had: &[u8]) -> usize
+#[tactic(auto, unfolding(crate::specs::Grid::on))]
+// Finds the lowest place that is on in `wanted` and not in `had`, if there is one.
+pub fn first_missing(wanted: &[u8], had: &[u8]) -> Option<usize>
     requires { length had.now ≡ length wanted.now }
-    ensures { FirstMissing wanted.now had.now result }
+    ensures { MissingFound wanted.now had.now result }
 {
-    let mut place = 0;
-    while place < wanted.len() {
-        if wanted[place] == 1 && had[place] != 1 {
-            return place;
-        }
-        place += 1;
-    }
-    place
+    wanted
+        .iter()
+        .zip(had)
+        .position(|(wants, has)| *wants == 1 && *has != 1)
 }
 
-// Finds the first byte that is over 1: the length where there is none.
-pub fn first_over(grid: &[u8]) -> usize
-    ensures { First (λ p. 1 < get_or grid.now p 0) (length grid.now) result }
+// Finds the first byte that is over 1, if there is one.
+pub fn first_over(grid: &[u8]) -> Option<usize>
+    ensures { FirstFound (λ p. 1 < get_or grid.now p 0) (length grid.now) result }
 {
-    let mut place = 0;
-    while place < grid.len() {
-        if 1 < grid[place] {
-            return place;
-        }
-        place += 1;
-    }
-    place
+    grid.iter().position(|byte| 1 < *byte)
 }

@@ -1,5 +1,7 @@
 -- A grid tested against itself and against bookings; no part of a promise.
+-- LinkGood     what a link makes good by a row; LinkTested: what testing that asks
 -- LeavingTested, ArrivingTested   what testing what the links from a card, and those to it, ask for asks
+-- met          a pair of a grid is met under it
 -- GridAsked    what testing the pairs of a grid asks; MetAsked: and one pair
 -- Failing      a pair of a grid is not met under it
 -- PairAsked    what looking for one booking asks; HeldAsked: for all
@@ -7,25 +9,42 @@
 -- Assumes nothing.
 use Rattle.std.specs.Prelude.{ℕ, ◌+◌, ◌*◌, ◌≤◌, ◌<◌, ◌≡◌, List, Bool, true, false, length, get_or}
 use Rattle.words.specs.Limits.{max_shapes}
-use Rattle.bags.specs.Label.{outgoing, incoming}
+use Rattle.bags.specs.Label.{Way, outgoing, incoming}
+use Rattle.script.specs.Link.{far_at}
 use Rattle.links.specs.Index.{ArrivalsOf}
 use Rattle.board.specs.Grid.{on}
 use Rattle.bookings.specs.Bookings.{desk_at, card_at, shape_at}
 use Rattle.bookings.specs.Steps.{ListOf, WordsIn, BookingsIn}
 use Rattle.typing.specs.Needs.{met_test}
 use Rattle.walks.specs.Walks.{LinksReady}
-use Rattle.walks.specs.Entries.{RowAsked}
+use Rattle.walks.specs.Entries.{LedGood, RowAsked}
+use Rattle.judging.specs.declared.Judged.{Judged}
+
+-- What a link makes good by a row, for the card at its end that is seen one way.
+abbrev pub LinkGood : Way → Judged → List ℕ → ℕ → ℕ → Type 0
+LinkGood way j row = LedGood way j.script.now row j.shapes
+
+-- What testing link i by a row asks, where it makes good a pair of a card.
+pub record LinkTested (j : Judged) (row : List ℕ) (i card : ℕ) : Type 0 where
+  pub way : Way
+  pub row_in : RowAsked way j.script.now row j.shapes (length j.grid.now)
+  pub link-in : i < get_or j.script.now 1 0
+  pub leads : card ≡ far_at way j.script.now i
 
 -- What testing the links lo up to hi by a row asks.
-pub record LeavingTested (script row : List ℕ) (shapes lo hi : ℕ) (grid : List ℕ) : Type 0 where
-  pub row_in : RowAsked outgoing script row shapes (length grid)
+pub record LeavingTested (j : Judged) (row : List ℕ) (lo hi : ℕ) : Type 0 where
+  pub row_in : RowAsked outgoing j.script.now row j.shapes (length j.grid.now)
   pub rising : lo ≤ hi
-  pub links-in : hi ≤ get_or script 1 0
+  pub links-in : hi ≤ get_or j.script.now 1 0
 
 -- What testing the links to card m by a row asks.
-pub record ArrivingTested (script first next row : List ℕ) (shapes m : ℕ) (grid : List ℕ) : Type 0 where
-  pub row_in : RowAsked incoming script row shapes (length grid)
-  pub arrivals : ArrivalsOf script first next (m + 1) (get_or script 1 0)
+pub record ArrivingTested (j : Judged) (row : List ℕ) (m : ℕ) : Type 0 where
+  pub row_in : RowAsked incoming j.script.now row j.shapes (length j.grid.now)
+  pub arrivals : ArrivalsOf j.script.now j.first.now j.next.now (m + 1) (get_or j.script.now 1 0)
+
+-- Whether the pair at a place is met under the grid.
+abbrev pub met : Judged → ℕ → Bool
+met j p = met_test j.script.now j.names.now j.shapes j.fitting.now (on j.grid.now) p
 
 -- What testing the pairs of a grid asks: where each card's links stand, and a grid of the pairs that fit.
 pub record GridAsked (script starts first next names : List ℕ) (shapes : ℕ) (incoming : Bool) (fitting grid : List ℕ)
@@ -35,10 +54,10 @@ pub record GridAsked (script starts first next names : List ℕ) (shapes : ℕ) 
   pub tested : length fitting ≡ length grid
 
 -- And a pair of it.
-pub record MetAsked (script starts first next names : List ℕ) (shapes : ℕ) (incoming : Bool) (fitting grid : List ℕ)
-    (p : ℕ) : Type 0 where
-  pub lent : GridAsked script starts first next names shapes incoming fitting grid
-  pub on-board : p < length grid
+pub record MetAsked (j : Judged) (p : ℕ) : Type 0 where
+  pub lent : GridAsked j.script.now j.starts.now j.first.now j.next.now j.names.now j.shapes j.incoming j.fitting.now
+      j.grid.now
+  pub on-board : p < length j.grid.now
 
 -- The grid has the pair at place p, which is not met under it.
 abbrev pub Failing : List ℕ → List ℕ → ℕ → List ℕ → List ℕ → ℕ → Type 0

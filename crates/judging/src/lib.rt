@@ -2,115 +2,106 @@
 #![tactic(auto)]
 
 ghost use Rattle.std.specs.Prelude.{true, ◌↔◌, ◌≡◌, ℕ, ◌+◌, ◌*◌, ◌<◌, length};
-ghost use Rattle.words.specs.First.{First};
-ghost use Rattle.bags.specs.Label.{outgoing, incoming as arriving};
+ghost use Rattle.words.specs.First.{FirstFound};
+ghost use Rattle.bags.specs.Label.{Way, outgoing, incoming as arriving};
+ghost use Rattle.script.specs.Link.{far_at};
 ghost use Rattle.board.specs.Grid.{on};
 ghost use Rattle.bookings.specs.Bookings.{card_at, shape_at};
-ghost use Rattle.typing.specs.Needs.{met_test};
 ghost use Rattle.walks.specs.Walks.{Leaving, Arriving, HasAll};
-ghost use Rattle.walks.specs.Entries.{EntryGood, LedGood};
-ghost use Rattle.judging.specs.Judging.{LeavingTested, ArrivingTested, GridAsked, MetAsked, Failing};
-ghost use Rattle.judging.specs.Judging.{PairAsked, HeldAsked, Missing};
+ghost use Rattle.judging.specs.Judging.{LinkGood, LinkTested, LeavingTested, ArrivingTested, met, GridAsked, MetAsked};
+ghost use Rattle.judging.specs.Judging.{Failing, PairAsked, HeldAsked, Missing};
 
 use bookings::{card_at, desk_at, shape_at};
 use walks::pair_place;
 use words::{MAX_KINDS, MAX_LABELS, byte, wide};
 
-// Whether the grid has the pair of the card at `base` that an entry names, if it names one.
-fn entry_had(entry: u8, base: usize, grid: &[u8]) -> bool
-    requires { (p : ℕ) → EntryGood entry base p → p < length grid.now }
-    ensures { (result ≡ true) ↔ HasAll (on grid.now) (EntryGood entry base) }
-{
-    let number = byte(entry);
-    if number == 0 {
-        return true;
-    }
-    grid[base + (number - 1)] == 1
-}
-
-// Whether the grid has what the links lo up to hi lead to, by the entries that a row has for their kinds.
-fn leaving_had(script: &[u16], row: &[u8], shapes: usize, lo: usize, hi: usize, grid: &[u8]) -> bool
-    requires { LeavingTested script.now row.now shapes lo hi grid.now }
-    ensures { (result ≡ true) ↔ HasAll (on grid.now)
-        (Leaving (LedGood outgoing script.now row.now shapes) lo hi) }
-{
-    let mut i = lo;
-    while i < hi {
-        let kind = wide(script[3 + 3 * i]);
-        let to = wide(script[4 + 3 * i]);
-        if !entry_had(row[kind], to * shapes, grid) {
-            return false;
-        }
-        i += 1;
-    }
-    true
-}
-
-// Whether the grid has what the links to card m lead back to, by the entries that a row has for their kinds.
-fn arriving_had(
-    script: &[u16],
-    first: &[u16],
-    next: &[u16],
-    row: &[u8],
-    shapes: usize,
-    m: usize,
-    grid: &[u8],
-) -> bool
-    requires { ArrivingTested script.now first.now next.now row.now shapes m grid.now }
-    ensures { (result ≡ true) ↔ HasAll (on grid.now)
-        (Arriving script.now m (LedGood arriving script.now row.now shapes)) }
-{
-    let mut at = wide(first[m]);
-    while 0 < at {
-        let i = at - 1;
-        let from = wide(script[2 + 3 * i]);
-        let kind = wide(script[3 + 3 * i]);
-        if !entry_had(row[kind], from * shapes, grid) {
-            return false;
-        }
-        at = wide(next[i]);
-    }
-    true
-}
-
-// Whether the pair at a place is met under the grid: its counts fit, and the grid has what the links from its card ask
-// for and, where shapes name incoming kinds, what those to it ask for.
-fn pair_met(
-    script: &[u16],
-    starts: &[u16],
-    first: &[u16],
-    next: &[u16],
-    names: &[u8],
+// A grid and what it is judged by: the script's links by the card that they start at and by the one that they lead to,
+// the shapes that the template names, and which pairs' counts fit.
+#[derive(Clone, Copy)]
+struct Judged<'a> {
+    script: &'a [u16],
+    starts: &'a [u16],
+    first: &'a [u16],
+    next: &'a [u16],
+    names: &'a [u8],
     shapes: usize,
     incoming: bool,
-    fitting: &[u8],
-    grid: &[u8],
-    place: usize,
-) -> bool
-    requires { MetAsked script.now starts.now first.now next.now names.now shapes incoming
-        fitting.now grid.now place }
-    ensures { result ≡ met_test script.now names.now shapes fitting.now
-        (on grid.now) place }
-{
-    if fitting[place] != 1 {
-        return false;
-    }
-    let n = place / shapes;
-    let base = place % shapes * MAX_LABELS;
-    let half = base + MAX_KINDS;
-    let lo = wide(starts[n]);
-    let hi = wide(starts[n + 1]);
-    if !leaving_had(script, &names[base..half], shapes, lo, hi, grid) {
-        return false;
-    }
-    if incoming {
-        let row = &names[half..half + MAX_KINDS];
-        return arriving_had(script, first, next, row, shapes, n, grid);
-    }
-    true
+    fitting: &'a [u8],
+    grid: &'a [u8],
 }
 
-// Finds the lowest pair of the grid that is not met under it: the length where there is none.
+impl<'a> Judged<'a> {
+    // Whether the grid has what link i makes good for a card: its pair with the shape that a row names for the link's
+    // kind, if it names one.
+    fn link_had(&self, row: &[u8], i: usize, card: usize) -> bool
+        requires { LinkTested self.now row.now i card }
+        ensures { (way : Way) → card ≡ far_at way self.now.script.now i
+            → (result ≡ true) ↔ HasAll (on self.now.grid.now) (LinkGood way self.now row.now i) }
+    {
+        let kind = wide(self.script[3 + 3 * i]);
+        match row[kind].checked_sub(1) {
+            None => true,
+            Some(shape) => self.grid[card * self.shapes + byte(shape)] == 1,
+        }
+    }
+
+    // Whether the grid has what the links lo up to hi make good for the cards that they lead to.
+    fn leaving_had(&self, row: &[u8], lo: usize, hi: usize) -> bool
+        requires { LeavingTested self.now row.now lo hi }
+        ensures { (result ≡ true) ↔ HasAll (on self.now.grid.now) (Leaving (LinkGood outgoing self.now row.now) lo hi) }
+    {
+        for i in lo..hi {
+            if !self.link_had(row, i, wide(self.script[4 + 3 * i])) {
+                return false;
+            }
+        }
+        true
+    }
+
+    // Whether the grid has what the links to card m make good for the cards that they start at.
+    fn arriving_had(&self, row: &[u8], m: usize) -> bool
+        requires { ArrivingTested self.now row.now m }
+        ensures { (result ≡ true) ↔ HasAll (on self.now.grid.now)
+            (Arriving self.now.script.now m (LinkGood arriving self.now row.now)) }
+    {
+        let mut at = wide(self.first[m]);
+        // A chain: each turn reads where the next link stands.
+        while 0 < at {
+            let i = at - 1;
+            if !self.link_had(row, i, wide(self.script[2 + 3 * i])) {
+                return false;
+            }
+            at = wide(self.next[i]);
+        }
+        true
+    }
+
+    // Whether the pair at a place is met under the grid: its counts fit, and the grid has what the links from its card
+    // ask for and, where shapes name incoming kinds, what those to it ask for.
+    fn pair_met(&self, place: usize) -> bool
+        requires { MetAsked self.now place }
+        ensures { result ≡ met self.now place }
+    {
+        if self.fitting[place] != 1 {
+            return false;
+        }
+        let n = place / self.shapes;
+        let base = place % self.shapes * MAX_LABELS;
+        let half = base + MAX_KINDS;
+        let lo = wide(self.starts[n]);
+        let hi = wide(self.starts[n + 1]);
+        if !self.leaving_had(&self.names[base..half], lo, hi) {
+            return false;
+        }
+        if self.incoming {
+            let row = &self.names[half..half + MAX_KINDS];
+            return self.arriving_had(row, n);
+        }
+        true
+    }
+}
+
+// Finds the lowest pair of the grid that is not met under it.
 pub fn first_unmet(
     script: &[u16],
     starts: &[u16],
@@ -121,26 +112,27 @@ pub fn first_unmet(
     incoming: bool,
     fitting: &[u8],
     grid: &[u8],
-) -> usize
+) -> Option<usize>
     requires { GridAsked script.now starts.now first.now next.now names.now shapes incoming
         fitting.now grid.now }
-    ensures { First (Failing script.now names.now shapes fitting.now
+    ensures { FirstFound (Failing script.now names.now shapes fitting.now
         grid.now) (length grid.now) result }
 {
-    let mut place = 0;
-    while place < grid.len() {
-        if grid[place] == 1
-            && !pair_met(
-                script, starts, first, next, names, shapes, incoming, fitting, grid, place,
-            )
-        {
-            return place;
-        }
-        place += 1;
-    }
-    place
+    let judged = Judged {
+        script,
+        starts,
+        first,
+        next,
+        names,
+        shapes,
+        incoming,
+        fitting,
+        grid,
+    };
+    (0..grid.len()).find(|place| grid[*place] == 1 && !judged.pair_met(*place))
 }
 
+#[tactic(auto, unfolding(board::specs::Grid::on))]
 // Whether the grid has the pair of booking i.
 fn is_held(bookings: &[u16], i: usize, shapes: usize, grid: &[u8]) -> bool
     requires { PairAsked bookings.now i shapes grid.now }
@@ -152,19 +144,16 @@ fn is_held(bookings: &[u16], i: usize, shapes: usize, grid: &[u8]) -> bool
     grid[pair_place(card, shapes, shape)] == 1
 }
 
-// Finds the first of so many bookings that is the desk's and that the grid does not hold: their count where there is
-// none.
-pub fn first_unheld(bookings: &[u16], count: u16, desk: u16, shapes: usize, grid: &[u8]) -> usize
+// Finds the first of so many bookings that is the desk's and that the grid does not hold.
+pub fn first_unheld(
+    bookings: &[u16],
+    count: u16,
+    desk: u16,
+    shapes: usize,
+    grid: &[u8],
+) -> Option<usize>
     requires { HeldAsked bookings.now count shapes grid.now }
-    ensures { First (Missing bookings.now desk shapes grid.now) count result }
+    ensures { FirstFound (Missing bookings.now desk shapes grid.now) count result }
 {
-    let pairs = wide(count);
-    let mut i = 0;
-    while i < pairs {
-        if desk_at(bookings, i) == desk && !is_held(bookings, i, shapes, grid) {
-            return i;
-        }
-        i += 1;
-    }
-    i
+    (0..wide(count)).find(|i| desk_at(bookings, *i) == desk && !is_held(bookings, *i, shapes, grid))
 }

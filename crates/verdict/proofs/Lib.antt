@@ -1,3 +1,2 @@
--- Verdicts: what testing a grid finds is its verdict. WaysOut: what each way out of the call answers.
+-- Verdicts: what testing a grid finds is its verdict.
 pub mod Verdicts
-pub mod WaysOut

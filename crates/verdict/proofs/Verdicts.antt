@@ -1,12 +1,11 @@
 -- What testing a grid finds is its verdict.
---   over-found, marks-by         a byte that is over 1; where there is none the grid is one of zeros and ones
+--   over-found                   a byte that is over 1
 --   unmet-found, sound-by        a pair that is not met; where there is none the grid is sound
 --   unheld-found, passes-found   a booking that is not held; where there is none the grid passes
 --   unmet-tested, unheld-tested, passes-tested   the same of a sheet whose pairs are tested
 -- Assumes nothing.
-use Prim.Native.Nat.{ℕ, zero, suc, ◌*◌, ◌/◌, ◌%◌, ◌≤◌, ◌<◌}
+use Prim.Native.Nat.{ℕ, ◌*◌, ◌/◌, ◌%◌, ◌<◌}
 use mathlib.Core.Path.{◌≡◌, refl, sym, subst, subst₂}
-use mathlib.Core.Logic.{◌⊎◌, inl, inr}
 use mathlib.Core.Bool.{Bool, true}
 use mathlib.Core.List.{List, [], ◌∷◌}
 use native.Mathlib.Omega.{arith}
@@ -28,43 +27,38 @@ use Rattle.judging.specs.Judging.{Failing, Missing}
 use Rattle.pairs.specs.Pairs.{SheetTested}
 use Rattle.pairs.proofs.Tested.{cards-same, shapes-same, stands}
 
--- A byte that is not over 1 is 0 or 1.
-zero-or-one : (x : ℕ) → (1 < x → ⊥) → (x ≡ 0) ⊎ (x ≡ 1)
-zero-or-one zero low = inl refl
-zero-or-one (suc zero) low = inr refl
-zero-or-one (suc (suc x)) low = absurd (low (omega arith))
-
-module _ (grid : List ℕ) {p : ℕ} (found : First (λ q. 1 < get_or grid q 0) (length grid) p) where
-  pub over-found : {s : Sheet} {bookings : List ℕ} {desk : ℕ} → length grid ≡ size s → p < length grid
-      → JudgeFound s bookings desk grid (refusal 61 (p ∷ []))
-  over-found full l = record {
-    verdict = over p;
-    says = refl;
-    right = record {
-      inside = omega (arith, full);
-      over-one = found.here l;
-      first = λ q lq. omega (arith, found.before q lq);
-    };
-  }
-
-  pub marks-by : length grid ≤ p → Marks grid
-  marks-by all q l = zero-or-one (get_or grid q 0) (found.before q (omega arith))
+pub over-found : (grid : List ℕ) {p : ℕ} → (p < length grid) × First (λ q. 1 < get_or grid q 0) (length grid) p
+    → {s : Sheet} {bookings : List ℕ} {desk : ℕ} → length grid ≡ size s
+    → JudgeFound s bookings desk grid (refusal 61 (p ∷ []))
+over-found grid {p} (l, found) full = record {
+  verdict = over p;
+  says = refl;
+  right = record {
+    inside = omega (arith, full);
+    over-one = found.here l;
+    first = λ q lq. omega (arith, found.before q lq);
+  };
+}
 
 module _ {s : Sheet} {script names : List ℕ} (fitting : List ℕ) {grid : List ℕ}
-    (rep : Represents s (board_of script names s.shapes fitting)) (typed : Typing s grid) {p : ℕ}
-    (found : First (Failing script names s.shapes fitting grid) (length grid) p) where
+    (rep : Represents s (board_of script names s.shapes fitting)) (typed : Typing s grid) where
   -- the test of the board
   abbrev test : ℕ → Bool
   test q = met_test script names s.shapes fitting (on grid) q
 
-  -- a pair that the grid has below the one that is found is met
-  met-before : (n t : ℕ) → n < s.cards → t < s.shapes → place s n t < p → Has s (on grid) n t → Met s (on grid) n t
-  met-before n t ln lt l has =
+  -- p is the lowest that is found
+  abbrev FirstUnmet : ℕ → Type 0
+  FirstUnmet p = First (Failing script names s.shapes fitting grid) (length grid) p
+
+  -- a pair that the grid has below it is met
+  met-before : {p : ℕ} → FirstUnmet p → (n t : ℕ) → n < s.cards → t < s.shapes → place s n t < p
+      → Has s (on grid) n t → Met s (on grid) n t
+  met-before found n t ln lt l has =
       (rep.met-exact (on grid) n t ln lt).0 (is_true (λ f. found.before (place s n t) l (has, f)))
 
-  unmet-found : {bookings : List ℕ} {desk : ℕ} → p < length grid
+  unmet-found : {p : ℕ} → p < length grid → FirstUnmet p → {bookings : List ℕ} {desk : ℕ}
       → JudgeFound s bookings desk grid (refusal 62 (p / s.shapes ∷ p % s.shapes ∷ []))
-  unmet-found l = record {
+  unmet-found {p} l found = record {
     verdict = unmet (p / s.shapes) (p % s.shapes);
     says = refl;
     right = record {
@@ -74,7 +68,7 @@ module _ {s : Sheet} {script names : List ℕ} (fitting : List ℕ) {grid : List
       has = subst (λ (q : ℕ). on grid q ≡ true) (sym here) (found.here l).0;
       not-met = λ m. never_both
           (subst (λ (q : ℕ). test q ≡ true) here ((rep.met-exact (on grid) _ _ card shape).1 m)) (found.here l).1;
-      lowest = λ m u lm lu low. met-before m u lm lu (omega (arith, low, here));
+      lowest = λ m u lm lu low. met-before found m u lm lu (omega (arith, low, here));
     };
   }
     where
@@ -87,16 +81,17 @@ module _ {s : Sheet} {script names : List ℕ} (fitting : List ℕ) {grid : List
       shape : p % s.shapes < s.shapes
       shape = shape-in s.shapes rep.one-shape p
 
-  sound-by : length grid ≤ p → SoundTyping s grid
-  sound-by all = record {
+  sound-by : FirstUnmet (length grid) → SoundTyping s grid
+  sound-by none = record {
     typing = typed;
-    sound = λ n t ln lt. met-before n t ln lt (omega (arith, pair-in rep n t ln lt, typed.full));
+    sound = λ n t ln lt. met-before none n t ln lt (omega (arith, pair-in rep n t ln lt, typed.full));
   }
 
-module _ {s : Sheet} {bookings : List ℕ} {desk : ℕ} {grid : List ℕ} (sound : SoundTyping s grid) {count i : ℕ}
-    (counted : count ≡ get_or bookings 0 0) (found : First (Missing bookings desk s.shapes grid) count i) where
-  unheld-found : i < count → JudgeFound s bookings desk grid (refusal 63 (card_index i ∷ []))
-  unheld-found l = record {
+module _ {s : Sheet} {bookings : List ℕ} {desk : ℕ} {grid : List ℕ} (sound : SoundTyping s grid) {count : ℕ}
+    (counted : count ≡ get_or bookings 0 0) where
+  unheld-found : {i : ℕ} → i < count → First (Missing bookings desk s.shapes grid) count i
+      → JudgeFound s bookings desk grid (refusal 63 (card_index i ∷ []))
+  unheld-found {i} l found = record {
     verdict = unheld i;
     says = refl;
     right = record {
@@ -108,47 +103,45 @@ module _ {s : Sheet} {bookings : List ℕ} {desk : ℕ} {grid : List ℕ} (sound
     };
   }
 
-  passes-found : count ≤ i → JudgeFound s bookings desk grid (values [])
-  passes-found all = record {
+  passes-found : First (Missing bookings desk s.shapes grid) count count → JudgeFound s bookings desk grid (values [])
+  passes-found none = record {
     verdict = passes;
     says = refl;
     right = record {
       sound = sound;
       holds = λ n t b.
           subst₂ (Has s (on grid)) b.card b.shape
-          (is_true (λ off. found.before b.booking (omega (arith, b.listed, counted)) (b.ours, off)));
+          (is_true (λ off. none.before b.booking (omega (arith, b.listed, counted)) (b.ours, off)));
     };
   }
 
 -- ---- of a sheet whose pairs are tested
 module _ {s : Sheet} {script names : List ℕ} {e : Extent} {fitting : List ℕ} (t : SheetTested s script names e fitting)
     (bookings : List ℕ) (desk : ℕ) (grid : List ℕ) (marks : Marks grid) (full : length grid ≡ e.cards * e.shapes)
-    {p : ℕ}
-    (found : First (Failing script names e.shapes fitting grid) (length grid) p) where
-  board : Represents s (board_of script names s.shapes fitting)
-  board = subst (λ (n : ℕ). Represents s (board_of script names n fitting)) (sym (shapes-same t)) (stands t)
+  where
+    board : Represents s (board_of script names s.shapes fitting)
+    board = subst (λ (n : ℕ). Represents s (board_of script names n fitting)) (sym (shapes-same t)) (stands t)
 
-  typed : Typing s grid
-  typed =
-      let whole : length grid ≡ size s = rw (cards-same t, shapes-same t) full in
-      record { full = whole; bytes = λ q l. marks q (omega (arith, whole)) }
+    typed : Typing s grid
+    typed =
+        let whole : length grid ≡ size s = rw (cards-same t, shapes-same t) full in
+        record { full = whole; bytes = λ q l. marks q (omega (arith, whole)) }
 
-  found_here : First (Failing script names s.shapes fitting grid) (length grid) p
-  found_here = rw (shapes-same t) found
+    pub unmet-tested : {p : ℕ} → (p < length grid) × First (Failing script names e.shapes fitting grid) (length grid) p
+        → JudgeFound s bookings desk grid (refusal 62 (p / e.shapes ∷ p % e.shapes ∷ []))
+    unmet-tested {p} (l, found) =
+        subst (λ (n : ℕ). JudgeFound s bookings desk grid (refusal 62 (p / n ∷ p % n ∷ []))) (shapes-same t)
+        (unmet-found fitting board typed l (rw (shapes-same t) found))
 
-  pub unmet-tested : p < length grid
-      → JudgeFound s bookings desk grid (refusal 62 (p / e.shapes ∷ p % e.shapes ∷ []))
-  unmet-tested l =
-      subst (λ (n : ℕ). JudgeFound s bookings desk grid (refusal 62 (p / n ∷ p % n ∷ []))) (shapes-same t)
-      (unmet-found fitting board typed found_here l)
+    module _ (none : First (Failing script names e.shapes fitting grid) (length grid) (length grid)) {count : ℕ}
+        (counted : count ≡ get_or bookings 0 0) where
+      sound : SoundTyping s grid
+      sound = sound-by fitting board typed (rw (shapes-same t) none)
 
-  module _ (all : length grid ≤ p) {count i : ℕ} (counted : count ≡ get_or bookings 0 0)
-      (missing : First (Missing bookings desk e.shapes grid) count i) where
-    missing-here : First (Missing bookings desk s.shapes grid) count i
-    missing-here = rw (shapes-same t) missing
+      pub unheld-tested : {i : ℕ} → (i < count) × First (Missing bookings desk e.shapes grid) count i
+          → JudgeFound s bookings desk grid (refusal 63 (card_index i ∷ []))
+      unheld-tested (l, found) = unheld-found sound counted l (rw (shapes-same t) found)
 
-    pub unheld-tested : i < count → JudgeFound s bookings desk grid (refusal 63 (card_index i ∷ []))
-    unheld-tested = unheld-found (sound-by fitting board typed found_here all) counted missing-here
-
-    pub passes-tested : count ≤ i → JudgeFound s bookings desk grid (values [])
-    passes-tested = passes-found (sound-by fitting board typed found_here all) counted missing-here
+      pub passes-tested : First (Missing bookings desk e.shapes grid) count count
+          → JudgeFound s bookings desk grid (values [])
+      passes-tested missing = passes-found sound counted (rw (shapes-same t) missing)

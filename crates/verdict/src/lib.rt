@@ -41,19 +41,18 @@ fn judge_tested(
         → JudgeFound s bookings.now desk grid.now (judge_said result) }
 {
     let shapes = e.shapes as usize;
-    let p = first_unmet(
+    let unmet = first_unmet(
         script, starts, first, next, names, shapes, e.incoming, fitting, grid,
     );
-    if p < grid.len() {
-        let card = (p / shapes) as u16;
-        let shape = (p % shapes) as u16;
+    if let Some(place) = unmet {
+        let card = (place / shapes) as u16;
+        let shape = (place % shapes) as u16;
         return Ok(Err((Card(card), Shape(shape))));
     }
-    let i = first_unheld(bookings, count, desk, shapes, grid);
-    if i < count as usize {
-        return Err(Refusal(Fault::UnheldBooking, card_index(i)));
+    match first_unheld(bookings, count, desk, shapes, grid) {
+        Some(booking) => Err(Refusal(Fault::UnheldBooking, card_index(booking))),
+        None => Ok(Ok(())),
     }
-    Ok(Ok(()))
 }
 
 // The verdict on a grid of zeros and ones of the size of a sheet that is read, for a desk of a booking list that is
@@ -99,8 +98,7 @@ fn judge_of(
     ensures { (s : Sheet) → read_sheet template.now script.now ≡ accepted s
         → JudgeFound s bookings.now desk grid.now (judge_said result) }
 {
-    let over = first_over(grid);
-    if over < grid.len() {
+    if let Some(over) = first_over(grid) {
         return Err(Refusal(Fault::GridByte, over));
     }
     if e.incoming {

@@ -7,16 +7,3 @@ pub slice_bounds-fitting-end : goal.slice_bounds-fitting-end
 slice_bounds-fitting-end c =
     let lent = c.requires.lent in
     omega (arith, lent.size, few-pairs lent.booked.known)
-
-pub test_pairs-requires : goal.test_pairs-requires
-test_pairs-requires c =
-    let asked = c.requires in
-    let k = asked.lent.booked.known in
-    record {
-      sized = record { known = k; size = omega (arith, asked.lent.size, few-pairs k) };
-      arriving = asked.arriving;
-    }
-
-pub returns : goal.returns
-returns c s q =
-    c.judge_tested.ensures s (c.test_pairs.ensures.tested s q)

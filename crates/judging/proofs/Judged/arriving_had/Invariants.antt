@@ -1,0 +1,17 @@
+-- `judging::Judged::arriving_had` walks the chain of the links to a card, and tests whether the grid has what they lead
+-- to. Assumes nothing.
+use lib.ListN.{get_or}
+use Rattle.bags.specs.Label.{incoming}
+use Rattle.script.specs.Link.{to_at}
+use Rattle.board.specs.Grid.{on}
+use Rattle.walks.proofs.Walks.{Testing}
+use Rattle.judging.specs.Judging.{LinkGood}
+use Rattle.judging.proofs.Judged.arriving_had.Given as goal
+
+abbrev pub invariant-loop-at : goal.invariant-loop-at
+invariant-loop-at l =
+    let script = l.self.script.now in
+    Testing (to_at script) l.m (get_or script 1 0) (LinkGood incoming l.self l.row) (on l.self.grid.now) l.at
+
+abbrev pub decreases-loop-at : goal.decreases-loop-at
+decreases-loop-at l = l.at

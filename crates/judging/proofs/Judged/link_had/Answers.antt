@@ -1,0 +1,46 @@
+-- `judging::Judged::link_had` tests whether the grid has the pair that the entry for a link names. Assumes nothing.
+use mathlib.Core.Path.{◌≡◌, refl, ◌∙◌}
+use Prim.Native.Nat.{suc}
+use native.Mathlib.Omega.{arith}
+use lib.ListN.{get_or}
+use Rattle.script.specs.Link.{kind_at}
+use Rattle.board.specs.Grid.{on}
+use Rattle.walks.proofs.Needs.{kind-word}
+use Rattle.judging.proofs.Judging.{link-nothing, link-named, link-both}
+use Rattle.judging.proofs.Judged.link_had.Goals as goal
+use Rattle.judging.proofs.Judged.link_had.Goals.{After-byte, After-wide-kind}
+
+-- the link's kind and the shape that the entry names, as they are read
+kind-is : (a : After-wide-kind) → a.wide-kind.result ≡ kind_at a.args.self.now.script.now a.args.i
+kind-is a = a.wide-kind.ensures.same ∙ kind-word a.args.self.now.script.now a.args.i
+
+names-it : (a : After-byte) → get_or a.args.row.now a.wide-kind.result 0 ≡ suc a.byte.result
+names-it a = omega (arith, a.in-Some.ensures, a.byte.ensures.same)
+
+pub bounds-row-kind : goal.bounds-row-kind
+bounds-row-kind c =
+    omega (
+      arith,
+      kind-is (goal.at.bounds-row-kind c).After-wide-kind,
+      c.requires.row_in.kinds c.args.i c.requires.link-in,
+    )
+
+pub bounds-self-card : goal.bounds-self-card
+bounds-self-card c =
+    c.requires.row_in.led c.args.i _ c.requires.link-in
+    (link-named c.requires.way c.args.self.now c.args.row.now c.args.i
+    (kind-is (goal.at.bounds-self-card c).After-wide-kind) c.requires.leads
+    (names-it (goal.at.bounds-self-card c).After-byte))
+
+pub returns-in-None : goal.returns-in-None
+returns-in-None c way leads = (
+  λ _. link-nothing way c.args.self.now c.args.row.now c.args.i (kind-is (goal.at.returns-in-None c).After-wide-kind)
+      leads (omega (arith, c.in-None.ensures)),
+  λ _. refl,
+)
+
+pub returns-in-Some : goal.returns-in-Some
+unfolding on
+returns-in-Some c way leads =
+    link-both way c.args.self.now c.args.row.now c.args.i (kind-is (goal.at.returns-in-Some c).After-wide-kind) leads
+    (names-it (goal.at.returns-in-Some c).After-byte)
