@@ -82,15 +82,7 @@ pub fn settle(
         shapes: e.shapes as usize,
         incoming: e.incoming,
     };
-    let found = close(
-        &walk,
-        bookings,
-        count,
-        desk,
-        e.cards as usize,
-        grid,
-        queue,
-    );
+    let found = close(&walk, bookings, count, desk, e.cards as usize, grid, queue);
     let unfit = first_unfit(grid, fitting, walk.shapes);
     match unfit {
         None => Settled::Pairs(found),
