@@ -82,15 +82,7 @@ pub fn settle(
         shapes: e.shapes as usize,
         incoming: e.incoming,
     };
-    let found = close(
-        &walk,
-        bookings,
-        count,
-        desk,
-        e.cards as usize,
-        grid,
-        queue,
-    );
+    let found = close(&walk, bookings, count, desk, e.cards as usize, grid, queue);
     match first_unfit(grid, fitting, walk.shapes) {
         None => Ok(found),
         Some(pair) => Err(pair),
