@@ -17,7 +17,7 @@ use lib.Seq.{get_or-set_same, get_or-set_other}
 use Rattle.board.specs.Grid.{on}
 use Rattle.board.specs.Machine.{Flipped}
 use Rattle.board.specs.Board.{Board, Inside, Closed, follow, Flooded}
-use Rattle.board.specs.Work.{Work, work, entry, Queued, strike_one, Room, Run, stay, then, Swept}
+use Rattle.board.specs.Work.{Work, work_of, entry, Queued, strike_one, Room, Run, stay, then, Swept}
 use Rattle.board.specs.Listing.{Lists, Listed}
 use Rattle.board.proofs.Tally.{tally-le, tally-both}
 use Rattle.board.proofs.Grids.{on-set-same, on-set-other}
@@ -78,7 +78,7 @@ module _ {B : Board} {Book : ℕ → Type 0} {head : ℕ} where
 -- ---- the loop
 pub flood-start : {B : Board} (grid queue : List ℕ) (tail : ℕ) → length grid ≡ B.size
     → Listed grid queue tail (length grid)
-    → Flooding B (Queued (entry queue) tail) (length queue) (work grid queue tail) 0
+    → Flooding B (Queued (entry queue) tail) (length queue) (work_of grid queue tail) 0
 flood-start grid queue tail e s = record {
   full = e;
   space = refl;

@@ -16,7 +16,7 @@ use lib.ListN.{length, set}
 use lib.Seq.{get_or-set_same, get_or-set_other}
 use Rattle.board.specs.Grid.{on}
 use Rattle.board.specs.Board.{Board, Inside, Finished}
-use Rattle.board.specs.Work.{Work, work, entry, strike_one, Room, Run, stay, then, Swept}
+use Rattle.board.specs.Work.{Work, work_of, entry, strike_one, Room, Run, stay, then, Swept}
 use Rattle.board.specs.Listing.{Listed}
 use Rattle.board.proofs.Tally.{tally-le, tally-both}
 use Rattle.board.proofs.Grids.{on-set-same, on-set-other}
@@ -67,7 +67,7 @@ module _ {B : Board} {head end round : ℕ} (h : head < end) where
 -- ---- the loop
 pub search-start : {B : Board} (grid queue : List ℕ) (tail : ℕ) → length grid ≡ B.size
     → ((p : ℕ) → p < B.size → on grid p ≡ B.ok p)
-    → Listed grid queue tail (length grid) → Searching B (length queue) (work grid queue tail) 0 0 0
+    → Listed grid queue tail (length grid) → Searching B (length queue) (work_of grid queue tail) 0 0 0
 search-start grid queue tail e oks s = record {
   full = e;
   space = refl;

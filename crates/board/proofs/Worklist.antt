@@ -15,14 +15,14 @@ use native.Mathlib.Omega.{arith}
 use lib.ListN.{length, set, length-set}
 use Rattle.board.specs.Grid.{on}
 use Rattle.board.specs.Machine.{Marks}
-use Rattle.board.specs.Work.{Work, work, strike_one, Room, Run, stay, then, Swept}
+use Rattle.board.specs.Work.{Work, work_of, strike_one, Room, Run, stay, then, Swept}
 use Rattle.words.proofs.Bools.{never_both, true-or-false}
 use Rattle.board.proofs.Tally.{tally-more, tally-pos}
 use Rattle.board.proofs.Grids.{on-set-same, on-set-other, marks-set}
 
 -- ---- one strike
 pub strike-hit : (w : Work) (p : ℕ) → on w.grid p ≡ true
-    → strike_one w p ≡ work (set w.grid p 0) (set w.queue w.tail p) (w.tail + 1)
+    → strike_one w p ≡ work_of (set w.grid p 0) (set w.queue w.tail p) (w.tail + 1)
 unfolding strike_one
 strike-hit w p e = rw e
 
@@ -32,7 +32,7 @@ strike-miss w p e = rw e
 
 -- what holds of the work with the strike where p stands, and of the work as it is where not, holds after the strike
 pub strike-case : (P : Work → Type 0) (w : Work) (p : ℕ)
-    → (on w.grid p ≡ true → P (work (set w.grid p 0) (set w.queue w.tail p) (w.tail + 1)))
+    → (on w.grid p ≡ true → P (work_of (set w.grid p 0) (set w.queue w.tail p) (w.tail + 1)))
     → (on w.grid p ≡ false → P w) → P (strike_one w p)
 strike-case P w p hit miss = ⊎_elim
     (λ e. subst P (sym (strike-hit w p e)) (hit e))

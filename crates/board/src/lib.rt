@@ -5,37 +5,10 @@ ghost use Rattle.std.specs.Prelude.{◌≡◌, eqb, length, get_or, replicate, �
 ghost use Rattle.words.specs.First.{FirstFound};
 ghost use Rattle.board.specs.Grid.{on, tally};
 ghost use Rattle.board.specs.Machine.{Flipped, MissingFound};
-ghost use Rattle.board.specs.Work.{work, strike_one, Lent, Strikable};
-ghost use Rattle.board.specs.Listing.{Listed};
 
-// Strikes a place and queues it, if it still stands. Returns the queue's tail.
-pub fn strike_one(grid: &mut [u8], queue: &mut [u16], tail: usize, place: usize) -> usize
-    requires { Strikable (work grid.old queue.old tail) place }
-    ensures { work grid.new queue.new result
-        ≡ strike_one (work grid.old queue.old tail) place }
-{
-    if grid[place] == 1 {
-        grid[place] = 0;
-        queue[tail] = place as u16;
-        return tail + 1;
-    }
-    tail
-}
+mod queue;
 
-// Queues the places that are not on, and returns how many.
-pub fn list_off(grid: &[u8], queue: &mut [u16]) -> usize
-    requires { Lent grid.now queue.old }
-    ensures { Listed grid.now queue.new result (length grid.now) }
-{
-    let mut listed = 0;
-    for (place, byte) in grid.iter().enumerate() {
-        if *byte != 1 {
-            queue[listed] = place as u16;
-            listed += 1;
-        }
-    }
-    listed
-}
+pub use queue::{Queue, list_off, strike_one};
 
 // Gives every byte the same value.
 pub fn fill(grid: &mut [u8], value: u8)

@@ -9,12 +9,13 @@ ghost use Rattle.typing.specs.Answer.{both_said};
 ghost use Rattle.typing.specs.Calls.{BothFound, BothSays};
 ghost use Rattle.lent.specs.Readings.{TwoGrids};
 
+use board::Queue;
 use lent::{grid_size, read_lent};
 use pairs::{STARTS, chain_arrivals, test_pairs};
 use searches::{settle, strike};
 use sheet::Extent;
 use typing::Both;
-use words::{Fault, MAX_CARDS, MAX_GRID, MAX_LINKS, Refusal, TABLE_SIZE};
+use words::{Fault, MAX_CARDS, MAX_LINKS, Refusal, TABLE_SIZE};
 
 // Both typings of a sheet and a desk's bookings that are read, in grids of its size. A pair's counts are tested once.
 fn both_of(
@@ -48,7 +49,7 @@ fn both_of(
         &mut starts,
         large,
     );
-    let mut queue = [0u16; MAX_GRID];
+    let mut queue = Queue::new();
     let smallest = settle(
         script, &starts, &first, &next, bookings, count, desk, names, e, large, small, &mut queue,
     );

@@ -13,6 +13,7 @@ ghost use Rattle.lent.specs.Readings.{TwoGrids};
 ghost use Rattle.pairs.specs.Pairs.{SheetGrid};
 ghost use Rattle.calls.specs.Lent.{SmallestLent};
 
+use board::Queue;
 use lent::{grid_size, read_lent};
 use pairs::{STARTS, chain_arrivals, test_pairs};
 use searches::{settle, strike};
@@ -31,7 +32,7 @@ fn largest_of(template: &[u16], script: &[u16], names: &[u8], e: Extent, grid: &
     chain_arrivals(script, e, &mut first, &mut next);
     let mut starts = [0u16; STARTS];
     test_pairs(template, script, &first, &next, names, e, &mut starts, grid);
-    let mut queue = [0u16; MAX_GRID];
+    let mut queue = Queue::new();
     strike(script, &starts, &first, &next, names, e, grid, &mut queue)
 }
 
@@ -66,7 +67,7 @@ fn smallest_by(
         &mut starts,
         fitting,
     );
-    let mut queue = [0u16; MAX_GRID];
+    let mut queue = Queue::new();
     settle(
         script, &starts, first, next, bookings, count, desk, names, e, fitting, grid, &mut queue,
     )

@@ -1,18 +1,16 @@
--- The closure of the bookings in a grid, and its lowest pair that does not fit ("Smallest").
+-- The closure of the bookings in a grid ("Smallest").
 --   closes      a flood from the marked pairs, turned round, is the closure of the bookings
---   unfit-at    the lowest pair that does not fit, by its card and its shape
 -- Assumes nothing.
-use mathlib.Core.Path.{◌≡◌, sym, ◌∙◌, subst}
+use mathlib.Core.Path.{◌≡◌, ◌∙◌}
 use mathlib.Core.List.{List}
-use Prim.Native.Nat.{ℕ, ◌+◌, ◌*◌, ◌/◌, ◌%◌, ◌<◌}
+use Prim.Native.Nat.{ℕ, ◌*◌}
 use native.Mathlib.Omega.{arith}
-use lib.ListN.{length, get_or, replicate}
-use Rattle.board.specs.Machine.{Flipped, FirstMissing}
+use lib.ListN.{length, get_or}
+use Rattle.board.specs.Machine.{Flipped}
 use Rattle.board.proofs.Closure.{flooded-books}
 use Rattle.board.proofs.Flooding.{flood-flipped}
 use Rattle.typing.specs.Needs.{Ready}
 use Rattle.flood.specs.Follows.{Followed}
-use Rattle.words.proofs.Places.{shape-in, place_of}
 use Rattle.typing.proofs.Boards.{board-inside}
 use Rattle.bookings.specs.Steps.{BookingsIn}
 use Rattle.closure.specs.Closing.{Marked, Closes}
@@ -30,15 +28,3 @@ closes ready inside full marked followed flipped = record {
       (flooded-books (λ p off. marked.only p off.0 off.1)
       (λ p b. (omega (arith, booked-in inside b), marked.each p b)) (followed.closure fits)) flipped;
 }
-
-module _ {closure fitting after : List ℕ} (shapes p : ℕ) (one-shape : 0 < shapes) where
-  pub unfit-at : after ≡ replicate (length closure) 0 → FirstMissing closure fitting p → p < length closure
-      → (after ≡ replicate (length closure) 0) × FirstMissing closure fitting (p / shapes * shapes + p % shapes)
-      × (p / shapes * shapes + p % shapes < length closure) × (p % shapes < shapes)
-  unfit-at cleared missing l =
-      let place = sym (place_of shapes one-shape p) in (
-        cleared,
-        subst (λ (x : ℕ). FirstMissing closure fitting x) place missing,
-        subst (λ (x : ℕ). x < length closure) place l,
-        shape-in shapes one-shape p,
-      )

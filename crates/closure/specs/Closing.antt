@@ -4,7 +4,9 @@
 -- CloseAsked, Closes      a grid is the closure of the bookings
 -- UnfitAsked, UnfitFound  the lowest pair of the closure that does not fit, if there is one
 -- Assumes nothing.
-use Rattle.std.specs.Prelude.{ℕ, ◌+◌, ◌*◌, ◌≤◌, ◌<◌, ◌≡◌, List, Bool, false, length, get_or, replicate}
+use Rattle.std.specs.Prelude.{ℕ, ◌+◌, ◌*◌, ◌≤◌, ◌<◌, ◌≡◌, List, false, length, get_or, replicate, Option, MatchOption}
+use Rattle.words.specs.declared.Card.{Card}
+use Rattle.words.specs.declared.Shape.{Shape}
 use Rattle.words.specs.Limits.{max_cards, max_shapes}
 use Rattle.words.specs.Sizes.{max_grid}
 use Rattle.board.specs.Grid.{on}
@@ -13,9 +15,8 @@ use Rattle.board.specs.Board.{Flooded}
 use Rattle.typing.specs.Needs.{board_of}
 use Rattle.bookings.specs.Bookings.{desk_at, card_at, shape_at}
 use Rattle.bookings.specs.Steps.{ListOf, BookingsIn}
-use Rattle.walks.specs.Walks.{LinksReady}
-use Rattle.closure.specs.declared.Unfit.{Unfit}
-use Rattle.closure.specs.declared.Unfit.TheVariants as unfit
+use Rattle.walks.specs.declared.walk.Walk.{Walk}
+use Rattle.walks.specs.Walks.{WalkReady}
 
 -- One of the first k bookings is the desk's, and of the pair at place p.
 pub record BookedAt (bookings : List ℕ) (desk shapes k p : ℕ) : Type 0 where
@@ -38,15 +39,13 @@ pub record Marked (bookings : List ℕ) (desk shapes k : ℕ) (grid : List ℕ) 
   pub only : (p : ℕ) → p < length grid → on grid p ≡ false → BookedAt bookings desk shapes k p
   pub each : (p : ℕ) → BookedAt bookings desk shapes k p → on grid p ≡ false
 
--- What the closure asks: where each card's links stand, bookings that are read, a byte for each pair, a roomy queue.
-pub record CloseAsked (script starts first next bookings : List ℕ) (count : ℕ) (names : List ℕ) (cards shapes : ℕ)
-    (incoming : Bool) (grid queue : List ℕ) : Type 0 where
-  pub links : LinksReady script starts first next names shapes incoming
-  pub all-cards : cards ≡ get_or script 0 0
+-- What the closure asks: where each card's links stand, bookings that are read, a byte for each pair.
+pub record CloseAsked (walk : Walk) (bookings : List ℕ) (count cards : ℕ) (grid : List ℕ) : Type 0 where
+  pub links : WalkReady walk
+  pub all-cards : cards ≡ get_or walk.script.now 0 0
   pub sized : ListOf 3 bookings count
-  pub booked-in : BookingsIn bookings cards shapes count
-  pub full : length grid ≡ cards * shapes
-  pub room : length grid ≤ length queue
+  pub booked-in : BookingsIn bookings cards walk.shapes count
+  pub full : length grid ≡ cards * walk.shapes
 
 -- The grid has just the closure of the first k bookings that are the desk's, and so many pairs. Which pairs fit plays
 -- no part.
@@ -65,9 +64,8 @@ pub record UnfitAsked (closure fitting : List ℕ) (shapes : ℕ) : Type 0 where
   pub few-places : length closure ≤ max_grid
 
 -- All pairs of the closure fit and the grid stays; or the lowest that does not fit, and the grid is all 0.
-abbrev pub UnfitFound : List ℕ → List ℕ → ℕ → List ℕ → Unfit → Type 0
-UnfitFound closure fitting shapes after unfit.Nowhere =
-    (after ≡ closure) × FirstMissing closure fitting (length closure)
-UnfitFound closure fitting shapes after (unfit.At card shape) =
-    (after ≡ replicate (length closure) 0) × FirstMissing closure fitting (card.0 * shapes + shape.0)
-    × (card.0 * shapes + shape.0 < length closure) × (shape.0 < shapes)
+abbrev pub UnfitFound : List ℕ → List ℕ → ℕ → List ℕ → Option (Card × Shape) → Type 0
+UnfitFound closure fitting shapes after found =
+    MatchOption found ((after ≡ closure) × FirstMissing closure fitting (length closure))
+    (λ pair. (after ≡ replicate (length closure) 0) × FirstMissing closure fitting (pair.0.0 * shapes + pair.1.0)
+    × (pair.0.0 * shapes + pair.1.0 < length closure) × (pair.1.0 < shapes))

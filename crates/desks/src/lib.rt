@@ -9,12 +9,13 @@ ghost use Rattle.typing.specs.Desks.{DesksFound, DesksSays};
 ghost use Rattle.pairs.specs.Pairs.{SheetTested};
 ghost use Rattle.desks.specs.ThreeGrids.{ThreeGrids, DesksAsked, desks_of};
 
+use board::Queue;
 use lent::{grid_size, read_booked};
 use pairs::{STARTS, chain_arrivals, test_pairs};
 use searches::{settle, strike};
 use sheet::Extent;
 use typing::Desks;
-use words::{Fault, MAX_CARDS, MAX_GRID, MAX_LINKS, Refusal, TABLE_SIZE};
+use words::{Fault, MAX_CARDS, MAX_LINKS, Refusal, TABLE_SIZE};
 
 // The typings of a sheet whose pairs are tested, as the last grid says: each desk's bookings are settled, 0 being
 // radio's and 1 television's, and then rounds are struck in that grid.
@@ -40,7 +41,7 @@ fn desks_tested(
           large = large.new;
         }) (desks_of result) }
 {
-    let mut queue = [0u16; MAX_GRID];
+    let mut queue = Queue::new();
     let one = settle(
         script, starts, first, next, bookings, count, 0, names, e, large, radio, &mut queue,
     );

@@ -6,17 +6,19 @@
 -- FloodAsked   what the search asks
 -- Off, Followed   its answer: from the places that were off
 -- Assumes nothing.
-use Rattle.std.specs.Prelude.{ℕ, ◌+◌, ◌*◌, ◌/◌, ◌≤◌, ◌<◌, ◌≡◌, List, Bool, false, not, length, get_or}
+use Rattle.std.specs.Prelude.{ℕ, ◌+◌, ◌*◌, ◌/◌, ◌≤◌, ◌<◌, ◌≡◌, List, false, not, length, get_or}
 use Rattle.words.specs.Limits.{max_cards}
 use Rattle.words.specs.Sizes.{max_grid}
 use Rattle.bags.specs.Label.{outgoing, incoming}
 use Rattle.links.specs.Index.{ArrivalsOf}
 use Rattle.board.specs.Grid.{on}
 use Rattle.board.specs.Board.{Flooded}
+use Rattle.board.specs.declared.queue.Queue.{Queue}
 use Rattle.board.specs.Work.{Work, Room}
 use Rattle.board.specs.Listing.{Listed}
 use Rattle.typing.specs.Needs.{board_of}
-use Rattle.walks.specs.Walks.{LinksReady}
+use Rattle.walks.specs.declared.walk.Walk.{Walk}
+use Rattle.walks.specs.Walks.{WalkReady}
 use Rattle.walks.specs.Entries.{EntryGood, RowAsked}
 use Rattle.walks.specs.Cards.{Reciprocal}
 
@@ -40,12 +42,11 @@ pub record ArrivingAsked (script first next row : List ℕ) (shapes m : ℕ) (w 
   pub room : Room w
 
 -- What following the links of the pair at place q, of card n, asks.
-pub record PairAsked (script starts first next names : List ℕ) (shapes : ℕ) (incoming : Bool) (n q : ℕ) (w : Work)
-    : Type 0 where
-  pub links : LinksReady script starts first next names shapes incoming
-  pub card : n ≡ q / shapes
+pub record PairAsked (walk : Walk) (n q : ℕ) (w : Work) : Type 0 where
+  pub links : WalkReady walk
+  pub card : n ≡ q / walk.shapes
   pub on-board : q < length w.grid
-  pub full : length w.grid ≡ get_or script 0 0 * shapes
+  pub full : length w.grid ≡ get_or walk.script.now 0 0 * walk.shapes
   pub room : Room w
 
 -- What finding the card of the pair at place q asks, where the guess is by the last link from the card `last`.
@@ -58,14 +59,12 @@ pub record LedCardAsked (script starts : List ℕ) (shapes factor last q : ℕ) 
   pub by : Reciprocal shapes factor
   pub on-board : q < max_grid
 
--- What the search asks: where each card's links stand, a byte for each pair, room in the queue for all, and the pairs
--- to start from, which are off and queued.
-pub record FloodAsked (script starts first next names : List ℕ) (shapes : ℕ) (incoming : Bool) (grid queue : List ℕ)
-    (booked : ℕ) : Type 0 where
-  pub links : LinksReady script starts first next names shapes incoming
-  pub full : length grid ≡ get_or script 0 0 * shapes
-  pub room : length grid ≤ length queue
-  pub listed : Listed grid queue booked (length grid)
+-- What the search asks: where each card's links stand, a byte for each pair, and the pairs to start from, which are off
+-- and queued.
+pub record FloodAsked (walk : Walk) (grid : List ℕ) (queue : Queue) : Type 0 where
+  pub links : WalkReady walk
+  pub full : length grid ≡ get_or walk.script.now 0 0 * walk.shapes
+  pub listed : Listed grid queue.places queue.len (length grid)
 
 -- A place of the board whose byte is not 1.
 abbrev Off : List ℕ → ℕ → Type 0

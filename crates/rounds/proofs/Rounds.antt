@@ -23,6 +23,7 @@ use Rattle.links.specs.Index.{ArrivalsOf}
 use Rattle.board.specs.Grid.{on}
 use Rattle.board.specs.Machine.{Marks}
 use Rattle.board.specs.Listing.{Listed}
+use Rattle.board.specs.declared.queue.Queue.{Queue}
 use Rattle.board.specs.Work.{work, Room, Swept}
 use Rattle.board.proofs.Worklist.{swept-marks}
 use Rattle.board.proofs.Search.{Searching, search-start, search-tail, search-round, search-head, search-room}
@@ -33,60 +34,56 @@ use Rattle.walks.specs.Cards.{Reciprocal}
 use Rattle.walks.proofs.Cards.{some-card, place-below}
 use Rattle.tally.specs.declared.Tally.{Tally}
 use Rattle.tally.specs.Tally.{closed, HeadTally}
-use Rattle.rounds.specs.Rounds.{SourceCardAsked, Roomy, Searched, StrikesLeft}
+use Rattle.rounds.specs.Rounds.{SourceCardAsked, Searched, StrikesLeft}
 use Rattle.strikes.proofs.Needing.{needing-in}
 
 -- From a grid and a queue that lists what is off in it, the search stands at the head; the tally has the rounds closed.
-pub record Rounding (script names : List ℕ) (shapes : ℕ) (grid₀ queue₀ grid queue : List ℕ) (tail head : ℕ)
+pub record Rounding (script names : List ℕ) (shapes : ℕ) (grid₀ grid : List ℕ) (queue : Queue) (head : ℕ)
     (tally : Tally) : Type 0 where
   pub ready : Ready script names shapes
-  pub lent : Roomy script shapes grid₀ queue₀
-  pub search : Searching (board_of script names shapes grid₀) (length queue₀) (work grid queue tail) head
-      tally.struck tally.rounds
+  pub lent : length grid₀ ≡ get_or script 0 0 * shapes
+  pub search : Searching (board_of script names shapes grid₀) max_grid (work grid queue) head tally.struck tally.rounds
   pub marks : Marks grid₀ → Marks grid
 
 -- No round is closed yet.
 abbrev pub none : Tally
 none = record { rounds = 0; struck = 0 }
 
-pub rounds-start : {script names : List ℕ} {shapes : ℕ} {grid queue : List ℕ} {tail : ℕ} → Ready script names shapes
-    → Roomy script shapes grid queue → Listed grid queue tail (length grid)
-    → Rounding script names shapes grid queue grid queue tail 0 none
-rounds-start {grid = grid} {queue = queue} {tail = tail} ready lent listed = record {
+pub rounds-start : {script names : List ℕ} {shapes : ℕ} {grid : List ℕ} {queue : Queue} → Ready script names shapes
+    → length grid ≡ get_or script 0 0 * shapes → length queue.places ≡ max_grid
+    → Listed grid queue.places queue.len (length grid) → Rounding script names shapes grid grid queue 0 none
+rounds-start {script} {names} {shapes} {grid} {queue} ready lent room listed = record {
   ready = ready;
   lent = lent;
-  search = search-start grid queue tail lent.full (λ p l. refl) listed;
+  search = subst (λ (n : ℕ). Searching (board_of script names shapes grid) n (work grid queue) 0 0 0) room
+      (search-start grid queue.places queue.len lent (λ p l. refl) listed);
   marks = λ m. m;
 }
 
-module _ {script names : List ℕ} {shapes : ℕ} {grid₀ queue₀ grid queue : List ℕ} {tail head : ℕ} {tally : Tally}
-    (r : Rounding script names shapes grid₀ queue₀ grid queue tail head tally) where
+module _ {script names : List ℕ} {shapes : ℕ} {grid₀ grid : List ℕ} {queue : Queue} {head : ℕ} {tally : Tally}
+    (r : Rounding script names shapes grid₀ grid queue head tally) where
   -- ---- sizes
-  pairs : get_or script 0 0 * shapes ≤ length queue₀
-  pairs = omega (arith, r.lent.full, r.lent.room)
-
   few : get_or script 0 0 * shapes ≤ max_grid
   few = pairs-bound r.ready
 
   pub rounds-few : tally.rounds ≤ max_grid
   rounds-few = omega (arith, search-round r.search, few)
 
-  pub rounds-tail : (tail ≤ length queue) × (tail ≤ length grid₀) × (tail ≤ max_grid)
+  pub rounds-tail : (queue.len ≤ length grid₀) × (queue.len ≤ max_grid)
   rounds-tail =
-      let all = search-tail r.search in
-      (omega (arith, all, r.search.space, pairs), omega (arith, all, r.lent.full), omega (arith, all, few))
+      let all = search-tail r.search in (omega (arith, all, r.lent), omega (arith, all, few))
 
-  pub rounds-head : head < tail → get_or queue head 0 < get_or script 0 0 * shapes
+  pub rounds-head : head < queue.len → get_or queue.places head 0 < get_or script 0 0 * shapes
   rounds-head more = search-head r.search more
 
-  pub rounds-room : Room (work grid queue tail)
-  rounds-room = search-room r.search pairs
+  pub rounds-room : Room (work grid queue)
+  rounds-room = search-room r.search few
 
   -- ---- a turn
   abbrev pub Within : Tally → Type 0
-  Within t = Rounding script names shapes grid₀ queue₀ grid queue tail head t × (head < t.struck)
+  Within t = Rounding script names shapes grid₀ grid queue head t × (head < t.struck)
 
-  closed-next : head < tail → head ≡ tally.struck → Within (closed tally tail)
+  closed-next : head < queue.len → head ≡ tally.struck → Within (closed tally queue.len)
   closed-next more level = (
     record {
       ready = r.ready;
@@ -97,26 +94,26 @@ module _ {script names : List ℕ} {shapes : ℕ} {grid₀ queue₀ grid queue :
     more,
   )
 
-  pub rounds-level : head < tail → {t : Tally} → HeadTally tally head tail t → Within t
+  pub rounds-level : head < queue.len → {t : Tally} → HeadTally tally head queue.len t → Within t
   rounds-level more h = ⊎_elim
       (λ e. subst Within (sym (h.closes e)) (closed-next more e))
       (λ ne. subst Within (sym (h.stays ne)) (r, search-level r.search more ne))
       (eq-or-ne head tally.struck)
 
-  pub rounds-turn : head < tally.struck → {after queue-after : List ℕ} {tail-after : ℕ}
-      → Swept (λ p. Needs script names shapes p (get_or queue head 0)) (work grid queue tail)
-      (work after queue-after tail-after)
-      → Rounding script names shapes grid₀ queue₀ after queue-after tail-after (head + 1) tally
+  pub rounds-turn : head < tally.struck → {after : List ℕ} {queue-after : Queue}
+      → Swept (λ p. Needs script names shapes p (get_or queue.places head 0)) (work grid queue)
+      (work after queue-after)
+      → Rounding script names shapes grid₀ after queue-after (head + 1) tally
   rounds-turn inside swept = record {
     ready = r.ready;
     lent = r.lent;
-    search = search-turn r.search pairs inside (λ p d. (needing-in r.ready p (get_or queue head 0) d, d))
+    search = search-turn r.search few inside (λ p d. (needing-in r.ready p (get_or queue.places head 0) d, d))
         (λ p _ d. d) swept;
     marks = λ m. swept-marks swept (r.marks m);
   }
 
   -- ---- the end: the round that strikes none is closed like the others
-  pub rounds-done : tail ≤ head → {t : Tally} → t ≡ closed tally tail
+  pub rounds-done : queue.len ≤ head → {t : Tally} → t ≡ closed tally queue.len
       → StrikesLeft script names shapes grid₀ grid t.rounds t.struck
   rounds-done used e = record {
     searched = subst (λ (t : Tally). Searched (board_of script names shapes grid₀) (on grid) t.rounds t.struck)
@@ -125,7 +122,7 @@ module _ {script names : List ℕ} {shapes : ℕ} {grid₀ queue₀ grid queue :
           counted = add-one tally.rounds;
           finished = search-done r.search (board-inside r.ready grid₀) used;
         });
-    size = r.search.full ∙ sym r.lent.full;
+    size = r.search.full ∙ sym r.lent;
     marks = r.marks;
   }
 

@@ -1,21 +1,24 @@
 -- The rounds of the search backwards: what they ask and find; no part of a promise.
 -- SourceCardAsked   what finding the card of the next pair asks
--- Roomy        a grid and a queue of the right sizes
--- OutAsked, BothAsked   what the rounds ask, one way and both; BackAsked, StrikeAsked: with indexes still to be built
+-- RoundsAsked  what the rounds ask; StrikeAsked: with indexes still to be built
 -- Searched     the answer; StrikesLeft: with what becomes of the grid
 -- Assumes nothing.
-use Rattle.std.specs.Prelude.{ℕ, suc, ◌+◌, ◌*◌, ◌≤◌, ◌<◌, ◌≡◌, List, Bool, length, get_or}
-use Rattle.words.specs.Limits.{max_cards, max_kinds}
+use Rattle.std.specs.Prelude.{ℕ, suc, ◌+◌, ◌*◌, ◌≤◌, ◌<◌, ◌≡◌, List, Bool, length, get_or, Option}
+use Rattle.std.specs.Borrow.{Bor}
+use Rattle.words.specs.Limits.{max_cards}
 use Rattle.words.specs.Sizes.{max_grid}
 use Rattle.links.specs.Index.{ArrivalsOf}
-use Rattle.sheet.specs.Opened.{OnlyOutgoing}
 use Rattle.board.specs.Grid.{on}
 use Rattle.board.specs.Board.{Board, Finished}
 use Rattle.board.specs.Machine.{Marks}
+use Rattle.board.specs.declared.queue.Queue.{Queue}
+use Rattle.board.specs.Listing.{Listed}
 use Rattle.typing.specs.Needs.{board_of}
-use Rattle.walks.specs.Walks.{Starts, LinksReady}
+use Rattle.walks.specs.declared.walk.Walk.{Walk}
+use Rattle.walks.specs.Walks.{WalkReady}
 use Rattle.walks.specs.Cards.{Reciprocal}
-use Rattle.strikes.specs.Strikes.{OutReady, BothReady}
+use Rattle.strikes.specs.declared.index.NameIndex.{NameIndex}
+use Rattle.strikes.specs.Strikes.{StrikeReady}
 
 -- What finding the card of the pair at place q asks, where the guess is by the last link to the card `last`.
 pub record SourceCardAsked (script first : List ℕ) (shapes factor last q : ℕ) : Type 0 where
@@ -27,34 +30,19 @@ pub record SourceCardAsked (script first : List ℕ) (shapes factor last q : ℕ
   pub by : Reciprocal shapes factor
   pub on-board : q < max_grid
 
--- A byte for each pair, and room in the queue for all.
-pub record Roomy (script : List ℕ) (shapes : ℕ) (grid queue : List ℕ) : Type 0 where
-  pub full : length grid ≡ get_or script 0 0 * shapes
-  pub room : length grid ≤ length queue
-
--- What the rounds ask where no shape names an incoming kind, and where some does.
-pub record OutAsked (script first next names : List ℕ) (shapes : ℕ) (named alike grid queue : List ℕ) : Type 0 where
-  pub out : OutReady script first next names shapes named alike
-  pub only : OnlyOutgoing names shapes max_kinds
-  pub lent : Roomy script shapes grid queue
-
-pub record BothAsked (script starts first next names : List ℕ) (shapes : ℕ)
-    (named alike inward inalike grid queue : List ℕ) : Type 0 where
-  pub both : BothReady script starts first next names shapes named alike inward inalike
-  pub lent : Roomy script shapes grid queue
-
--- The same where the index of the incoming names is still to be built; and where both are.
-pub record BackAsked (script starts first next names : List ℕ) (shapes : ℕ) (named alike grid queue : List ℕ)
+-- What the rounds ask: what striking goes by, a byte for each pair, and the pairs that are off queued.
+pub record RoundsAsked (walk : Walk) (out : NameIndex) (back : Option (Bor NameIndex)) (grid : List ℕ) (queue : Queue)
     : Type 0 where
-  pub out : OutReady script first next names shapes named alike
-  pub leaving : Starts script starts
-  pub lent : Roomy script shapes grid queue
+  pub by : StrikeReady walk out back
+  pub full : length grid ≡ get_or walk.script.now 0 0 * walk.shapes
+  pub listed : Listed grid queue.places queue.len (length grid)
 
-pub record StrikeAsked (script starts first next names : List ℕ) (shapes : ℕ) (incoming : Bool) (grid queue : List ℕ)
-    : Type 0 where
-  pub links : LinksReady script starts first next names shapes incoming
-  pub arriving : ArrivalsOf script first next (get_or script 0 0) (get_or script 1 0)
-  pub lent : Roomy script shapes grid queue
+-- The same where the indexes are still to be built.
+pub record StrikeAsked (walk : Walk) (grid : List ℕ) : Type 0 where
+  pub links : WalkReady walk
+  pub arriving : ArrivalsOf walk.script.now walk.first.now walk.next.now (get_or walk.script.now 0 0)
+      (get_or walk.script.now 1 0)
+  pub full : length grid ≡ get_or walk.script.now 0 0 * walk.shapes
 
 -- The rounds counted are one more than those that strike something: the first that strikes none is counted too.
 pub record Searched (B : Board) (X : ℕ → Bool) (rounds struck : ℕ) : Type 0 where

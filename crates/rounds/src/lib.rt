@@ -3,185 +3,77 @@
 #![tactic(auto)]
 
 ghost use Rattle.std.specs.Prelude.{◌≡◌, ◌/◌};
-ghost use Rattle.rounds.specs.Rounds.{SourceCardAsked, OutAsked, BothAsked, BackAsked, StrikeAsked};
-ghost use Rattle.rounds.specs.Rounds.{StrikesLeft};
+ghost use Rattle.rounds.specs.Rounds.{SourceCardAsked, RoundsAsked, StrikeAsked, StrikesLeft};
 
-use board::list_off;
-use strikes::{index_names, strike_needing, strike_sources};
-use tally::{Tally, after_round, at_head};
-use walks::{guessed_card, reciprocal, scaled_card};
-use words::{MAX_KINDS, MAX_SHAPES, Shape, wide};
-
-// Entries of one half of a table of names: a row of kinds for each shape.
-const HALF_TABLE: usize = MAX_SHAPES * MAX_KINDS;
+use board::{Queue, list_off};
+use strikes::{NameIndex, index_names, strike_needing};
+use tally::Tally;
+use walks::{Walk, guessed_card, reciprocal, scaled_card};
+use words::{MAX_KINDS, wide};
 
 // The card of the pair at place q, the next one. A pair that is alone in the queue was struck by the pair before, of
 // card `last`: the last link to that card is likely to start at its card.
-fn source_card(
-    script: &[u16],
-    first: &[u16],
-    shapes: usize,
-    factor: usize,
-    alone: bool,
-    last: usize,
-    q: usize,
-) -> usize
-    requires { SourceCardAsked script.now first.now shapes factor last q }
-    ensures { result ≡ q / shapes }
+fn source_card(walk: &Walk, factor: usize, alone: bool, last: usize, q: usize) -> usize
+    requires { SourceCardAsked walk.now.script.now walk.now.first.now walk.now.shapes factor last q }
+    ensures { result ≡ q / walk.now.shapes }
 {
     if alone {
-        let at = wide(first[last]);
+        let at = wide(walk.first[last]);
         if 0 < at {
-            return guessed_card(q, shapes, wide(script[3 * at - 1]));
+            return guessed_card(q, walk.shapes, wide(walk.script[3 * at - 1]));
         }
     }
     scaled_card(q, factor)
 }
 
-// Strikes rounds from the pairs in the grid, those whose counts fit, until one strikes nothing, where no shape names an
-// incoming kind. The tally has the rounds that are closed; the one at the end is closed like the others.
+// Strikes rounds from the pairs in the grid, those whose counts fit, until one strikes nothing; the others are queued.
+// Links are looked at from both ends where there is an index of incoming names. The tally has the rounds that are
+// closed; the one at the end is closed like the others. Inlined, the loop has no test for that index.
+#[inline(always)]
 fn strike_rounds(
-    script: &[u16],
-    first: &[u16],
-    next: &[u16],
-    names: &[u8],
-    shapes: usize,
-    named: &[u16],
-    alike: &[u16],
+    walk: &Walk,
+    outgoing: &NameIndex,
+    incoming: Option<&NameIndex>,
     grid: &mut [u8],
-    queue: &mut [u16],
+    queue: &mut Queue,
 ) -> Tally
-    requires { OutAsked script.now first.now next.now names.now shapes named.now alike.now
-        grid.old queue.old }
-    ensures { StrikesLeft script.now names.now shapes
+    requires { RoundsAsked walk.now outgoing.now incoming grid.old queue.old }
+    ensures { StrikesLeft walk.now.script.now walk.now.names.now walk.now.shapes
         grid.old grid.new result.rounds result.struck }
 {
-    let factor = reciprocal(shapes);
-    let mut tail = list_off(grid, queue);
-    let mut head = 0;
-    let mut last = 0;
+    let factor = reciprocal(walk.shapes);
     let mut tally = Tally {
         rounds: 0,
         struck: 0,
     };
-    while head < tail {
-        tally = at_head(tally, head, tail);
-        let q = wide(queue[head]);
-        let m = source_card(script, first, shapes, factor, head + 1 == tail, last, q);
-        tail = strike_sources(
-            script,
-            first,
-            next,
-            names,
-            shapes,
-            named,
-            alike,
-            m,
-            Shape((q - m * shapes) as u16),
-            grid,
-            queue,
-            tail,
-        );
-        last = m;
-        head += 1;
-    }
-    after_round(tally, tail)
-}
-
-// The same where some shape names an incoming kind: links are looked at from both ends.
-fn strike_rounds_both(
-    script: &[u16],
-    starts: &[u16],
-    first: &[u16],
-    next: &[u16],
-    names: &[u8],
-    shapes: usize,
-    named: &[u16],
-    alike: &[u16],
-    inward: &[u16],
-    inalike: &[u16],
-    grid: &mut [u8],
-    queue: &mut [u16],
-) -> Tally
-    requires { BothAsked script.now starts.now first.now next.now names.now shapes
-        named.now alike.now inward.now inalike.now grid.old queue.old }
-    ensures { StrikesLeft script.now names.now shapes
-        grid.old grid.new result.rounds result.struck }
-{
-    let factor = reciprocal(shapes);
-    let mut tail = list_off(grid, queue);
     let mut head = 0;
     let mut last = 0;
-    let mut tally = Tally {
-        rounds: 0,
-        struck: 0,
-    };
-    while head < tail {
-        tally = at_head(tally, head, tail);
-        let q = wide(queue[head]);
-        let m = source_card(script, first, shapes, factor, head + 1 == tail, last, q);
-        tail = strike_needing(
-            script, starts, first, next, names, shapes, named, alike, inward, inalike, m, q, grid,
-            queue, tail,
-        );
+    while head < queue.len {
+        tally.at_head(head, queue.len);
+        let q = queue.at(head);
+        let m = source_card(walk, factor, head + 1 == queue.len, last, q);
+        strike_needing(walk, outgoing, incoming, m, q, grid, queue);
         last = m;
         head += 1;
     }
-    after_round(tally, tail)
+    tally.close_round(queue.len);
+    tally
 }
 
-// Indexes the incoming names too, and strikes rounds both ways.
-fn strike_both(
-    script: &[u16],
-    starts: &[u16],
-    first: &[u16],
-    next: &[u16],
-    names: &[u8],
-    shapes: usize,
-    named: &[u16],
-    alike: &[u16],
-    grid: &mut [u8],
-    queue: &mut [u16],
-) -> Tally
-    requires { BackAsked script.now starts.now first.now next.now names.now shapes
-        named.now alike.now grid.old queue.old }
-    ensures { StrikesLeft script.now names.now shapes
+// Strikes rounds from a grid that has the pairs whose counts fit, until one strikes nothing. The incoming names are
+// indexed where some shape names one.
+pub fn strike_all(walk: &Walk, grid: &mut [u8], queue: &mut Queue) -> Tally
+    requires { StrikeAsked walk.now grid.old }
+    ensures { StrikesLeft walk.now.script.now walk.now.names.now walk.now.shapes
         grid.old grid.new result.rounds result.struck }
 {
-    let mut inward = [0u16; HALF_TABLE];
-    let mut inalike = [0u16; HALF_TABLE];
-    index_names(names, MAX_KINDS, shapes, &mut inward, &mut inalike);
-    strike_rounds_both(
-        script, starts, first, next, names, shapes, named, alike, &inward, &inalike, grid, queue,
-    )
-}
-
-// Strikes rounds from a grid that has the pairs whose counts fit, until one strikes nothing.
-pub fn strike_all(
-    script: &[u16],
-    starts: &[u16],
-    first: &[u16],
-    next: &[u16],
-    names: &[u8],
-    shapes: usize,
-    incoming: bool,
-    grid: &mut [u8],
-    queue: &mut [u16],
-) -> Tally
-    requires { StrikeAsked script.now starts.now first.now next.now names.now shapes incoming
-        grid.old queue.old }
-    ensures { StrikesLeft script.now names.now shapes
-        grid.old grid.new result.rounds result.struck }
-{
-    let mut named = [0u16; HALF_TABLE];
-    let mut alike = [0u16; HALF_TABLE];
-    index_names(names, 0, shapes, &mut named, &mut alike);
-    if incoming {
-        return strike_both(
-            script, starts, first, next, names, shapes, &named, &alike, grid, queue,
-        );
+    let mut outgoing = NameIndex::new(0);
+    index_names(walk.names, walk.shapes, &mut outgoing);
+    list_off(grid, queue);
+    if walk.incoming {
+        let mut incoming = NameIndex::new(MAX_KINDS);
+        index_names(walk.names, walk.shapes, &mut incoming);
+        return strike_rounds(walk, &outgoing, Some(&incoming), grid, queue);
     }
-    strike_rounds(
-        script, first, next, names, shapes, &named, &alike, grid, queue,
-    )
+    strike_rounds(walk, &outgoing, None, grid, queue)
 }

@@ -8,6 +8,7 @@ use mathlib.Core.Path.{◌≡◌, refl, sym, ap, ap₂, ◌∙◌, subst}
 use mathlib.Core.List.{List, [], ◌∷◌}
 use native.Mathlib.Omega.{arith}
 use lib.ListN.{length, replicate}
+use Rattle.std.proofs.Common.{Option, Some, None}
 use Rattle.words.specs.Said.{values, refusal}
 use Rattle.words.specs.Reading.{accepted}
 use Rattle.words.specs.declared.Shape.{Shape}
@@ -25,8 +26,6 @@ use Rattle.typing.specs.Answer.{BothSaid}
 use Rattle.typing.specs.Calls.{LargestFound, SmallestFound, BothFound}
 use Rattle.typing.proofs.Smallest.{PlaceOf, BookedIn, pairs-found, not-met-found}
 use Rattle.typing.proofs.Demand.{both_found}
-use Rattle.closure.specs.declared.Unfit.{Unfit}
-use Rattle.closure.specs.declared.Unfit.TheVariants as unfit
 use Rattle.closure.specs.Closing.{BookedAt, Closes, UnfitFound}
 use Rattle.pairs.specs.Pairs.{SheetTested}
 use Rattle.lent.proofs.KnownSheet.{read}
@@ -101,14 +100,14 @@ module _ {s : Sheet} {script names : List ℕ} {e : Extent} {grid : List ℕ} (t
         (λ r lr h. first.before r lr h))
 
     -- the answer by the verdict on the closure's pairs
-    module _ {after : List ℕ} {v : Unfit} (judged : UnfitFound closure grid e.shapes after v) where
-      pub met-found : v ≡ unfit.Nowhere → SmallestFound s (Booked bookings desk) after (values (found ∷ []))
+    module _ {after : List ℕ} {v : Option (Card × Shape)} (judged : UnfitFound closure grid e.shapes after v) where
+      pub met-found : v ≡ None → SmallestFound s (Booked bookings desk) after (values (found ∷ []))
       met-found h =
           let (same, none) = subst (UnfitFound closure grid e.shapes after) h judged in
           subst (λ (g : List ℕ). SmallestFound s (Booked bookings desk) g (values (found ∷ []))) (sym same)
           (pairs-by none)
 
-      pub unmet-found : {card : Card} {shape : Shape} → v ≡ unfit.At card shape
+      pub unmet-found : {card : Card} {shape : Shape} → v ≡ Some (card, shape)
           → SmallestFound s (Booked bookings desk) after (refusal 50 (card.0 ∷ shape.0 ∷ []))
       unmet-found {card} {shape} h =
           let (same, first, inside, small) =

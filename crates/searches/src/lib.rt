@@ -10,12 +10,14 @@ ghost use Rattle.pairs.specs.Pairs.{SheetTested};
 ghost use Rattle.searches.specs.Searches.{StrikesAsked, SettleAsked};
 
 use bare::count_bare;
-use closure::{Unfit, close, first_unfit};
+use board::Queue;
+use closure::{close, first_unfit};
 use pairs::STARTS;
 use rounds::strike_all;
 use sheet::Extent;
 use typing::{Settled, Struck};
-use words::{MAX_CARDS, MAX_GRID, MAX_LINKS};
+use walks::Walk;
+use words::{MAX_CARDS, MAX_LINKS};
 
 // Strikes rounds from a grid that has the pairs whose counts fit: it then has the largest typing.
 pub fn strike(
@@ -26,16 +28,22 @@ pub fn strike(
     names: &[u8],
     e: Extent,
     grid: &mut [u8],
-    queue: &mut [u16; MAX_GRID],
+    queue: &mut Queue,
 ) -> Struck
     requires { StrikesAsked script.now names.now e starts.now first.now next.now grid.old }
     ensures { (s : Sheet) → SheetTested s script.now names.now e grid.old
         → LargestFound s grid.new (struck_said result) }
 {
-    let shapes = e.shapes as usize;
-    let tally = strike_all(
-        script, starts, first, next, names, shapes, e.incoming, grid, queue,
-    );
+    let walk = Walk {
+        script,
+        starts,
+        first,
+        next,
+        names,
+        shapes: e.shapes as usize,
+        incoming: e.incoming,
+    };
+    let tally = strike_all(&walk, grid, queue);
     let bare = count_bare(script, e, grid);
     Struck {
         rounds: tally.rounds,
@@ -58,32 +66,26 @@ pub fn settle(
     e: Extent,
     fitting: &[u8],
     grid: &mut [u8],
-    queue: &mut [u16; MAX_GRID],
+    queue: &mut Queue,
 ) -> Settled
     requires { SettleAsked script.now names.now e starts.now first.now next.now fitting.now
         bookings.now count grid.old }
     ensures { (s : Sheet) → SheetTested s script.now names.now e fitting.now
         → SmallestFound s (Booked bookings.now desk) grid.new (settled_said result) }
 {
-    let shapes = e.shapes as usize;
-    let found = close(
+    let walk = Walk {
         script,
         starts,
         first,
         next,
-        bookings,
-        count,
-        desk,
         names,
-        e.cards as usize,
-        shapes,
-        e.incoming,
-        grid,
-        queue,
-    );
-    let unfit = first_unfit(grid, fitting, shapes);
+        shapes: e.shapes as usize,
+        incoming: e.incoming,
+    };
+    let found = close(&walk, bookings, count, desk, e.cards as usize, grid, queue);
+    let unfit = first_unfit(grid, fitting, walk.shapes);
     match unfit {
-        Unfit::Nowhere => Ok(found),
-        Unfit::At(card, shape) => Err((card, shape)),
+        None => Ok(found),
+        Some(pair) => Err(pair),
     }
 }

@@ -4,13 +4,20 @@
 -- half_entry    the entry at a place of a half
 -- entry_key     by which a half's places are chained: a kind and the shape named for it; name_keys: how many such keys
 -- Table        a table of names with a row for each shape
+-- no_names     the index of no names yet
 -- NamesAsked   what chaining the places of a half asks
--- NameIndex    the chains of a half's places
+-- IndexOf      the chains of a half's places; WayIndex: of the half of a way
+-- IndexedBy    the indexes of a table
 -- Assumes nothing.
 use Rattle.std.specs.Prelude.{ℕ, ◌+◌, ◌-◌, ◌*◌, ◌/◌, ◌%◌, ◌≤◌, ◌<◌, ◌≡◌, List, cond, length, get_or, eqb}
+use Rattle.std.specs.Prelude.{replicate, Option, MatchOption}
+use Rattle.std.specs.Borrow.{Bor}
 use Rattle.words.specs.Limits.{max_kinds, max_labels, max_shapes}
+use Rattle.words.specs.Chain.{Chained}
+use Rattle.bags.specs.Label.{Way, outgoing, incoming, first_label}
 use Rattle.template.specs.Machine.{entry_at}
-use Rattle.words.specs.Chain.{Chained, Blank}
+use Rattle.sheet.specs.Opened.{OnlyOutgoing}
+use Rattle.strikes.specs.declared.index.NameIndex.{NameIndex}
 
 abbrev pub half_entry : List ℕ → ℕ → ℕ → ℕ
 half_entry names start p = entry_at names (p / max_kinds) (start + p % max_kinds)
@@ -31,16 +38,28 @@ pub record Table (names : List ℕ) (shapes : ℕ) : Type 0 where
   pub rows : shapes * max_labels ≤ length names
   pub entries : (p : ℕ) → p < shapes * max_labels → get_or names p 0 ≤ max_shapes
 
--- What chaining the places of a half asks: the table, and arrays of zeros.
-pub record NamesAsked (names : List ℕ) (start shapes : ℕ) (first next : List ℕ) : Type 0 where
+-- The index of no names yet.
+abbrev pub no_names : ℕ → NameIndex
+no_names start = record { start = start; first = replicate name_keys 0; next = replicate name_keys 0 }
+
+-- What chaining the places of a half asks.
+pub record NamesAsked (names : List ℕ) (shapes : ℕ) (index : NameIndex) : Type 0 where
   pub table : Table names shapes
-  pub half : start ≤ max_kinds
-  pub keys : length first ≡ name_keys
-  pub blank : Blank first next (shapes * max_kinds)
-  pub zeros : (i : ℕ) → i < length next → get_or next i 0 ≡ 0
+  pub half : index.start ≤ max_kinds
+  pub blank : index ≡ no_names index.start
 
 -- The places of a half are chained by their keys.
-pub record NameIndex (names : List ℕ) (start shapes : ℕ) (first next : List ℕ) : Type 0 where
-  pub keys : length first ≡ name_keys
-  pub places : shapes * max_kinds ≤ length next
-  pub chained : Chained (entry_key names start) first next (shapes * max_kinds)
+pub record IndexOf (names : List ℕ) (shapes : ℕ) (index : NameIndex) : Type 0 where
+  pub keys : length index.first ≡ name_keys
+  pub places : shapes * max_kinds ≤ length index.next
+  pub chained : Chained (entry_key names index.start) index.first index.next (shapes * max_kinds)
+
+-- The index is that of the half of a way.
+pub record WayIndex (names : List ℕ) (shapes : ℕ) (way : Way) (index : NameIndex) : Type 0 where
+  pub index-of : IndexOf names shapes index
+  pub half : index.start ≡ first_label way
+
+-- The indexes of a table: of the outgoing names, and of the incoming ones unless there are none.
+pub record IndexedBy (names : List ℕ) (shapes : ℕ) (out : NameIndex) (back : Option (Bor NameIndex)) : Type 0 where
+  pub outward : WayIndex names shapes outgoing out
+  pub inward : MatchOption back (OnlyOutgoing names shapes max_kinds) (λ index. WayIndex names shapes incoming index.now)

@@ -6,5 +6,5 @@
 mod index;
 mod strike;
 
-pub use index::index_names;
-pub use strike::{strike_needing, strike_sources};
+pub use index::{NameIndex, index_names};
+pub use strike::strike_needing;

@@ -1,164 +1,114 @@
 // What is struck by one pair: the pairs that need it, by the links to its card and by those from it.
-ghost use Rattle.std.specs.Prelude.{◌+◌};
-ghost use Rattle.bags.specs.Label.{outgoing, incoming as arriving};
+ghost use Rattle.std.specs.Prelude.{◌+◌, ◌*◌};
+ghost use Rattle.bags.specs.Label.{outgoing as leaving, incoming as arriving};
 ghost use Rattle.board.specs.Work.{work, Swept};
 ghost use Rattle.typing.specs.Needs.{Needs};
 ghost use Rattle.walks.specs.Walks.{Leaving, Arriving};
 ghost use Rattle.strikes.specs.Strikes.{NamedGood, NamedAsked, NeedGood, SourcesAsked, TargetsAsked};
 ghost use Rattle.strikes.specs.Strikes.{NeedingAsked};
 
-use crate::index::name_key;
-use board::strike_one;
+use crate::index::{NameIndex, name_key};
+use board::{Queue, strike_one};
+use walks::Walk;
 use words::{Kind, MAX_KINDS, Shape, wide};
 
-// Strikes the pairs of the card at `base` whose shape names u for the label start + kind.
+// Strikes the pairs of a card whose shape names u for a kind of the index's half. The loop follows a chain: each place
+// has the number of the one before.
 fn strike_named(
-    names: &[u8],
-    start: usize,
-    shapes: usize,
-    named: &[u16],
-    alike: &[u16],
+    walk: &Walk,
+    index: &NameIndex,
     kind: Kind,
-    base: usize,
+    card: usize,
     u: Shape,
     grid: &mut [u8],
-    queue: &mut [u16],
-    tail: usize,
-) -> usize
-    requires { NamedAsked names.now start shapes named.now alike.now kind.0 base u.0
-        (work grid.old queue.old tail) }
-    ensures { Swept (NamedGood names.now shapes (start + kind.0) base u.0)
-        (work grid.old queue.old tail) (work grid.new queue.new result) }
+    queue: &mut Queue,
+)
+    requires { NamedAsked walk.now.names.now walk.now.shapes index.now kind.0 (card * walk.now.shapes) u.0
+        (work grid.old queue.old) }
+    ensures { Swept (NamedGood walk.now.names.now walk.now.shapes (index.now.start + kind.0)
+        (card * walk.now.shapes) u.0)
+        (work grid.old queue.old) (work grid.new queue.new) }
 {
-    let mut end = tail;
+    let base = card * walk.shapes;
     let key = name_key(kind, u);
-    let mut at = wide(named[key]);
+    let mut at = wide(index.first[key]);
     while 0 < at {
         let p = at - 1;
-        end = strike_one(grid, queue, end, base + p / MAX_KINDS);
-        at = wide(alike[p]);
+        strike_one(grid, queue, base + p / MAX_KINDS);
+        at = wide(index.next[p]);
     }
-    end
 }
 
-// Strikes the pairs at the start of a link to card m that need the shape u there, by the chain of these links.
-pub fn strike_sources(
-    script: &[u16],
-    first: &[u16],
-    next: &[u16],
-    names: &[u8],
-    shapes: usize,
-    named: &[u16],
-    alike: &[u16],
+// Strikes the pairs at the start of a link to card m that need the shape u there, by the outgoing names. The loop
+// follows a chain: each link has the number of the one before.
+fn strike_sources(
+    walk: &Walk,
+    index: &NameIndex,
     m: usize,
     u: Shape,
     grid: &mut [u8],
-    queue: &mut [u16],
-    tail: usize,
-) -> usize
-    requires { SourcesAsked script.now first.now next.now names.now shapes named.now alike.now m u.0
-        (work grid.old queue.old tail) }
-    ensures { Swept (Arriving script.now m
-        (NeedGood outgoing script.now names.now shapes u.0))
-        (work grid.old queue.old tail) (work grid.new queue.new result) }
+    queue: &mut Queue,
+)
+    requires { SourcesAsked walk.now index.now m u.0 (work grid.old queue.old) }
+    ensures { Swept (Arriving walk.now.script.now m
+        (NeedGood leaving walk.now.script.now walk.now.names.now walk.now.shapes u.0))
+        (work grid.old queue.old) (work grid.new queue.new) }
 {
-    let mut end = tail;
-    let mut at = wide(first[m]);
+    let script = walk.script;
+    let next = walk.next;
+    let mut at = wide(walk.first[m]);
     while 0 < at {
         let i = at - 1;
         let from = wide(script[2 + 3 * i]);
         let kind = Kind(script[3 + 3 * i]);
-        end = strike_named(
-            names,
-            0,
-            shapes,
-            named,
-            alike,
-            kind,
-            from * shapes,
-            u,
-            grid,
-            queue,
-            end,
-        );
+        strike_named(walk, index, kind, from, u, grid, queue);
         at = wide(next[i]);
     }
-    end
 }
 
-// Strikes the pairs at the end of one of the links lo up to hi, all from one card, that need the shape u there: by
-// their incoming labels.
+// Strikes the pairs at the end of one of the links lo up to hi, all from one card, that need the shape u there: by the
+// incoming names.
 fn strike_targets(
-    script: &[u16],
-    names: &[u8],
-    shapes: usize,
-    named: &[u16],
-    alike: &[u16],
+    walk: &Walk,
+    index: &NameIndex,
     lo: usize,
     hi: usize,
     u: Shape,
     grid: &mut [u8],
-    queue: &mut [u16],
-    tail: usize,
-) -> usize
-    requires { TargetsAsked script.now names.now shapes named.now alike.now lo hi u.0
-        (work grid.old queue.old tail) }
-    ensures { Swept (Leaving (NeedGood arriving script.now names.now shapes u.0) lo hi)
-        (work grid.old queue.old tail) (work grid.new queue.new result) }
+    queue: &mut Queue,
+)
+    requires { TargetsAsked walk.now index.now lo hi u.0 (work grid.old queue.old) }
+    ensures { Swept (Leaving (NeedGood arriving walk.now.script.now walk.now.names.now walk.now.shapes u.0) lo hi)
+        (work grid.old queue.old) (work grid.new queue.new) }
 {
-    let mut end = tail;
-    let mut i = lo;
-    while i < hi {
+    let script = walk.script;
+    for i in lo..hi {
         let kind = Kind(script[3 + 3 * i]);
         let to = wide(script[4 + 3 * i]);
-        end = strike_named(
-            names,
-            MAX_KINDS,
-            shapes,
-            named,
-            alike,
-            kind,
-            to * shapes,
-            u,
-            grid,
-            queue,
-            end,
-        );
-        i += 1;
+        strike_named(walk, index, kind, to, u, grid, queue);
     }
-    end
 }
 
-// Strikes what needs the pair at place q, of card m: by the links to its card, and by those from it.
+// Strikes what needs the pair at place q, of card m: by the links to its card, and, where some shape names an incoming
+// kind, by those from it: there is an index of such names.
 pub fn strike_needing(
-    script: &[u16],
-    starts: &[u16],
-    first: &[u16],
-    next: &[u16],
-    names: &[u8],
-    shapes: usize,
-    named: &[u16],
-    alike: &[u16],
-    inward: &[u16],
-    inalike: &[u16],
+    walk: &Walk,
+    outgoing: &NameIndex,
+    incoming: Option<&NameIndex>,
     m: usize,
     q: usize,
     grid: &mut [u8],
-    queue: &mut [u16],
-    tail: usize,
-) -> usize
-    requires { NeedingAsked script.now starts.now first.now next.now names.now shapes
-        named.now alike.now inward.now inalike.now m q (work grid.old queue.old tail) }
-    ensures { Swept (λ p. Needs script.now names.now shapes p q)
-        (work grid.old queue.old tail) (work grid.new queue.new result) }
+    queue: &mut Queue,
+)
+    requires { NeedingAsked walk.now outgoing.now incoming m q (work grid.old queue.old) }
+    ensures { Swept (λ p. Needs walk.now.script.now walk.now.names.now walk.now.shapes p q)
+        (work grid.old queue.old) (work grid.new queue.new) }
 {
-    let u = Shape((q - m * shapes) as u16);
-    let end = strike_sources(
-        script, first, next, names, shapes, named, alike, m, u, grid, queue, tail,
-    );
-    let lo = wide(starts[m]);
-    let hi = wide(starts[m + 1]);
-    strike_targets(
-        script, names, shapes, inward, inalike, lo, hi, u, grid, queue, end,
-    )
+    let u = Shape((q - m * walk.shapes) as u16);
+    strike_sources(walk, outgoing, m, u, grid, queue);
+    if let Some(index) = incoming {
+        let lo = wide(walk.starts[m]);
+        let hi = wide(walk.starts[m + 1]);
+        strike_targets(walk, index, lo, hi, u, grid, queue);
+    }
 }

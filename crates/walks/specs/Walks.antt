@@ -4,6 +4,7 @@
 -- HasAll       a set has all that is good
 -- LinksReady   what every walk goes by: a script and a table of names, where each card's links stand, and whether those
 --              to a card are looked at
+-- WalkReady    the same of what a search goes by
 -- Assumes nothing.
 use Rattle.std.specs.Prelude.{ℕ, ◌+◌, ◌≤◌, ◌<◌, ◌≡◌, List, Bool, true, false, length, get_or}
 use Rattle.words.specs.Limits.{max_kinds}
@@ -11,6 +12,7 @@ use Rattle.script.specs.Link.{from_at, to_at}
 use Rattle.links.specs.Index.{ArrivalsOf}
 use Rattle.sheet.specs.Opened.{OnlyOutgoing}
 use Rattle.typing.specs.Needs.{Ready}
+use Rattle.walks.specs.declared.walk.Walk.{Walk}
 
 pub record Leaving (Good : ℕ → ℕ → Type 0) (lo hi p : ℕ) : Type 0 where
   pub link : ℕ
@@ -45,3 +47,8 @@ pub record LinksReady (script starts first next names : List ℕ) (shapes : ℕ)
   pub leaving : Starts script starts
   pub arriving : incoming ≡ true → ArrivalsOf script first next (get_or script 0 0) (get_or script 1 0)
   pub ways : incoming ≡ false → OnlyOutgoing names shapes max_kinds
+
+-- The same of what a search goes by.
+abbrev pub WalkReady : Walk → Type 0
+WalkReady walk =
+    LinksReady walk.script.now walk.starts.now walk.first.now walk.next.now walk.names.now walk.shapes walk.incoming

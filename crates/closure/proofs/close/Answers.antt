@@ -10,11 +10,11 @@ use Rattle.closure.proofs.Closures.{closes}
 use Rattle.closure.proofs.close.Goals as goal
 use Rattle.closure.proofs.close.Goals.{After-mark_bookings, Start}
 
-grid-full : (s : Start) → length s.args.grid.now ≡ get_or s.args.script.now 0 0 * s.args.shapes
-grid-full s = s.requires.full ∙ ap (λ (x : ℕ). x * s.args.shapes) s.requires.all-cards
+grid-full : (s : Start) → length s.args.grid.now ≡ get_or s.args.walk.now.script.now 0 0 * s.args.walk.now.shapes
+grid-full s = s.requires.full ∙ ap (λ (x : ℕ). x * s.args.walk.now.shapes) s.requires.all-cards
 
-marked-full : (m : After-mark_bookings) → length m.mark_bookings.new.grid ≡ get_or m.args.script.now 0 0 *
-    m.args.shapes
+marked-full : (m : After-mark_bookings) → length m.mark_bookings.new.grid ≡ get_or m.args.walk.now.script.now 0 0 *
+    m.args.walk.now.shapes
 marked-full m =
     m.mark_bookings.ensures.1 ∙ m.fill.auto.grid ∙ grid-full (goal.at.After-mark_bookings m).Start
 
@@ -29,43 +29,24 @@ mark_bookings-requires c =
       ones = filled c.fill.new.grid (length c.args.grid.now) 1 c.fill.ensures;
     }
 
-pub list_off-booked-requires : goal.list_off-booked-requires
-list_off-booked-requires c =
-    record {
-      few-places = omega (
-        arith,
-        marked-full (goal.at.list_off-booked-requires c).After-mark_bookings,
-        pairs-bound
-            c.requires.links.ready,
-      );
-      room = omega (
-        arith,
-        marked-full (goal.at.list_off-booked-requires c).After-mark_bookings,
-        grid-full
-            (goal.at.list_off-booked-requires c).Start,
-        c.requires.room,
-      );
-    }
+pub list_off-requires : goal.list_off-requires
+list_off-requires c = omega (
+  arith,
+  marked-full (goal.at.list_off-requires c).After-mark_bookings,
+  pairs-bound c.requires.links.ready,
+)
 
-pub flood-found-requires : goal.flood-found-requires
-flood-found-requires c =
+pub flood-requires : goal.flood-requires
+flood-requires c =
     record {
       links = c.requires.links;
-      full = marked-full (goal.at.flood-found-requires c).After-mark_bookings;
-      room = omega (
-        arith,
-        marked-full (goal.at.flood-found-requires c).After-mark_bookings,
-        grid-full
-            (goal.at.flood-found-requires c).Start,
-        c.list_off-booked.auto.queue,
-        c.requires.room,
-      );
-      listed = c.list_off-booked.ensures;
+      full = marked-full (goal.at.flood-requires c).After-mark_bookings;
+      listed = c.list_off.ensures;
     }
 
 pub returns : goal.returns
 returns c =
     closes c.requires.links.ready
     (λ i l. let (card, shape) = c.requires.booked-in i l in (omega (arith, card, c.requires.all-cards), shape))
-    (marked-full (goal.at.returns c).After-mark_bookings) c.mark_bookings.ensures.0 c.flood-found.ensures
+    (marked-full (goal.at.returns c).After-mark_bookings) c.mark_bookings.ensures.0 c.flood.ensures
     c.flip.ensures

@@ -32,14 +32,14 @@ place-low a =
       arith,
       place_here a,
       place_in a.args.cards a.args.shapes (card_at bookings i) (shape_at bookings i) card shape,
-      a.loop-i.invariant.1,
+      a.loop-i.invariant.0,
       a.requires.full,
     )
 
 pub loop-i-init : goal.loop-i-init
 loop-i-init c =
     let bookings = c.args.bookings.now in
-    (omega arith, refl, marked-none bookings c.args.desk c.args.shapes c.args.grid.now c.requires.ones)
+    (refl, marked-none bookings c.args.desk c.args.shapes c.args.grid.now c.requires.ones)
 
 pub desk_at-requires : goal.desk_at-requires
 desk_at-requires c =
@@ -75,11 +75,11 @@ marked-here a place ours is =
       arith,
       is,
       place_in a.args.cards a.args.shapes (card_at bookings i) (shape_at bookings i) card shape,
-      a.loop-i.invariant.1,
+      a.loop-i.invariant.0,
       a.requires.full,
     ) in (
-      length-set a.loop-i.grid place 0 ∙ a.loop-i.invariant.1,
-      marked_more place a.loop-i.invariant.2 ours is low,
+      length-set a.loop-i.grid place 0 ∙ a.loop-i.invariant.0,
+      marked_more place a.loop-i.invariant.1 ours is low,
     )
 
 pub loop-i-preserved : goal.loop-i-preserved
@@ -93,11 +93,10 @@ loop-i-preserved c =
     ∙ ap (λ (n : ℕ). n * c.args.shapes + w.shape_at-shape.result.0) w.card_at-card.ensures
     ∙ ap (λ (t : ℕ). card_at bookings c.loop-i.i * c.args.shapes + t) w.shape_at-shape.ensures in
     let (long, marked) = marked-here a w.pair_place.result ours is in
-    rw w.grid-is (omega arith, long, marked))
+    rw w.grid-is (long, marked))
     (λ w. rw w.grid-is (
-      omega arith,
-      c.loop-i.invariant.1,
-      marked_other c.loop-i.invariant.2 (λ e. absurd (omega (arith, e, c.desk_at.ensures, w.if-desk_at-desk.false))),
+      c.loop-i.invariant.0,
+      marked_other c.loop-i.invariant.1 (λ e. absurd (omega (arith, e, c.desk_at.ensures, w.if-desk_at-desk.false))),
     ))
     c.if-desk_at-desk.branch-raw
 
@@ -106,4 +105,4 @@ returns c =
     let all-bookings : c.loop-i.i ≡ c.args.count = omega arith in
     let MarkedTo : ℕ → Type 0 =
     λ k. Marked c.args.bookings.now c.args.desk c.args.shapes k c.loop-i.grid in
-    (subst MarkedTo all-bookings c.loop-i.invariant.2, c.loop-i.invariant.1)
+    (subst MarkedTo all-bookings c.loop-i.invariant.1, c.loop-i.invariant.0)

@@ -1,14 +1,14 @@
 -- `flood::follow_arriving` walks the chain of the links to a card, and strikes what they lead back to.
 -- Assumes nothing.
 use mathlib.Core.Path.{subst₂, ◌≡◌, ◌∙◌, ap}
-use Prim.Native.Nat.{ℕ, ◌<◌, ◌≤◌, ◌+◌, ◌*◌, ◌-◌}
+use Prim.Native.Nat.{ℕ, ◌<◌, ◌*◌, ◌-◌}
 use native.Mathlib.Omega.{arith}
-use lib.ListN.{length, get_or}
+use lib.ListN.{get_or}
 use Rattle.bags.specs.Label.{incoming}
 use Rattle.script.specs.Link.{from_at, kind_at, to_at}
 use Rattle.words.specs.Chain.{last_at}
 use Rattle.board.specs.Work.{work, Swept}
-use Rattle.board.proofs.Worklist.{swept-grid, swept-queue, swept-room}
+use Rattle.board.proofs.Worklist.{swept-grid, swept-room}
 use Rattle.walks.specs.Entries.{EntryGood, LedGood}
 use Rattle.walks.proofs.Needs.{from-word, kind-word}
 use Rattle.walks.proofs.Walks.{walk_start, walk-in, walk-less, walk-next, walk-done, arriving-swept}
@@ -18,35 +18,31 @@ use Rattle.flood.proofs.follow_arriving.Goals.{Start}
 
 -- what a link makes good
 abbrev Good : Start → ℕ → ℕ → Type 0
-Good s = LedGood incoming s.args.script.now s.args.row.now s.args.shapes
+Good s = LedGood incoming s.args.walk.now.script.now s.args.row.now s.args.walk.now.shapes
 
 -- the link that a turn looks at, and its words
-link-in : (c : In-loop-at) → c.loop-at.at - 1 < get_or c.args.script.now 1 0
+link-in : (c : In-loop-at) → c.loop-at.at - 1 < get_or c.args.walk.now.script.now 1 0
 link-in c = walk-in c.loop-at.invariant c.loop-at-test.true
 
-words-in : (c : In-loop-at)
-    → 5 + 3 * (c.loop-at.at - 1) ≤ length c.args.script.now
-words-in c = omega (arith, link-in c, c.requires.row_in.words)
-
 -- the card that it starts at and its kind, as they are read
-from_is : (a : After-wide-from) → a.wide-from.result ≡ from_at a.args.script.now (a.loop-at.at - 1)
+from_is : (a : After-wide-from) → a.wide-from.result ≡ from_at a.args.walk.now.script.now (a.loop-at.at - 1)
 from_is a =
-    a.wide-from.ensures.same ∙ from-word a.args.script.now (a.loop-at.at - 1)
+    a.wide-from.ensures.same ∙ from-word a.args.walk.now.script.now (a.loop-at.at - 1)
 
-kind-is : (a : After-wide-kind) → a.wide-kind.result ≡ kind_at a.args.script.now (a.loop-at.at - 1)
+kind-is : (a : After-wide-kind) → a.wide-kind.result ≡ kind_at a.args.walk.now.script.now (a.loop-at.at - 1)
 kind-is a =
-    a.wide-kind.ensures.same ∙ kind-word a.args.script.now (a.loop-at.at - 1)
+    a.wide-kind.ensures.same ∙ kind-word a.args.walk.now.script.now (a.loop-at.at - 1)
 
 -- so what the entry read names is what the link leads back to
 led : (a : After-wide-kind) → (p : ℕ) → EntryGood (get_or a.args.row.now a.wide-kind.result 0) (a.wide-from.result
-    * a.args.shapes) p
+    * a.args.walk.now.shapes) p
     → Good (goal.at.After-wide-kind a).Start (a.loop-at.at - 1) p
 led a p g =
     subst₂ (λ (k base : ℕ). EntryGood (get_or a.args.row.now k 0) base p) (kind-is a)
-    (ap (λ (x : ℕ). x * a.args.shapes) (from_is (goal.at.After-wide-kind a).After-wide-from)) g
+    (ap (λ (x : ℕ). x * a.args.walk.now.shapes) (from_is (goal.at.After-wide-kind a).After-wide-from)) g
 
 -- the next link of the chain
-next-is : (c : After-wide-at-in-loop-at) → let to = to_at c.args.script.now in
+next-is : (c : After-wide-at-in-loop-at) → let to = to_at c.args.walk.now.script.now in
     c.wide-at-in-loop-at.result ≡ last_at to (to (c.loop-at.at - 1)) (c.loop-at.at - 1)
 next-is c =
     c.wide-at-in-loop-at.ensures.same ∙ c.requires.arrivals.chained.nexts (c.loop-at.at - 1) (link-in
@@ -56,43 +52,6 @@ pub loop-at-init : goal.loop-at-init
 loop-at-init c =
     walk_start (c.wide-at.ensures.same
     ∙ c.requires.arrivals.chained.heads c.args.m (omega (arith, c.requires.arrivals.cards-in)))
-
-pub overflow_mul-i : goal.overflow_mul-i
-overflow_mul-i c = omega (arith, link-in c, c.requires.row_in.few-links)
-
-pub overflow_add-i : goal.overflow_add-i
-overflow_add-i c = omega (arith, link-in c, c.requires.row_in.few-links)
-
-pub offset_bounds-script-i : goal.offset_bounds-script-i
-offset_bounds-script-i c = omega (arith, link-in c, c.requires.row_in.few-links)
-
-pub bounds-script-i : goal.bounds-script-i
-bounds-script-i c = omega (arith, words-in (goal.at.bounds-script-i c).In-loop-at)
-
-pub overflow_mul-i-in-loop-at : goal.overflow_mul-i-in-loop-at
-overflow_mul-i-in-loop-at c = omega (
-  arith,
-  link-in (goal.at.overflow_mul-i-in-loop-at c).In-loop-at,
-  c.requires.row_in.few-links,
-)
-
-pub overflow_add-i-in-loop-at : goal.overflow_add-i-in-loop-at
-overflow_add-i-in-loop-at c = omega (
-  arith,
-  link-in (goal.at.overflow_add-i-in-loop-at c).In-loop-at,
-  c.requires.row_in.few-links,
-)
-
-pub offset_bounds-script-i-in-loop-at : goal.offset_bounds-script-i-in-loop-at
-offset_bounds-script-i-in-loop-at c = omega (
-  arith,
-  link-in (goal.at.offset_bounds-script-i-in-loop-at
-      c).In-loop-at,
-  c.requires.row_in.few-links,
-)
-
-pub bounds-script-i-in-loop-at : goal.bounds-script-i-in-loop-at
-bounds-script-i-in-loop-at c = omega (arith, words-in (goal.at.bounds-script-i-in-loop-at c).In-loop-at)
 
 pub bounds-row-kind : goal.bounds-row-kind
 bounds-row-kind c =
@@ -108,33 +67,25 @@ overflow_mul-from c =
     let base = c.requires.row_in.cards (c.loop-at.at - 1) (link-in (goal.at.overflow_mul-from c).In-loop-at) in
     omega (
       arith,
-      ap (λ (x : ℕ). x * c.args.shapes) (from_is (goal.at.overflow_mul-from c).After-wide-from),
+      ap (λ (x : ℕ). x * c.args.walk.now.shapes) (from_is (goal.at.overflow_mul-from c).After-wide-from),
       base,
       c.requires.row_in.few-places,
     )
 
-pub strike_entry-end-requires : goal.strike_entry-end-requires
-strike_entry-end-requires c =
+pub strike_entry-requires : goal.strike_entry-requires
+strike_entry-requires c =
     let so_far = c.loop-at.invariant.swept in
     let row = c.requires.row_in in
     record {
       few-places = omega (arith, swept-grid so_far, row.few-places);
       on-board = λ p g. omega (
         arith,
-        row.led (c.loop-at.at - 1) p (link-in (goal.at.strike_entry-end-requires
-            c).In-loop-at) (led (goal.at.strike_entry-end-requires c).After-wide-kind p g),
+        row.led (c.loop-at.at - 1) p (link-in (goal.at.strike_entry-requires
+            c).In-loop-at) (led (goal.at.strike_entry-requires c).After-wide-kind p g),
         swept-grid so_far,
       );
       room = swept-room so_far (λ p g. row.led g.number p g.below g.good) c.requires.room;
     }
-
-pub offset_bounds-next-i : goal.offset_bounds-next-i
-offset_bounds-next-i c =
-    omega (arith, link-in (goal.at.offset_bounds-next-i c).In-loop-at, c.requires.row_in.few-links)
-
-pub bounds-next-i : goal.bounds-next-i
-bounds-next-i c =
-    omega (arith, link-in (goal.at.bounds-next-i c).In-loop-at, c.requires.arrivals.links-in)
 
 pub loop-at-smaller : goal.loop-at-smaller
 loop-at-smaller c =
@@ -142,19 +93,13 @@ loop-at-smaller c =
 
 pub loop-at-preserved : goal.loop-at-preserved
 loop-at-preserved c =
-    let w = work c.loop-at.grid c.loop-at.queue c.loop-at.end in
-    let v = work c.strike_entry-end.new.grid c.strike_entry-end.new.queue c.strike_entry-end.result in
+    let w = work c.loop-at.grid c.loop-at.queue in
+    let v = work c.strike_entry.new.grid c.strike_entry.new.queue in
     walk-next c.loop-at.invariant c.loop-at-test.true (next-is c)
     (subst₂ (λ (k base : ℕ). Swept (EntryGood (get_or c.args.row.now k 0) base) w v) (kind-is
     (goal.at.loop-at-preserved c).After-wide-kind)
-    (ap (λ (x : ℕ). x * c.args.shapes) (from_is (goal.at.loop-at-preserved c).After-wide-from))
-    c.strike_entry-end.ensures)
-
-pub shape_of-grid : goal.shape_of-grid
-shape_of-grid c = swept-grid c.loop-at.invariant.swept
-
-pub shape_of-queue : goal.shape_of-queue
-shape_of-queue c = swept-queue c.loop-at.invariant.swept
+    (ap (λ (x : ℕ). x * c.args.walk.now.shapes) (from_is (goal.at.loop-at-preserved c).After-wide-from))
+    c.strike_entry.ensures)
 
 pub returns : goal.returns
 returns c = arriving-swept (walk-done c.loop-at.invariant (omega (arith, c.loop-at-test.false)))

@@ -7,7 +7,7 @@ use lib.ListN.{length, get_or}
 use Rattle.bags.specs.Label.{outgoing}
 use Rattle.script.specs.Link.{kind_at, to_at}
 use Rattle.board.specs.Work.{work, Swept}
-use Rattle.board.proofs.Worklist.{swept-grid, swept-queue, swept-room}
+use Rattle.board.proofs.Worklist.{swept-grid, swept-room}
 use Rattle.walks.specs.Walks.{Leaving}
 use Rattle.walks.specs.Entries.{EntryGood, LedGood}
 use Rattle.walks.proofs.Needs.{kind-word, to_word}
@@ -17,29 +17,29 @@ use Rattle.flood.proofs.follow_leaving.Goals.{After-wide-kind, After-wide-to, At
 
 -- what a link makes good
 abbrev Good : Start → ℕ → ℕ → Type 0
-Good s = LedGood outgoing s.args.script.now s.args.row.now s.args.shapes
+Good s = LedGood outgoing s.args.walk.now.script.now s.args.row.now s.args.walk.now.shapes
 
 -- the link that a turn looks at is one of the script's
-link-in : (c : In-loop-i) → c.loop-i.i < get_or c.args.script.now 1 0
+link-in : (c : In-loop-i) → c.loop-i.i < get_or c.args.walk.now.script.now 1 0
 link-in c = omega (arith, c.loop-i-test.true, c.requires.links-in)
 
 -- its kind and the card that it leads to, as they are read
-kind-is : (a : After-wide-kind) → a.wide-kind.result ≡ kind_at a.args.script.now a.loop-i.i
+kind-is : (a : After-wide-kind) → a.wide-kind.result ≡ kind_at a.args.walk.now.script.now a.loop-i.i
 kind-is a =
-    a.wide-kind.ensures.same ∙ kind-word a.args.script.now a.loop-i.i
+    a.wide-kind.ensures.same ∙ kind-word a.args.walk.now.script.now a.loop-i.i
 
-to_is : (a : After-wide-to) → a.wide-to.result ≡ to_at a.args.script.now a.loop-i.i
+to_is : (a : After-wide-to) → a.wide-to.result ≡ to_at a.args.walk.now.script.now a.loop-i.i
 to_is a =
-    a.wide-to.ensures.same ∙ to_word a.args.script.now a.loop-i.i
+    a.wide-to.ensures.same ∙ to_word a.args.walk.now.script.now a.loop-i.i
 
 -- so what the entry read names is what the link leads to
 led : (a : After-wide-to) → (p : ℕ) → EntryGood (get_or a.args.row.now a.wide-kind.result 0) (a.wide-to.result *
-    a.args.shapes) p
+    a.args.walk.now.shapes) p
     → Good (goal.at.After-wide-to a).Start a.loop-i.i p
 led a p g =
     subst₂ (λ (k base : ℕ). EntryGood (get_or a.args.row.now k 0) base p) (kind-is (goal.at.After-wide-to
     a).After-wide-kind)
-    (ap (λ (x : ℕ). x * a.args.shapes) (to_is a)) g
+    (ap (λ (x : ℕ). x * a.args.walk.now.shapes) (to_is a)) g
 
 -- what links below hi make good is on the board
 good-in : (l : At-loop-i) → (i : ℕ) → i ≤ l.args.hi
@@ -64,50 +64,44 @@ overflow_mul-to c =
     let base = c.requires.row_in.cards c.loop-i.i (link-in (goal.at.overflow_mul-to c).In-loop-i) in
     omega (
       arith,
-      ap (λ (x : ℕ). x * c.args.shapes) (to_is (goal.at.overflow_mul-to c).After-wide-to),
+      ap (λ (x : ℕ). x * c.args.walk.now.shapes) (to_is (goal.at.overflow_mul-to c).After-wide-to),
       base,
       c.requires.row_in.few-places,
     )
 
-pub strike_entry-end-requires : goal.strike_entry-end-requires
-strike_entry-end-requires c =
+pub strike_entry-requires : goal.strike_entry-requires
+strike_entry-requires c =
     let so_far = c.loop-i.invariant.2 in
     let row = c.requires.row_in in
     record {
       few-places = omega (arith, swept-grid so_far, row.few-places);
       on-board = λ p g. omega (
         arith,
-        row.led c.loop-i.i p (link-in (goal.at.strike_entry-end-requires
-            c).In-loop-i) (led (goal.at.strike_entry-end-requires c).After-wide-to p g),
+        row.led c.loop-i.i p (link-in (goal.at.strike_entry-requires
+            c).In-loop-i) (led (goal.at.strike_entry-requires c).After-wide-to p g),
         swept-grid so_far,
       );
-      room = swept-room so_far (good-in (goal.at.strike_entry-end-requires c).At-loop-i c.loop-i.i
+      room = swept-room so_far (good-in (goal.at.strike_entry-requires c).At-loop-i c.loop-i.i
           c.loop-i.invariant.1) c.requires.room;
     }
 
 pub loop-i-preserved : goal.loop-i-preserved
 loop-i-preserved c =
-    let w = work c.loop-i.grid c.loop-i.queue c.loop-i.end in
-    let v = work c.strike_entry-end.new.grid c.strike_entry-end.new.queue c.strike_entry-end.result in (
+    let w = work c.loop-i.grid c.loop-i.queue in
+    let v = work c.strike_entry.new.grid c.strike_entry.new.queue in (
       omega arith,
       omega (arith, c.loop-i-test.true),
       leaving-more c.loop-i.invariant.0 c.loop-i.invariant.2
           (subst₂ (λ (k base : ℕ). Swept (EntryGood (get_or c.args.row.now k 0) base) w v) (kind-is
           (goal.at.loop-i-preserved c).After-wide-kind)
-          (ap (λ (x : ℕ). x * c.args.shapes) (to_is (goal.at.loop-i-preserved c).After-wide-to))
-          c.strike_entry-end.ensures),
+          (ap (λ (x : ℕ). x * c.args.walk.now.shapes) (to_is (goal.at.loop-i-preserved c).After-wide-to))
+          c.strike_entry.ensures),
     )
-
-pub shape_of-grid : goal.shape_of-grid
-shape_of-grid c = swept-grid c.loop-i.invariant.2
-
-pub shape_of-queue : goal.shape_of-queue
-shape_of-queue c = swept-queue c.loop-i.invariant.2
 
 pub returns : goal.returns
 returns c =
-    let before = work c.args.grid.now c.args.queue.now c.args.tail in
-    let after = work c.loop-i.grid c.loop-i.queue c.loop-i.end in
+    let before = work c.args.grid.now c.args.queue.now in
+    let after = work c.loop-i.grid c.loop-i.queue in
     let all-links : c.loop-i.i ≡ c.args.hi = omega arith in
     subst (λ (hi : ℕ). Swept (Leaving (Good (goal.at.returns c).Start) c.args.lo hi) before after) all-links
     c.loop-i.invariant.2

@@ -8,205 +8,122 @@ use Rattle.words.specs.Limits.{max_kinds, max_labels}
 use Rattle.words.proofs.Places.{card-in, shape-in}
 use Rattle.bags.specs.Label.{outgoing, incoming}
 use Rattle.board.proofs.Worklist.{swept-grid, swept-room}
-use Rattle.typing.proofs.Boards.{pairs-bound}
 use Rattle.walks.specs.Walks.{Leaving}
 use Rattle.walks.specs.Entries.{LedGood}
-use Rattle.walks.proofs.Cards.{card-low, shape-left}
+use Rattle.walks.proofs.Cards.{shape-left}
 use Rattle.walks.proofs.Walks.{arriving-same}
 use Rattle.walks.proofs.Needs.{Half, half-row, row-asked, range-rising, range-in, arrivals-at}
 use Rattle.walks.proofs.Following.{followed-out, followed-both}
 use Rattle.flood.proofs.follow_pair.Goals as goal
-use Rattle.flood.proofs.follow_pair.Goals.{After-follow_leaving-end, After-wide-hi, Start}
+use Rattle.flood.proofs.follow_pair.Goals.{After-follow_leaving, After-wide-hi, Start}
 
 -- the pair is one of the sheet, so its card and shape are the sheet's, and the shape's row is in the table
-pair_is : (s : Start) → s.args.q < get_or s.args.script.now 0 0 * s.args.shapes
+pair_is : (s : Start) → s.args.q < get_or s.args.walk.now.script.now 0 0 * s.args.walk.now.shapes
 pair_is s = omega (arith, s.requires.on-board, s.requires.full)
 
-card-is : (s : Start) → s.args.q / s.args.shapes < get_or s.args.script.now 0 0
+card-is : (s : Start) → s.args.q / s.args.walk.now.shapes < get_or s.args.walk.now.script.now 0 0
 card-is s =
-    card-in s.args.shapes s.requires.links.ready.one-shape (get_or s.args.script.now 0 0) s.args.q
+    card-in s.args.walk.now.shapes s.requires.links.ready.one-shape (get_or s.args.walk.now.script.now 0 0) s.args.q
     (pair_is s)
 
-shape_is : (s : Start) → s.args.q % s.args.shapes < s.args.shapes
-shape_is s = shape-in s.args.shapes s.requires.links.ready.one-shape s.args.q
+shape_is : (s : Start) → s.args.q % s.args.walk.now.shapes < s.args.walk.now.shapes
+shape_is s = shape-in s.args.walk.now.shapes s.requires.links.ready.one-shape s.args.q
 
 -- the card that is given is its card, and what is left of the place its shape
-left_is : (s : Start) → s.args.q - s.args.n * s.args.shapes ≡ s.args.q % s.args.shapes
-left_is s = shape-left s.args.shapes s.args.q s.requires.links.ready.one-shape s.requires.card
+left_is : (s : Start) → s.args.q - s.args.n * s.args.walk.now.shapes ≡ s.args.q % s.args.walk.now.shapes
+left_is s = shape-left s.args.walk.now.shapes s.args.q s.requires.links.ready.one-shape s.requires.card
 
-given-room : (s : Start) → s.args.n * s.args.shapes ≤ s.args.q
-given-room s = card-low s.args.shapes s.args.q s.requires.links.ready.one-shape s.requires.card
-
-given-in : (s : Start) → s.args.n < get_or s.args.script.now 0 0
+given-in : (s : Start) → s.args.n < get_or s.args.walk.now.script.now 0 0
 given-in s = omega (arith, card-is s, s.requires.card)
 
 base-is : (s : Start)
-    → (s.args.q - s.args.n * s.args.shapes) * max_labels ≡ s.args.q % s.args.shapes * max_labels
+    → (s.args.q - s.args.n * s.args.walk.now.shapes) * max_labels ≡ s.args.q % s.args.walk.now.shapes * max_labels
 base-is s = ap (λ (x : ℕ). x * max_labels) (left_is s)
 
-row_in : (s : Start) → s.args.q % s.args.shapes * max_labels + max_labels ≤ length s.args.names.now
+row_in : (s : Start) → s.args.q % s.args.walk.now.shapes * max_labels + max_labels ≤ length s.args.walk.now.names.now
 row_in s = omega (arith, shape_is s, s.requires.links.ready.table)
 
 -- where the card's links start and end
-low : (h : After-wide-hi) → h.wide-lo.result ≡ get_or h.args.starts.now (h.args.q / h.args.shapes) 0
-low h = h.wide-lo.ensures.same ∙ ap (λ (x : ℕ). get_or h.args.starts.now x 0) h.requires.card
+low : (h : After-wide-hi) → h.wide-lo.result ≡ get_or h.args.walk.now.starts.now (h.args.q / h.args.walk.now.shapes) 0
+low h = h.wide-lo.ensures.same ∙ ap (λ (x : ℕ). get_or h.args.walk.now.starts.now x 0) h.requires.card
 
-high : (h : After-wide-hi) → h.wide-hi.result ≡ get_or h.args.starts.now (h.args.q / h.args.shapes + 1) 0
-high h = h.wide-hi.ensures.same ∙ ap (λ (x : ℕ). get_or h.args.starts.now (x + 1) 0) h.requires.card
+high : (h : After-wide-hi) → h.wide-hi.result ≡ get_or h.args.walk.now.starts.now (h.args.q / h.args.walk.now.shapes + 1) 0
+high h = h.wide-hi.ensures.same ∙ ap (λ (x : ℕ). get_or h.args.walk.now.starts.now (x + 1) 0) h.requires.card
 
 -- the two halves of the row
-out-half : (s : Start) (base : ℕ) → base ≡ s.args.q % s.args.shapes * max_labels
-    → Half s.args.names.now (s.args.q % s.args.shapes) outgoing
-    (take (base + max_kinds - base) (drop base s.args.names.now))
+out-half : (s : Start) (base : ℕ) → base ≡ s.args.q % s.args.walk.now.shapes * max_labels
+    → Half s.args.walk.now.names.now (s.args.q % s.args.walk.now.shapes) outgoing
+    (take (base + max_kinds - base) (drop base s.args.walk.now.names.now))
 out-half s base e =
-    half-row s.args.names.now (s.args.q % s.args.shapes) outgoing base (base + max_kinds - base)
+    half-row s.args.walk.now.names.now (s.args.q % s.args.walk.now.shapes) outgoing base (base + max_kinds - base)
     (omega arith) (omega arith) (omega (arith, row_in s))
 
-back-half : (s : Start) (base : ℕ) → base ≡ s.args.q % s.args.shapes * max_labels + max_kinds
-    → Half s.args.names.now (s.args.q % s.args.shapes) incoming
-    (take (base + max_kinds - base) (drop base s.args.names.now))
+back-half : (s : Start) (base : ℕ) → base ≡ s.args.q % s.args.walk.now.shapes * max_labels + max_kinds
+    → Half s.args.walk.now.names.now (s.args.q % s.args.walk.now.shapes) incoming
+    (take (base + max_kinds - base) (drop base s.args.walk.now.names.now))
 back-half s base e =
-    half-row s.args.names.now (s.args.q % s.args.shapes) incoming base (base + max_kinds - base)
+    half-row s.args.walk.now.names.now (s.args.q % s.args.walk.now.shapes) incoming base (base + max_kinds - base)
     (omega arith) (omega arith) (omega (arith, row_in s))
 
 -- what the links from the card lead to is on the board
-out-in : (a : After-follow_leaving-end) → let base = (a.args.q - a.args.n * a.args.shapes) * max_labels in
-    let row = take (base + max_kinds - base) (drop base a.args.names.now) in
-    (p : ℕ) → Leaving (LedGood outgoing a.args.script.now row a.args.shapes)
+out-in : (a : After-follow_leaving) → let base = (a.args.q - a.args.n * a.args.walk.now.shapes) * max_labels in
+    let row = take (base + max_kinds - base) (drop base a.args.walk.now.names.now) in
+    (p : ℕ) → Leaving (LedGood outgoing a.args.walk.now.script.now row a.args.walk.now.shapes)
     a.wide-lo.result a.wide-hi.result p → p < length a.args.grid.now
 out-in a p g =
     let links = a.requires.links in
-    (row-asked links.ready (shape_is (goal.at.After-follow_leaving-end a).Start) (out-half
-    (goal.at.After-follow_leaving-end a).Start _ (base-is (goal.at.After-follow_leaving-end a).Start))
+    (row-asked links.ready (shape_is (goal.at.After-follow_leaving a).Start) (out-half
+    (goal.at.After-follow_leaving a).Start _ (base-is (goal.at.After-follow_leaving a).Start))
     a.requires.full).led g.link p
     (omega (
       arith,
       g.high,
-      range-in links.leaving (card-is (goal.at.After-follow_leaving-end a).Start) (low
-          (goal.at.After-follow_leaving-end a).After-wide-hi) (high (goal.at.After-follow_leaving-end
+      range-in links.leaving (card-is (goal.at.After-follow_leaving a).Start) (low
+          (goal.at.After-follow_leaving a).After-wide-hi) (high (goal.at.After-follow_leaving
           a).After-wide-hi),
     )) g.good
 
-pub overflow_mul-base : goal.overflow_mul-base
-overflow_mul-base c = omega (
-  arith,
-  given-room (goal.at.overflow_mul-base c).Start,
-  pair_is
-      (goal.at.overflow_mul-base c).Start,
-  pairs-bound c.requires.links.ready,
-)
-
-pub overflow_sub-base : goal.overflow_sub-base
-overflow_sub-base c = omega (arith, given-room (goal.at.overflow_sub-base c).Start)
-
-pub overflow_mul-base-2 : goal.overflow_mul-base-2
-overflow_mul-base-2 c =
-    omega (
-      arith,
-      base-is (goal.at.overflow_mul-base-2 c).Start,
-      c.requires.links.ready.few-shapes,
-      shape_is
-          (goal.at.overflow_mul-base-2 c).Start,
-    )
-
-pub overflow_add-half : goal.overflow_add-half
-overflow_add-half c =
-    omega (
-      arith,
-      base-is (goal.at.overflow_add-half c).Start,
-      c.requires.links.ready.few-shapes,
-      shape_is
-          (goal.at.overflow_add-half c).Start,
-    )
-
-pub offset_bounds-starts-n : goal.offset_bounds-starts-n
-offset_bounds-starts-n c = omega (
-  arith,
-  given-in (goal.at.offset_bounds-starts-n c).Start,
-  c.requires.links.ready.few-cards,
-)
-
-pub bounds-starts-n : goal.bounds-starts-n
-bounds-starts-n c =
-    omega (arith, given-in (goal.at.bounds-starts-n c).Start, c.requires.links.leaving.cards)
-
-pub overflow_add-n : goal.overflow_add-n
-overflow_add-n c = omega (arith, given-in (goal.at.overflow_add-n c).Start, c.requires.links.ready.few-cards)
-
-pub offset_bounds-starts-n-2 : goal.offset_bounds-starts-n-2
-offset_bounds-starts-n-2 c = omega (
-  arith,
-  given-in (goal.at.offset_bounds-starts-n-2 c).Start,
-  c.requires.links.ready.few-cards,
-)
-
-pub bounds-starts-n-2 : goal.bounds-starts-n-2
-bounds-starts-n-2 c =
-    omega (arith, given-in (goal.at.bounds-starts-n-2 c).Start, c.requires.links.leaving.cards)
-
-pub slice_bounds-follow_leaving-end : goal.slice_bounds-follow_leaving-end
-slice_bounds-follow_leaving-end c = omega (
-  arith,
-  row_in (goal.at.slice_bounds-follow_leaving-end c).Start,
-  base-is
-      (goal.at.slice_bounds-follow_leaving-end c).Start,
-)
-
-pub follow_leaving-end-requires : goal.follow_leaving-end-requires
-follow_leaving-end-requires c =
+pub follow_leaving-requires : goal.follow_leaving-requires
+follow_leaving-requires c =
     let links = c.requires.links in
     record {
-      row_in = row-asked links.ready (shape_is (goal.at.follow_leaving-end-requires c).Start) (out-half
-          (goal.at.follow_leaving-end-requires c).Start _ (base-is (goal.at.follow_leaving-end-requires c).Start))
+      row_in = row-asked links.ready (shape_is (goal.at.follow_leaving-requires c).Start) (out-half
+          (goal.at.follow_leaving-requires c).Start _ (base-is (goal.at.follow_leaving-requires c).Start))
           c.requires.full;
-      rising = range-rising links.leaving (card-is (goal.at.follow_leaving-end-requires c).Start) (low
-          (goal.at.follow_leaving-end-requires c).After-wide-hi) (high (goal.at.follow_leaving-end-requires
+      rising = range-rising links.leaving (card-is (goal.at.follow_leaving-requires c).Start) (low
+          (goal.at.follow_leaving-requires c).After-wide-hi) (high (goal.at.follow_leaving-requires
           c).After-wide-hi);
-      links-in = range-in links.leaving (card-is (goal.at.follow_leaving-end-requires c).Start) (low
-          (goal.at.follow_leaving-end-requires c).After-wide-hi) (high (goal.at.follow_leaving-end-requires
+      links-in = range-in links.leaving (card-is (goal.at.follow_leaving-requires c).Start) (low
+          (goal.at.follow_leaving-requires c).After-wide-hi) (high (goal.at.follow_leaving-requires
           c).After-wide-hi);
       room = c.requires.room;
     }
 
-pub overflow_add-row : goal.overflow_add-row
-overflow_add-row c =
-    omega (
-      arith,
-      base-is (goal.at.overflow_add-row c).Start,
-      c.requires.links.ready.few-shapes,
-      shape_is
-          (goal.at.overflow_add-row c).Start,
-    )
-
-pub slice_bounds-row-end : goal.slice_bounds-row-end
-slice_bounds-row-end c =
-    omega (arith, base-is (goal.at.slice_bounds-row-end c).Start, row_in (goal.at.slice_bounds-row-end c).Start)
-
 pub follow_arriving-requires : goal.follow_arriving-requires
 follow_arriving-requires c =
     let links = c.requires.links in
-    let full = swept-grid c.follow_leaving-end.ensures ∙ c.requires.full in
+    let full = swept-grid c.follow_leaving.ensures ∙ c.requires.full in
     record {
       row_in = row-asked links.ready (shape_is (goal.at.follow_arriving-requires c).Start) (back-half
           (goal.at.follow_arriving-requires c).Start _ (ap (λ (x : ℕ). x + max_kinds) (base-is
           (goal.at.follow_arriving-requires c).Start))) full;
-      arrivals = arrivals-at (links.arriving c.if-incoming.true) (given-in (goal.at.follow_arriving-requires c).Start);
-      room = swept-room c.follow_leaving-end.ensures (out-in (goal.at.follow_arriving-requires
-          c).After-follow_leaving-end) c.requires.room;
+      arrivals = arrivals-at (links.arriving c.if-walk.true) (given-in (goal.at.follow_arriving-requires c).Start);
+      room = swept-room c.follow_leaving.ensures (out-in (goal.at.follow_arriving-requires
+          c).After-follow_leaving) c.requires.room;
     }
 
-pub returns-then-incoming : goal.returns-then-incoming
-returns-then-incoming c =
-    followed-both c.requires.links.ready c.requires.links.leaving (pair_is (goal.at.returns-then-incoming c).Start)
-    (low (goal.at.returns-then-incoming c).After-wide-hi) (high (goal.at.returns-then-incoming c).After-wide-hi)
-    (out-half (goal.at.returns-then-incoming c).Start _ (base-is (goal.at.returns-then-incoming c).Start))
-    (back-half (goal.at.returns-then-incoming c).Start _ (ap (λ (x : ℕ). x + max_kinds) (base-is
-    (goal.at.returns-then-incoming c).Start))) c.follow_leaving-end.ensures
+pub returns-then-walk : goal.returns-then-walk
+returns-then-walk c =
+    followed-both c.requires.links.ready c.requires.links.leaving (pair_is (goal.at.returns-then-walk c).Start)
+    (low (goal.at.returns-then-walk c).After-wide-hi) (high (goal.at.returns-then-walk c).After-wide-hi)
+    (out-half (goal.at.returns-then-walk c).Start _ (base-is (goal.at.returns-then-walk c).Start))
+    (back-half (goal.at.returns-then-walk c).Start _ (ap (λ (x : ℕ). x + max_kinds) (base-is
+    (goal.at.returns-then-walk c).Start))) c.follow_leaving.ensures
     (arriving-same c.requires.card c.follow_arriving.ensures)
 
-pub returns : goal.returns
-returns c =
-    followed-out c.requires.links.ready c.requires.links.leaving (pair_is (goal.at.returns c).Start) (low
-    (goal.at.returns c).After-wide-hi) (high (goal.at.returns c).After-wide-hi) (out-half (goal.at.returns
-    c).Start _ (base-is (goal.at.returns c).Start))
-    (c.requires.links.ways c.if-incoming.false) c.follow_leaving-end.ensures
+pub returns-else-walk : goal.returns-else-walk
+returns-else-walk c =
+    followed-out c.requires.links.ready c.requires.links.leaving (pair_is (goal.at.returns-else-walk c).Start) (low
+    (goal.at.returns-else-walk c).After-wide-hi) (high (goal.at.returns-else-walk c).After-wide-hi) (out-half (goal.at.returns-else-walk
+    c).Start _ (base-is (goal.at.returns-else-walk c).Start))
+    (c.requires.links.ways c.if-walk.false) c.follow_leaving.ensures

@@ -9,36 +9,36 @@ use Rattle.walks.specs.Entries.{EntryGood}
 use Rattle.walks.proofs.Entries.{none_named, one-named, only-named}
 use Rattle.walks.proofs.Walks.{swept-strike}
 use Rattle.flood.proofs.strike_entry.Goals as goal
-use Rattle.flood.proofs.strike_entry.Goals.{Else-number-eq0}
+use Rattle.flood.proofs.strike_entry.Goals.{Then-number-ne0}
 
 -- the pair that is struck is on the board
-place_in : (c : Else-number-eq0) → c.args.base + (c.byte-number.result - 1) < length c.args.grid.now
+place_in : (c : Then-number-ne0) → c.args.base + (c.byte-number.result - 1) < length c.args.grid.now
 place_in c =
-    c.requires.on-board _ (one-named c.byte-number.ensures.same c.if-number-eq0.false)
-
-pub returns-then-number-eq0 : goal.returns-then-number-eq0
-returns-then-number-eq0 c = swept_none (none_named c.byte-number.ensures.same (omega arith))
+    c.requires.on-board _ (one-named c.byte-number.ensures.same c.if-number-ne0.true)
 
 pub overflow_add-base : goal.overflow_add-base
 overflow_add-base c =
-    omega (arith, place_in (goal.at.overflow_add-base c).Else-number-eq0, c.requires.few-places)
+    omega (arith, place_in (goal.at.overflow_add-base c).Then-number-ne0, c.requires.few-places)
 
 pub strike_one-requires : goal.strike_one-requires
 strike_one-requires c =
     record {
       few-places = c.requires.few-places;
       on-board = place_in (goal.at.strike_one-requires
-          c).Else-number-eq0;
+          c).Then-number-ne0;
       room = c.requires.room;
     }
 
-pub returns : goal.returns
-returns c =
+pub returns-else-number-ne0 : goal.returns-else-number-ne0
+returns-else-number-ne0 c = swept_none (none_named c.byte-number.ensures.same c.if-number-ne0.false)
+
+pub returns-then-number-ne0 : goal.returns-then-number-ne0
+returns-then-number-ne0 c =
     let is = c.byte-number.ensures.same in
-    let w = work c.args.grid.now c.args.queue.now c.args.tail in
+    let w = work c.args.grid.now c.args.queue.now in
     let p = c.args.base + (c.byte-number.result - 1) in
     let Good = EntryGood c.args.entry c.args.base in
     subst (λ (v : Work). Swept Good w v) (sym c.strike_one.ensures)
-    (swept_same (λ q at. subst Good (sym at) (one-named is c.if-number-eq0.false)) (only-named is
-    c.if-number-eq0.false)
-    (swept-strike w p (place_in (goal.at.returns c).Else-number-eq0)))
+    (swept_same (λ q at. subst Good (sym at) (one-named is c.if-number-ne0.true)) (only-named is
+    c.if-number-ne0.true)
+    (swept-strike w p (place_in (goal.at.returns-then-number-ne0 c).Then-number-ne0)))

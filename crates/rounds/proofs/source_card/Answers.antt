@@ -8,4 +8,4 @@ scaled_card-requires c =
 
 pub returns : goal.returns
 returns c =
-    c.scaled_card.ensures c.args.shapes c.requires.by
+    c.scaled_card.ensures c.args.walk.now.shapes c.requires.by

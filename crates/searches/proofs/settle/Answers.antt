@@ -19,7 +19,6 @@ close-found-requires c =
       sized = bookings-sized e.cards e.shapes bookings _ c.requires.list;
       booked-in = bookings-each e.cards e.shapes bookings _ c.requires.list;
       full = c.requires.size;
-      room = omega (arith, few-pairs k);
     }
 
 pub first_unfit-unfit-requires : goal.first_unfit-unfit-requires
@@ -34,12 +33,12 @@ first_unfit-unfit-requires c =
       few-places = omega (arith, size, few-pairs t.known);
     }
 
-pub returns-in-Nowhere : goal.returns-in-Nowhere
-returns-in-Nowhere c sheet t =
+pub returns-in-None : goal.returns-in-None
+returns-in-None c sheet t =
     met-found t c.args.bookings.now c.args.desk c.requires.list c.close-found.ensures
-    c.first_unfit-unfit.ensures c.in-Nowhere.is
+    c.first_unfit-unfit.ensures c.in-None.is
 
-pub returns-in-At : goal.returns-in-At
-returns-in-At c sheet t =
+pub returns-in-Some : goal.returns-in-Some
+returns-in-Some c sheet t =
     unmet-found t c.args.bookings.now c.args.desk c.requires.list c.close-found.ensures
-    c.first_unfit-unfit.ensures c.in-At.is
+    c.first_unfit-unfit.ensures c.in-Some.is

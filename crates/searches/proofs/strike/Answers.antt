@@ -1,9 +1,8 @@
 -- `searches::strike` leaves the largest typing of each sheet whose pairs that fit it was lent. Assumes nothing.
 use mathlib.Core.Path.{◌∙◌}
-use native.Mathlib.Omega.{arith}
 use Rattle.lent.proofs.KnownSheet.{read}
 use Rattle.pairs.proofs.Links.{links-ready, links-arriving, among}
-use Rattle.pairs.proofs.Tested.{counted-as, full-words, few}
+use Rattle.pairs.proofs.Tested.{counted-as, full-words}
 use Rattle.searches.proofs.Striking.{struck-found}
 use Rattle.searches.proofs.strike.Goals as goal
 
@@ -13,7 +12,7 @@ strike_all-tally-requires c =
     record {
       links = links-ready t.known c.requires.some.links;
       arriving = links-arriving t.known c.requires.arriving;
-      lent = record { full = full-words t; room = omega (arith, few t) };
+      full = full-words t;
     }
 
 pub count_bare-bare-requires : goal.count_bare-bare-requires

@@ -1,24 +1,21 @@
 -- `strikes::index_names` chains the places of a half of the table. The invariant: those below p are chained, and from p
 -- on the links of the chains are 0. Assumes nothing.
 use mathlib.Core.Path.{◌≡◌}
-use Prim.Native.Nat.{ℕ, ◌≤◌, ◌<◌, ◌*◌, ◌-◌}
+use Prim.Native.Nat.{ℕ, ◌≤◌, ◌<◌}
 use mathlib.Core.List.{List}
 use lib.ListN.{length, get_or}
-use Rattle.words.specs.Limits.{max_kinds}
 use Rattle.words.specs.Chain.{Chained}
-use Rattle.strikes.specs.Indexes.{entry_key}
+use Rattle.strikes.specs.declared.index.NameIndex.{NameIndex}
+use Rattle.strikes.specs.Indexes.{entry_key, name_keys}
 use Rattle.strikes.proofs.index.index_names.Given as goal
 
--- The places below p are chained, in lists as long as those lent.
-abbrev pub ChainedTo : List ℕ → ℕ → ℕ → List ℕ → List ℕ → List ℕ → List ℕ → ℕ → Type 0
-ChainedTo names start shapes heads links first next p =
-    (p ≤ shapes * max_kinds) × (length first ≡ length heads) × (length next ≡ length links)
-    × Chained (entry_key names start) first next p
-    × ((i : ℕ) → p ≤ i → i < length next → get_or next i 0 ≡ 0)
+-- The places below p are chained, and the others still have links of 0.
+pub record IndexedTo (names : List ℕ) (start : ℕ) (index : NameIndex) (p : ℕ) : Type 0 where
+  pub half : index.start ≡ start
+  pub keys : length index.first ≡ name_keys
+  pub places : length index.next ≡ name_keys
+  pub chained : Chained (entry_key names start) index.first index.next p
+  pub zeros : (i : ℕ) → p ≤ i → i < length index.next → get_or index.next i 0 ≡ 0
 
 abbrev pub invariant-loop-p : goal.invariant-loop-p
-invariant-loop-p l =
-    ChainedTo l.names l.start l.shapes l.initial.first l.initial.next l.first l.next l.p
-
-abbrev pub decreases-loop-p : goal.decreases-loop-p
-decreases-loop-p l = l.shapes * max_kinds - l.p
+invariant-loop-p l = IndexedTo l.names l.initial.index.start l.index l.p

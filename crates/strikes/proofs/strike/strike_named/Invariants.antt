@@ -9,8 +9,8 @@ use Rattle.strikes.proofs.strike.strike_named.Given as goal
 
 abbrev pub invariant-loop-at : goal.invariant-loop-at
 invariant-loop-at l =
-    Walking (entry_key l.names l.start) l.key (l.shapes * max_kinds) (RowGood l.base)
-    (work l.initial.grid l.initial.queue l.tail) (work l.grid l.queue l.end) l.at
+    Walking (entry_key l.walk.names.now l.index.start) l.key (l.walk.shapes * max_kinds) (RowGood l.base)
+    (work l.initial.grid l.initial.queue) (work l.grid l.queue) l.at
 
 abbrev pub decreases-loop-at : goal.decreases-loop-at
 decreases-loop-at l = l.at

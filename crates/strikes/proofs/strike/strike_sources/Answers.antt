@@ -4,11 +4,11 @@ use mathlib.Core.Path.{subst, subst₂, ◌≡◌, sym, ◌∙◌, ap}
 use Prim.Native.Nat.{ℕ, ◌<◌, ◌≤◌, ◌+◌, ◌*◌, ◌-◌}
 use native.Mathlib.Omega.{arith}
 use lib.ListN.{length, get_or}
-use Rattle.bags.specs.Label.{outgoing}
+use Rattle.bags.specs.Label.{outgoing, first_label}
 use Rattle.script.specs.Link.{from_at, kind_at, to_at}
 use Rattle.words.specs.Chain.{last_at}
 use Rattle.board.specs.Work.{work, Swept}
-use Rattle.board.proofs.Worklist.{swept-grid, swept-queue, swept-room}
+use Rattle.board.proofs.Worklist.{swept-grid, swept-room}
 use Rattle.strikes.specs.Strikes.{NamedGood}
 use Rattle.words.proofs.Places.{card-room}
 use Rattle.typing.proofs.Boards.{pairs-bound}
@@ -20,46 +20,42 @@ use Rattle.strikes.proofs.strike.strike_sources.Goals as goal
 use Rattle.strikes.proofs.strike.strike_sources.Goals.{After-wide-at-in-loop-at, After-wide-from, In-loop-at}
 
 -- the link that a turn looks at
-link-in : (c : In-loop-at) → c.loop-at.at - 1 < get_or c.args.script.now 1 0
+link-in : (c : In-loop-at) → c.loop-at.at - 1 < get_or c.args.walk.now.script.now 1 0
 link-in c = walk-in c.loop-at.invariant c.loop-at-test.true
 
 -- its words stand in the script
 words-in : (c : In-loop-at)
-    → 5 + 3 * (c.loop-at.at - 1) ≤ length c.args.script.now
+    → 5 + 3 * (c.loop-at.at - 1) ≤ length c.args.walk.now.script.now
 words-in c = omega (arith, link-in c, c.requires.need.ready.words)
 
 -- the card that it starts at and its kind, as they are read
-from_is : (a : After-wide-from) → a.wide-from.result ≡ from_at a.args.script.now (a.loop-at.at - 1)
+from_is : (a : After-wide-from) → a.wide-from.result ≡ from_at a.args.walk.now.script.now (a.loop-at.at - 1)
 from_is a =
-    a.wide-from.ensures.same ∙ from-word a.args.script.now (a.loop-at.at - 1)
+    a.wide-from.ensures.same ∙ from-word a.args.walk.now.script.now (a.loop-at.at - 1)
 
-kind-is : (a : After-wide-from) → get_or a.args.script.now (3 + 3 * (a.loop-at.at - 1)) 0
-    ≡ kind_at a.args.script.now (a.loop-at.at - 1)
-kind-is a = kind-word a.args.script.now (a.loop-at.at - 1)
+kind-is : (a : After-wide-from) → get_or a.args.walk.now.script.now (3 + 3 * (a.loop-at.at - 1)) 0
+    ≡ kind_at a.args.walk.now.script.now (a.loop-at.at - 1)
+kind-is a = kind-word a.args.walk.now.script.now (a.loop-at.at - 1)
 
 -- all pairs of the card are on the board
-card-pairs : (a : After-wide-from) → a.wide-from.result * a.args.shapes + a.args.shapes ≤ length a.args.grid.now
+card-pairs : (a : After-wide-from) → a.wide-from.result * a.args.walk.now.shapes + a.args.walk.now.shapes ≤ length a.args.grid.now
 card-pairs a =
-    let cards = get_or a.args.script.now 0 0 in
+    let cards = get_or a.args.walk.now.script.now 0 0 in
     let is-card = a.requires.need.ready.near-in outgoing (a.loop-at.at - 1) (link-in (goal.at.After-wide-from
     a).In-loop-at) in
     omega (
       arith,
       a.requires.need.full,
-      card-room cards a.args.shapes a.wide-from.result (subst (λ (x : ℕ). x < cards) (sym (from_is a)) is-card),
+      card-room cards a.args.walk.now.shapes a.wide-from.result (subst (λ (x : ℕ). x < cards) (sym (from_is a)) is-card),
     )
 
 -- the next link of the chain
-next-is : (c : After-wide-at-in-loop-at) → let to = to_at c.args.script.now in
+next-is : (c : After-wide-at-in-loop-at) → let to = to_at c.args.walk.now.script.now in
     c.wide-at-in-loop-at.result ≡ last_at to (to (c.loop-at.at - 1)) (c.loop-at.at - 1)
 next-is c =
     let links = c.requires.arrivals in
     c.wide-at-in-loop-at.ensures.same ∙ links.chained.nexts (c.loop-at.at - 1) (link-in
     (goal.at.After-wide-at-in-loop-at c).In-loop-at)
-
-pub bounds-first-m : goal.bounds-first-m
-bounds-first-m c =
-    omega (arith, c.requires.arrivals.cards-in)
 
 pub loop-at-init : goal.loop-at-init
 loop-at-init c =
@@ -67,62 +63,23 @@ loop-at-init c =
     ∙ c.requires.arrivals.chained.heads c.args.m
     (omega (arith, c.requires.arrivals.cards-in)))
 
-pub overflow_mul-i : goal.overflow_mul-i
-overflow_mul-i c = omega (arith, link-in c, c.requires.need.ready.few-links)
-
-pub overflow_add-i : goal.overflow_add-i
-overflow_add-i c = omega (arith, link-in c, c.requires.need.ready.few-links)
-
-pub offset_bounds-script-i : goal.offset_bounds-script-i
-offset_bounds-script-i c = omega (arith, link-in c, c.requires.need.ready.few-links)
-
-pub bounds-script-i : goal.bounds-script-i
-bounds-script-i c = omega (arith, words-in (goal.at.bounds-script-i c).In-loop-at)
-
-pub overflow_mul-kind : goal.overflow_mul-kind
-overflow_mul-kind c = omega (arith, link-in (goal.at.overflow_mul-kind c).In-loop-at, c.requires.need.ready.few-links)
-
-pub overflow_add-kind : goal.overflow_add-kind
-overflow_add-kind c = omega (arith, link-in (goal.at.overflow_add-kind c).In-loop-at, c.requires.need.ready.few-links)
-
-pub offset_bounds-script-i-in-loop-at : goal.offset_bounds-script-i-in-loop-at
-offset_bounds-script-i-in-loop-at c = omega (
-  arith,
-  link-in (goal.at.offset_bounds-script-i-in-loop-at
-      c).In-loop-at,
-  c.requires.need.ready.few-links,
-)
-
-pub bounds-script-i-in-loop-at : goal.bounds-script-i-in-loop-at
-bounds-script-i-in-loop-at c = omega (arith, words-in (goal.at.bounds-script-i-in-loop-at c).In-loop-at)
-
-pub overflow_mul-from : goal.overflow_mul-from
-overflow_mul-from c =
-    omega (
-      arith,
-      card-pairs (goal.at.overflow_mul-from c).After-wide-from,
-      c.requires.need.full,
-      pairs-bound
-          c.requires.need.ready,
-    )
-
-pub strike_named-end-requires : goal.strike_named-end-requires
-strike_named-end-requires c =
+pub strike_named-requires : goal.strike_named-requires
+strike_named-requires c =
     let ready = c.requires.need.ready in
     let same = swept-grid c.loop-at.invariant.swept in
     record {
       table = ready-table ready;
-      places = c.requires.need.places;
-      half = omega arith;
+      places = c.requires.need.places.index-of;
+      half = omega (arith, c.requires.need.places.half);
       kind-in = omega (
         arith,
-        kind-is (goal.at.strike_named-end-requires c).After-wide-from,
+        kind-is (goal.at.strike_named-requires c).After-wide-from,
         kind-in ready
-            (c.loop-at.at - 1) (link-in (goal.at.strike_named-end-requires c).In-loop-at),
+            (c.loop-at.at - 1) (link-in (goal.at.strike_named-requires c).In-loop-at),
       );
       shape-in = omega (arith, c.requires.need.shape-in, ready.few-shapes);
       few-places = omega (arith, same, c.requires.need.full, pairs-bound ready);
-      pairs = omega (arith, card-pairs (goal.at.strike_named-end-requires c).After-wide-from, same);
+      pairs = omega (arith, card-pairs (goal.at.strike_named-requires c).After-wide-from, same);
       room = swept-room c.loop-at.invariant.swept (λ p g. omega (
         arith,
         need-in-grid ready outgoing c.args.u.0 g.number p g.below g.good,
@@ -131,33 +88,20 @@ strike_named-end-requires c =
           c.requires.need.room;
     }
 
-pub offset_bounds-next-i : goal.offset_bounds-next-i
-offset_bounds-next-i c =
-    omega (arith, link-in (goal.at.offset_bounds-next-i c).In-loop-at, c.requires.need.ready.few-links)
-
-pub bounds-next-i : goal.bounds-next-i
-bounds-next-i c =
-    omega (arith, link-in (goal.at.bounds-next-i c).In-loop-at, c.requires.arrivals.links-in)
-
 pub loop-at-smaller : goal.loop-at-smaller
 loop-at-smaller c =
     walk-less c.loop-at.invariant c.loop-at-test.true (next-is c)
 
 pub loop-at-preserved : goal.loop-at-preserved
 loop-at-preserved c =
-    let w = work c.loop-at.grid c.loop-at.queue c.loop-at.end in
-    let v = work c.strike_named-end.new.grid c.strike_named-end.new.queue c.strike_named-end.result in
+    let w = work c.loop-at.grid c.loop-at.queue in
+    let v = work c.strike_named.new.grid c.strike_named.new.queue in
     walk-next c.loop-at.invariant c.loop-at-test.true (next-is c)
     (subst₂ (λ (k base : ℕ).
-    Swept (NamedGood c.args.names.now c.args.shapes (0 + k) base c.args.u.0) w v)
-    (kind-is (goal.at.loop-at-preserved c).After-wide-from) (ap (λ (x : ℕ). x * c.args.shapes) (from_is
-    (goal.at.loop-at-preserved c).After-wide-from)) c.strike_named-end.ensures)
-
-pub shape_of-grid : goal.shape_of-grid
-shape_of-grid c = swept-grid c.loop-at.invariant.swept
-
-pub shape_of-queue : goal.shape_of-queue
-shape_of-queue c = swept-queue c.loop-at.invariant.swept
+    Swept (NamedGood c.args.walk.now.names.now c.args.walk.now.shapes (first_label outgoing + k) base c.args.u.0) w v)
+    (kind-is (goal.at.loop-at-preserved c).After-wide-from) (ap (λ (x : ℕ). x * c.args.walk.now.shapes) (from_is
+    (goal.at.loop-at-preserved c).After-wide-from)) (rw c.requires.need.places.half at
+    c.strike_named.ensures))
 
 pub returns : goal.returns
 returns c = arriving-swept (walk-done c.loop-at.invariant (omega (arith, c.loop-at-test.false)))

@@ -4,12 +4,11 @@ use mathlib.Core.Path.{subst, subst₂, ◌≡◌, sym, ◌∙◌, ap}
 use Prim.Native.Nat.{ℕ, ◌<◌, ◌≤◌, ◌+◌, ◌*◌}
 use native.Mathlib.Omega.{arith}
 use lib.ListN.{length, get_or}
-use Rattle.words.specs.Limits.{max_kinds}
 use Rattle.words.proofs.Places.{card-room}
-use Rattle.bags.specs.Label.{incoming}
+use Rattle.bags.specs.Label.{incoming, first_label}
 use Rattle.script.specs.Link.{kind_at, to_at}
 use Rattle.board.specs.Work.{work, Swept}
-use Rattle.board.proofs.Worklist.{swept-grid, swept-queue, swept-room}
+use Rattle.board.proofs.Worklist.{swept-grid, swept-room}
 use Rattle.typing.proofs.Boards.{pairs-bound}
 use Rattle.walks.specs.Walks.{Leaving}
 use Rattle.strikes.specs.Strikes.{NamedGood, NeedGood}
@@ -21,86 +20,54 @@ use Rattle.strikes.proofs.strike.strike_targets.Goals as goal
 use Rattle.strikes.proofs.strike.strike_targets.Goals.{After-wide-to, In-loop-i}
 
 -- the link that a turn looks at is one of the script's
-link-in : (c : In-loop-i) → c.loop-i.i < get_or c.args.script.now 1 0
+link-in : (c : In-loop-i) → c.loop-i.i < get_or c.args.walk.now.script.now 1 0
 link-in c = omega (arith, c.loop-i-test.true, c.requires.links-in)
 
 -- its words stand in the script, and their places are small
 words-in : (c : In-loop-i)
-    → 5 + 3 * c.loop-i.i ≤ length c.args.script.now
+    → 5 + 3 * c.loop-i.i ≤ length c.args.walk.now.script.now
 words-in c = omega (arith, link-in c, c.requires.need.ready.words)
 
 -- its kind and the card that it leads to, as they are read
-kind-is : (c : In-loop-i) → get_or c.args.script.now (3 + 3 * c.loop-i.i) 0 ≡ kind_at c.args.script.now c.loop-i.i
-kind-is c = kind-word c.args.script.now c.loop-i.i
+kind-is : (c : In-loop-i) → get_or c.args.walk.now.script.now (3 + 3 * c.loop-i.i) 0 ≡ kind_at c.args.walk.now.script.now c.loop-i.i
+kind-is c = kind-word c.args.walk.now.script.now c.loop-i.i
 
-to_is : (a : After-wide-to) → a.wide-to.result ≡ to_at a.args.script.now a.loop-i.i
+to_is : (a : After-wide-to) → a.wide-to.result ≡ to_at a.args.walk.now.script.now a.loop-i.i
 to_is a =
-    a.wide-to.ensures.same ∙ to_word a.args.script.now a.loop-i.i
+    a.wide-to.ensures.same ∙ to_word a.args.walk.now.script.now a.loop-i.i
 
 -- all pairs of that card are on the board
-card-pairs : (a : After-wide-to) → a.wide-to.result * a.args.shapes + a.args.shapes ≤ length a.args.grid.now
+card-pairs : (a : After-wide-to) → a.wide-to.result * a.args.walk.now.shapes + a.args.walk.now.shapes ≤ length a.args.grid.now
 card-pairs a =
-    let cards = get_or a.args.script.now 0 0 in
+    let cards = get_or a.args.walk.now.script.now 0 0 in
     let is-card = a.requires.need.ready.near-in incoming a.loop-i.i (link-in (goal.at.After-wide-to a).In-loop-i) in
     omega (
       arith,
       a.requires.need.full,
-      card-room cards a.args.shapes a.wide-to.result (subst (λ (x : ℕ). x < cards) (sym (to_is a)) is-card),
+      card-room cards a.args.walk.now.shapes a.wide-to.result (subst (λ (x : ℕ). x < cards) (sym (to_is a)) is-card),
     )
 
 pub loop-i-init : goal.loop-i-init
 loop-i-init c = (omega arith, c.requires.rising, leaving-none)
 
-pub overflow_mul-kind : goal.overflow_mul-kind
-overflow_mul-kind c = omega (arith, link-in c, c.requires.need.ready.few-links)
-
-pub overflow_add-kind : goal.overflow_add-kind
-overflow_add-kind c = omega (arith, link-in c, c.requires.need.ready.few-links)
-
-pub offset_bounds-script-i : goal.offset_bounds-script-i
-offset_bounds-script-i c = omega (arith, link-in c, c.requires.need.ready.few-links)
-
-pub bounds-script-i : goal.bounds-script-i
-bounds-script-i c = omega (arith, words-in (goal.at.bounds-script-i c).In-loop-i)
-
-pub overflow_mul-i : goal.overflow_mul-i
-overflow_mul-i c = omega (arith, link-in (goal.at.overflow_mul-i c).In-loop-i, c.requires.need.ready.few-links)
-
-pub overflow_add-i : goal.overflow_add-i
-overflow_add-i c = omega (arith, link-in (goal.at.overflow_add-i c).In-loop-i, c.requires.need.ready.few-links)
-
-pub offset_bounds-script-i-in-loop-i : goal.offset_bounds-script-i-in-loop-i
-offset_bounds-script-i-in-loop-i c = omega (
-  arith,
-  link-in (goal.at.offset_bounds-script-i-in-loop-i c).In-loop-i,
-  c.requires.need.ready.few-links,
-)
-
-pub bounds-script-i-in-loop-i : goal.bounds-script-i-in-loop-i
-bounds-script-i-in-loop-i c = omega (arith, words-in (goal.at.bounds-script-i-in-loop-i c).In-loop-i)
-
-pub overflow_mul-to : goal.overflow_mul-to
-overflow_mul-to c =
-    omega (arith, card-pairs c, c.requires.need.full, pairs-bound c.requires.need.ready)
-
-pub strike_named-end-requires : goal.strike_named-end-requires
-strike_named-end-requires c =
+pub strike_named-requires : goal.strike_named-requires
+strike_named-requires c =
     let ready = c.requires.need.ready in
     let u = c.args.u.0 in
     let same = swept-grid c.loop-i.invariant.2 in
     record {
       table = ready-table ready;
-      places = c.requires.need.places;
-      half = omega arith;
+      places = c.requires.need.places.index-of;
+      half = omega (arith, c.requires.need.places.half);
       kind-in = omega (
         arith,
-        kind-is (goal.at.strike_named-end-requires c).In-loop-i,
+        kind-is (goal.at.strike_named-requires c).In-loop-i,
         kind-in ready c.loop-i.i
-            (link-in (goal.at.strike_named-end-requires c).In-loop-i),
+            (link-in (goal.at.strike_named-requires c).In-loop-i),
       );
       shape-in = omega (arith, c.requires.need.shape-in, ready.few-shapes);
       few-places = omega (arith, same, c.requires.need.full, pairs-bound ready);
-      pairs = omega (arith, card-pairs (goal.at.strike_named-end-requires c).After-wide-to, same);
+      pairs = omega (arith, card-pairs (goal.at.strike_named-requires c).After-wide-to, same);
       room = swept-room c.loop-i.invariant.2
           (λ p g. omega (
             arith,
@@ -113,27 +80,22 @@ strike_named-end-requires c =
 
 pub loop-i-preserved : goal.loop-i-preserved
 loop-i-preserved c =
-    let w = work c.loop-i.grid c.loop-i.queue c.loop-i.end in
-    let v = work c.strike_named-end.new.grid c.strike_named-end.new.queue c.strike_named-end.result in (
+    let w = work c.loop-i.grid c.loop-i.queue in
+    let v = work c.strike_named.new.grid c.strike_named.new.queue in (
       omega arith,
       omega (arith, c.loop-i-test.true),
       leaving-more c.loop-i.invariant.0 c.loop-i.invariant.2
           (subst₂ (λ (k base : ℕ).
-          Swept (NamedGood c.args.names.now c.args.shapes (max_kinds + k) base c.args.u.0) w v)
-          (kind-is (goal.at.loop-i-preserved c).In-loop-i) (ap (λ (x : ℕ). x * c.args.shapes) (to_is
-          (goal.at.loop-i-preserved c).After-wide-to)) c.strike_named-end.ensures),
+          Swept (NamedGood c.args.walk.now.names.now c.args.walk.now.shapes (first_label incoming + k) base c.args.u.0) w v)
+          (kind-is (goal.at.loop-i-preserved c).In-loop-i) (ap (λ (x : ℕ). x * c.args.walk.now.shapes) (to_is
+          (goal.at.loop-i-preserved c).After-wide-to)) (rw c.requires.need.places.half at
+          c.strike_named.ensures)),
     )
-
-pub shape_of-grid : goal.shape_of-grid
-shape_of-grid c = swept-grid c.loop-i.invariant.2
-
-pub shape_of-queue : goal.shape_of-queue
-shape_of-queue c = swept-queue c.loop-i.invariant.2
 
 pub returns : goal.returns
 returns c =
-    let Good = NeedGood incoming c.args.script.now c.args.names.now c.args.shapes c.args.u.0 in
-    let before = work c.args.grid.now c.args.queue.now c.args.tail in
-    let after = work c.loop-i.grid c.loop-i.queue c.loop-i.end in
+    let Good = NeedGood incoming c.args.walk.now.script.now c.args.walk.now.names.now c.args.walk.now.shapes c.args.u.0 in
+    let before = work c.args.grid.now c.args.queue.now in
+    let after = work c.loop-i.grid c.loop-i.queue in
     let all-links : c.loop-i.i ≡ c.args.hi = omega (arith, c.loop-i-test.false, c.loop-i.invariant.1) in
     subst (λ (hi : ℕ). Swept (Leaving Good c.args.lo hi) before after) all-links c.loop-i.invariant.2

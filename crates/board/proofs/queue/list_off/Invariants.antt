@@ -2,9 +2,10 @@
 use mathlib.Core.Path.{◌≡◌}
 use Prim.Native.Nat.{◌≤◌}
 use lib.ListN.{length}
+use Rattle.words.specs.Sizes.{max_grid}
 use Rattle.board.specs.Listing.{Listed}
-use Rattle.board.proofs.list_off.Given as goal
+use Rattle.board.proofs.queue.list_off.Given as goal
 
 abbrev pub invariant-loop-place : goal.invariant-loop-place
 invariant-loop-place l =
-    (l.listed ≤ l.place) × (length l.queue ≡ length l.initial.queue) × Listed l.grid l.queue l.listed l.place
+    (l.queue.len ≤ l.place) × (length l.queue.places ≡ max_grid) × Listed l.grid l.queue.places l.queue.len l.place
