@@ -1,15 +1,14 @@
 -- `strikes::strike_needing` strikes what needs a pair: by the links to its card, and by those from it. Assumes nothing.
 use mathlib.Core.Path.{◌≡◌, ap, ◌∙◌}
-use Prim.Native.Nat.{ℕ, ◌<◌, ◌≤◌, ◌+◌, ◌-◌, ◌*◌, ◌/◌, ◌%◌}
+use Prim.Native.Nat.{ℕ, ◌<◌, ◌+◌, ◌-◌, ◌*◌, ◌/◌, ◌%◌}
 use native.Mathlib.Omega.{arith}
 use lib.ListN.{length, get_or}
 use Rattle.words.proofs.Places.{card-in, shape-in}
 use Rattle.bags.specs.Label.{outgoing}
 use Rattle.board.proofs.Worklist.{swept-grid, swept-room}
-use Rattle.typing.proofs.Boards.{pairs-bound}
 use Rattle.walks.specs.Walks.{Arriving}
 use Rattle.strikes.specs.Strikes.{NeedGood}
-use Rattle.walks.proofs.Cards.{card-low, shape-left}
+use Rattle.walks.proofs.Cards.{shape-left}
 use Rattle.strikes.proofs.Needing.{need-in-grid}
 use Rattle.walks.proofs.Needs.{range-rising, range-in, arrivals-at}
 use Rattle.strikes.proofs.Striking.{sources-same, targets-same, struck-both, struck-sources}
@@ -28,9 +27,6 @@ shape_is s = shape-in s.args.walk.now.shapes s.requires.by.ready.one-shape s.arg
 -- the card that is given is its card, and what is left of the place its shape
 given-in : (s : Start) → s.args.m < get_or s.args.walk.now.script.now 0 0
 given-in s = omega (arith, card-is s, s.requires.card)
-
-given-room : (s : Start) → s.args.m * s.args.walk.now.shapes ≤ s.args.q
-given-room s = card-low s.args.walk.now.shapes s.args.q s.requires.by.ready.one-shape s.requires.card
 
 left_is : (s : Start) → s.args.q - s.args.m * s.args.walk.now.shapes ≡ s.args.q % s.args.walk.now.shapes
 left_is s = shape-left s.args.walk.now.shapes s.args.q s.requires.by.ready.one-shape s.requires.card

@@ -23,11 +23,6 @@ use Rattle.strikes.proofs.strike.strike_sources.Goals.{After-wide-at-in-loop-at,
 link-in : (c : In-loop-at) → c.loop-at.at - 1 < get_or c.args.walk.now.script.now 1 0
 link-in c = walk-in c.loop-at.invariant c.loop-at-test.true
 
--- its words stand in the script
-words-in : (c : In-loop-at)
-    → 5 + 3 * (c.loop-at.at - 1) ≤ length c.args.walk.now.script.now
-words-in c = omega (arith, link-in c, c.requires.need.ready.words)
-
 -- the card that it starts at and its kind, as they are read
 from_is : (a : After-wide-from) → a.wide-from.result ≡ from_at a.args.walk.now.script.now (a.loop-at.at - 1)
 from_is a =

@@ -23,11 +23,6 @@ use Rattle.strikes.proofs.strike.strike_targets.Goals.{After-wide-to, In-loop-i}
 link-in : (c : In-loop-i) → c.loop-i.i < get_or c.args.walk.now.script.now 1 0
 link-in c = omega (arith, c.loop-i-test.true, c.requires.links-in)
 
--- its words stand in the script, and their places are small
-words-in : (c : In-loop-i)
-    → 5 + 3 * c.loop-i.i ≤ length c.args.walk.now.script.now
-words-in c = omega (arith, link-in c, c.requires.need.ready.words)
-
 -- its kind and the card that it leads to, as they are read
 kind-is : (c : In-loop-i) → get_or c.args.walk.now.script.now (3 + 3 * c.loop-i.i) 0 ≡ kind_at c.args.walk.now.script.now c.loop-i.i
 kind-is c = kind-word c.args.walk.now.script.now c.loop-i.i
