@@ -58,7 +58,8 @@ place-low a = omega (arith, a.loop-p-test.true, a.requires.table.few-shapes)
 -- after a turn: the state that the next one starts from
 abbrev After : After-byte-entry → List ℕ → List ℕ → Type 0
 After a first next =
-    IndexedTo a.args.names.now a.args.index.now.start (record a.loop-p.index { first = first; next = next }) (a.loop-p.p + 1)
+    IndexedTo a.args.names.now a.args.index.now.start (record a.loop-p.index { first = first; next = next })
+    (a.loop-p.p + 1)
 
 -- the place names a shape, and is chained
 one_more : (k : After-byte-entry) (key : ℕ) → 0 < k.byte-entry.result

@@ -36,7 +36,8 @@ low : (h : After-wide-hi) → h.wide-lo.result ≡ get_or h.args.walk.now.starts
 low h =
     h.wide-lo.ensures.same ∙ ap (λ (x : ℕ). get_or h.args.walk.now.starts.now x 0) h.requires.card
 
-high : (h : After-wide-hi) → h.wide-hi.result ≡ get_or h.args.walk.now.starts.now (h.args.q / h.args.walk.now.shapes + 1) 0
+high : (h : After-wide-hi) → h.wide-hi.result ≡ get_or h.args.walk.now.starts.now
+    (h.args.q / h.args.walk.now.shapes + 1) 0
 high h =
     h.wide-hi.ensures.same ∙ ap (λ (x : ℕ). get_or h.args.walk.now.starts.now (x + 1) 0) h.requires.card
 
@@ -107,5 +108,6 @@ returns-in-Some c =
 
 pub returns-in_default : goal.returns-in_default
 returns-in_default c =
-    struck-sources c.requires.by.ready c.args.q (rw c.in_default.is at c.requires.by.places.inward) (sources-same c.requires.by.ready c.args.q c.requires.card
+    struck-sources c.requires.by.ready c.args.q (rw c.in_default.is at c.requires.by.places.inward)
+    (sources-same c.requires.by.ready c.args.q c.requires.card
     (left_is (goal.at.returns-in_default c).Start) c.strike_sources.ensures)
