@@ -10,18 +10,6 @@ link_starts-requires c =
     let links = (read c.requires.sized.known).links in
     record { ascending = links.ascending; room = omega (arith, links.cards-bound) }
 
-pub fit_grid-requires : goal.fit_grid-requires
-fit_grid-requires c =
-    let asked = c.requires in
-    record {
-      sheet = record {
-        known = asked.sized.known;
-        leaving = c.link_starts.ensures;
-        arriving = asked.arriving;
-      };
-      size = asked.sized.size;
-    }
-
 pub returns : goal.returns
 returns c =
     let asked = c.requires in
