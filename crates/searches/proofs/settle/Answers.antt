@@ -21,8 +21,8 @@ close-found-requires c =
       full = c.requires.size;
     }
 
-pub first_unfit-unfit-requires : goal.first_unfit-unfit-requires
-first_unfit-unfit-requires c =
+pub first_unfit-requires : goal.first_unfit-requires
+first_unfit-requires c =
     let t = c.requires.some.tested in
     let accepted = read t.known in
     let size = closure-full t c.args.bookings.now c.args.desk c.requires.list c.close-found.ensures in
@@ -36,9 +36,9 @@ first_unfit-unfit-requires c =
 pub returns-in-None : goal.returns-in-None
 returns-in-None c sheet t =
     met-found t c.args.bookings.now c.args.desk c.requires.list c.close-found.ensures
-    c.first_unfit-unfit.ensures c.in-None.is
+    c.first_unfit.ensures c.in-None.is
 
 pub returns-in-Some : goal.returns-in-Some
 returns-in-Some c sheet t =
     unmet-found t c.args.bookings.now c.args.desk c.requires.list c.close-found.ensures
-    c.first_unfit-unfit.ensures c.in-Some.is
+    c.first_unfit.ensures c.in-Some.is
