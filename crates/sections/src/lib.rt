@@ -7,7 +7,7 @@ ghost use Rattle.std.specs.Prelude.{◌≤◌, length, IfSome};
 use input::decode;
 use std::io::Read;
 use streams::read_full;
-use words::{MAX_INPUT};
+use words::MAX_INPUT;
 
 // No section has more bytes: one more than the longest input of a program.
 pub const MOST_BYTES: usize = MAX_INPUT + 1;
