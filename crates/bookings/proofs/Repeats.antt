@@ -7,19 +7,21 @@
 --   look-start, look-found, look-next, look_none   it starts, finds the booking, goes on, and ends
 --   entered-again, entered-new   what it leaves: the chains as they were, or with a booking more
 -- Assumes nothing.
-use Prim.Native.Nat.{ℕ, zero, suc, ◌+◌, ◌-◌, ◌≤◌, ◌<◌}
+use Prim.Native.Nat.{ℕ, zero, suc, ◌+◌, ◌<◌}
 use mathlib.Core.Path.{◌≡◌, refl, sym, ap, subst, ◌∙◌}
 use mathlib.Core.Logic.{◌↔◌, ⊎_elim}
 use mathlib.Core.Bool.{Bool, true, false, ◌||◌}
 use mathlib.Core.List.{List}
 use native.Mathlib.Omega.{arith}
-use lib.ListN.{get_or, set, length-set}
+use native.Mathlib.Numerals.{add-one}
+use lib.ListN.{length, get_or, set, length-set}
 use lib.Dec.{eqb}
 use borrow.Author.Tests.{eqb-true, eq-eqb}
-use Rattle.words.specs.Chain.{last_at}
+use Rattle.words.specs.Chain.{last_at, Chained, Stepped}
 use Rattle.words.proofs.Bools.{and_first, and_second, and_both, or_cases, or_left, or_right, false-true}
 use Rattle.words.proofs.Bools.{eq-or-ne, last-or-below, bools-equal, is_false}
-use Rattle.words.proofs.Chains.{last-le, last-is, last-here, last-other, chained_more, chained_same}
+use Rattle.words.proofs.Chains.{last-here, last-other, chained_more, chained_same}
+use Rattle.words.proofs.Chains.{Along, along-start, along-in, along-last, along-next}
 use Rattle.bookings.specs.Bookings.{Booking, same, card_at, booking_at, booked_before, repeated, Booked}
 use Rattle.bookings.specs.Steps.{LookupAsked, Entered}
 
@@ -120,12 +122,10 @@ before_same nth other b (suc k) each =
     rw (before_same nth other b k (λ j l. each j (omega arith)), each k (omega arith)) refl
 
 -- ---- along a chain
--- The look-up of a booking stands at one of its card, or at the end if `at` is 0: those from there on that are below k
--- are others.
-pub record Looking (bookings : List ℕ) (b : Booking) (k at : ℕ) : Type 0 where
-  pub before : ℕ
-  pub last : at ≡ last_at (card_at bookings) b.card before
-  pub bound : at ≤ k
+-- The look-up of a booking stands before one of its card, or at the end if `at` is 0: those from there on that are
+-- below k are others.
+pub record Looking (bookings : List ℕ) (b : Booking) (k at : ℕ) (next : List ℕ) : Type 0 where
+  pub chain : Along (card_at bookings) b.card k at next
   pub decides : booked_before (booking_at bookings) b at ≡ booked_before (booking_at bookings) b k
 
 module _ (bookings : List ℕ) (b : Booking) where
@@ -141,43 +141,29 @@ module _ (bookings : List ℕ) (b : Booking) where
       ∙ sym (before-other (booking_at bookings) b m (λ e. ne (ap (λ (x : Booking). x.card) e))))
       (eq-or-ne (card_at bookings m) b.card)
 
-  pub look-start : {k at : ℕ} → at ≡ last_at (card_at bookings) b.card k → Looking bookings b k at
-  look-start {k} {at} e = record {
-    before = k;
-    last = e;
-    bound = omega (arith, e, last-le (card_at bookings) b.card k);
-    decides = ap (booked_before (booking_at bookings) b) e ∙ look_skip k;
+  pub look-start : {k : ℕ} {first next : List ℕ} → Chained (card_at bookings) first next k → b.card < length first
+      → Looking bookings b k (get_or first b.card 0) next
+  look-start {k} s h = record {
+    chain = along-start s h;
+    decides = ap (booked_before (booking_at bookings) b) (s.heads b.card h) ∙ look_skip k;
   }
 
-module _ {bookings : List ℕ} {b : Booking} where
-  module _ {k at : ℕ} (w : Looking bookings b k at) (some : at ≡ 0 → ⊥) where
-    step : at ≡ suc (at - 1)
-    step = omega arith
-
-    -- the booking there is of the card
-    pub look-card : card_at bookings (at - 1) ≡ b.card
-    look-card = last-is (card_at bookings) b.card w.before (at - 1) (sym w.last ∙ step)
-
-    pub look-found : booking_at bookings (at - 1) ≡ b → booked_before (booking_at bookings) b k ≡ true
-    look-found e = (before-exact (booking_at bookings) b k).1 (at - 1, omega (arith, w.bound), e)
-
-    pub look-next : {next : ℕ} → (booking_at bookings (at - 1) ≡ b → ⊥)
-        → next ≡ last_at (card_at bookings) (card_at bookings (at - 1)) (at - 1) → Looking bookings b k next
-    look-next {next} other e =
-        let here : next ≡ last_at (card_at bookings) b.card (at - 1) =
-        e ∙ ap (λ (m : ℕ). last_at (card_at bookings) m (at - 1)) look-card in
-        record {
-          before = at - 1;
-          last = here;
-          bound = omega (arith, here, last-le (card_at bookings) b.card (at - 1), w.bound);
-          decides = ap (booked_before (booking_at bookings) b) here ∙ look_skip bookings b (at - 1)
-              ∙ sym (before-other (booking_at bookings) b (at - 1) other)
-              ∙ ap (booked_before (booking_at bookings) b) (sym step) ∙ w.decides;
-        }
-
-  pub look_none : {k at : ℕ} → Looking bookings b k at → at ≡ 0 → booked_before (booking_at bookings) b k ≡ false
+module _ {bookings : List ℕ} {b : Booking} {k at : ℕ} {next : List ℕ} (w : Looking bookings b k at next) where
+  pub look_none : at ≡ 0 → booked_before (booking_at bookings) b k ≡ false
   unfolding booked_before
-  look_none w e = sym w.decides ∙ rw e refl
+  look_none e = sym w.decides ∙ rw e refl
+
+  module _ {j later : ℕ} {left : List ℕ} (t : Stepped at next j later left) where
+    pub look-found : booking_at bookings j ≡ b → booked_before (booking_at bookings) b k ≡ true
+    look-found e = (before-exact (booking_at bookings) b k).1 (j, along-in w.chain t, e)
+
+    pub look-next : (booking_at bookings j ≡ b → ⊥) → Looking bookings b k later left
+    look-next other = record {
+      chain = along-next w.chain t;
+      decides = ap (booked_before (booking_at bookings) b) (along-last w.chain t) ∙ look_skip bookings b j
+          ∙ sym (before-other (booking_at bookings) b j other)
+          ∙ ap (booked_before (booking_at bookings) b) (sym (t.stood ∙ add-one j)) ∙ w.decides;
+    }
 
 -- ---- what the look-up leaves
 module _ {bookings : List ℕ} {k : ℕ} {b : Booking} {first next : List ℕ}

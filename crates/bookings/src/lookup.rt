@@ -3,7 +3,7 @@
 ghost use Rattle.bookings.specs.Steps.{LookupAsked, Entered};
 
 use crate::{desk_at, shape_at};
-use words::{Card, Shape};
+use words::{Card, Chain, Shape};
 
 // Whether one of the first k bookings of the list is the desk's and of the card and the shape. Where none is, booking k
 // is chained with them: `first[n]` is one more than the last booking of card n, or 0, and `next[j]` one more than the
@@ -23,14 +23,10 @@ pub fn enter_booking(
 {
     let n = usize::from(card.0);
     let last = first[n];
-    let mut at = usize::from(last);
-    // a chain: each step follows the last by `next`
-    while at != 0 {
-        let j = at - 1;
+    for j in Chain::new(last, next) {
         if shape_at(bookings, j).0 == shape.0 && desk_at(bookings, j) == desk {
             return true;
         }
-        at = usize::from(next[j]);
     }
     next[k] = last;
     first[n] = (k + 1) as u16;

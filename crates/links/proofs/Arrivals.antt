@@ -1,33 +1,30 @@
 -- Counting the links to a card along their chain.
 -- CountedAlong     what is counted when it stands at a link
 -- arriving-start   at the chain's head nothing is counted yet
--- arriving-in      the link at which counting stands leads to the card
--- arriving-less    the next link is lower
 -- arriving-next    one link more is counted
 -- arriving-done    at the chain's end all are
 -- arriving-small   no count is over that of the links
 -- Assumes nothing.
-use Prim.Native.Nat.{ℕ, zero, suc, ◌+◌, ◌-◌, ◌≤◌, ◌<◌}
+use Prim.Native.Nat.{ℕ, zero, suc, ◌+◌, ◌≤◌, ◌<◌}
 use mathlib.Core.Path.{◌≡◌, refl, sym, ap, ◌∙◌}
 use mathlib.Core.Logic.{⊎_elim}
 use mathlib.Core.List.{List}
 use native.Mathlib.Omega.{arith}
+use native.Mathlib.Numerals.{add-one}
 use lib.ListN.{length, get_or, set, length-set}
 use lib.Seq.{get_or-set_same, get_or-set_other}
 use Rattle.words.proofs.Bools.{eq-or-ne}
 use Rattle.bags.specs.Label.{incoming}
 use Rattle.script.specs.Link.{kind_at, to_at}
-use Rattle.words.specs.Chain.{last_at}
+use Rattle.words.specs.Chain.{last_at, Chained, Stepped}
 use Rattle.links.specs.Counts.{way_count}
-use Rattle.words.proofs.Chains.{last-le, last-is, last-here, last-other}
+use Rattle.words.proofs.Chains.{last-here, last-other, Along, along-start, along-key, along-last, along-next}
 use Rattle.links.proofs.Counts.{way-count-same, way-count-kind, way-count-past, way-count-bound}
 
 -- Counting stands before link at - 1 of the chain, or at its end if `at` is 0: the links counted and those below `at`
 -- are all.
-pub record CountedAlong (script : List ℕ) (links card : ℕ) (counts : List ℕ) (at : ℕ) : Type 0 where
-  pub before : ℕ
-  pub last : at ≡ last_at (to_at script) card before
-  pub bound : at ≤ links
+pub record CountedAlong (script : List ℕ) (links card : ℕ) (counts : List ℕ) (at : ℕ) (next : List ℕ) : Type 0 where
+  pub chain : Along (to_at script) card links at next
   pub counted : (k : ℕ) → k < length counts
       → get_or counts k 0 + way_count incoming script card k at ≡ way_count incoming script card k links
 
@@ -43,19 +40,21 @@ count-last script card k (suc m) = ⊎_elim
     ∙ sym (way-count-past incoming script card k m ne))
     (eq-or-ne (to_at script m) card)
 
-pub arriving-start : (script : List ℕ) (links card : ℕ) (counts : List ℕ) (at : ℕ)
-    → ((k : ℕ) → k < length counts → get_or counts k 0 ≡ 0) → at ≡ last_at (to_at script) card links
-    → CountedAlong script links card counts at
-arriving-start script links card counts at zeros e = record {
-  before = links;
-  last = e;
-  bound = omega (arith, e, last-le (to_at script) card links);
-  counted = λ k l.
-      omega (arith, zeros k l, ap (way_count incoming script card k) e, count-last script card k links);
+pub arriving-start : {script first next : List ℕ} {links card : ℕ} {counts : List ℕ}
+    → ((k : ℕ) → k < length counts → get_or counts k 0 ≡ 0) → Chained (to_at script) first next links
+    → card < length first → CountedAlong script links card counts (get_or first card 0) next
+arriving-start {script} {first} {next} {links} {card} zeros s h = record {
+  chain = along-start s h;
+  counted = λ k l. omega (
+    arith,
+    zeros k l,
+    ap (way_count incoming script card k) (s.heads card h),
+    count-last script card k links,
+  );
 }
 
-module _ {script : List ℕ} {links card : ℕ} {counts : List ℕ} {at : ℕ}
-    (s : CountedAlong script links card counts at) where
+module _ {script : List ℕ} {links card : ℕ} {counts : List ℕ} {at : ℕ} {next : List ℕ}
+    (s : CountedAlong script links card counts at next) where
   pub arriving-done : at ≡ 0 → (k : ℕ) → k < length counts → get_or counts k 0 ≡ way_count incoming script card k links
   unfolding way_count
   arriving-done e k l = omega (arith, s.counted k l, ap (way_count incoming script card k) e)
@@ -63,54 +62,39 @@ module _ {script : List ℕ} {links card : ℕ} {counts : List ℕ} {at : ℕ}
   pub arriving-small : (k : ℕ) → k < length counts → get_or counts k 0 ≤ links
   arriving-small k l = omega (arith, s.counted k l, way-count-bound incoming script card k links)
 
-  module _ (h : 0 < at) where
-    one_on : at ≡ suc (at - 1)
-    one_on = omega arith
+  module _ {i later : ℕ} {left : List ℕ} (t : Stepped at next i later left) where
+    -- the links below the next one, and link i, are those below `at`
+    below_next : (k : ℕ) → way_count incoming script card k later ≡ way_count incoming script card k i
+    below_next k = ap (way_count incoming script card k) (along-last s.chain t) ∙ count-last script card k i
 
-    arriving-here : to_at script (at - 1) ≡ card
-    arriving-here = last-is (to_at script) card s.before (at - 1) (sym s.last ∙ one_on)
-
-    module _ {next : ℕ} (e : next ≡ last_at (to_at script) (to_at script (at - 1)) (at - 1)) where
-      next_last : next ≡ last_at (to_at script) card (at - 1)
-      next_last = e ∙ ap (λ (c : ℕ). last_at (to_at script) c (at - 1)) arriving-here
-
-      pub arriving-less : next < at
-      arriving-less = omega (arith, next_last, last-le (to_at script) card (at - 1))
-
-      -- the links below the next one, and link at - 1, are those below `at`
-      below_next : (k : ℕ) → way_count incoming script card k next ≡ way_count incoming script card k (at - 1)
-      below_next k = ap (way_count incoming script card k) next_last ∙ count-last script card k (at - 1)
-
-      pub arriving-next : (kind : ℕ) → kind ≡ kind_at script (at - 1) → kind < length counts
-          → CountedAlong script links card (set counts kind (get_or counts kind 0 + 1)) next
-      arriving-next kind is lk = record {
-        before = at - 1;
-        last = next_last;
-        bound = omega (arith, arriving-less, s.bound);
-        counted = λ k l.
-            let more : List ℕ = set counts kind (get_or counts kind 0 + 1) in
-            let had = s.counted k (simp length-set at l) in
-            let all = ap (way_count incoming script card k) one_on in
-            ⊎_elim
-            (λ (q : k ≡ kind).
-            let here : get_or more k 0 ≡ get_or counts k 0 + 1 =
-            ap (λ (x : ℕ). get_or more x 0) q ∙ get_or-set_same counts kind (get_or counts kind 0 + 1) 0 lk
-            ∙ ap (λ (x : ℕ). get_or counts x 0 + 1) (sym q) in
-            omega (
-              arith,
-              here,
-              had,
-              all,
-              below_next k,
-              way-count-same incoming script card k (at - 1) arriving-here (q ∙ is),
-            ))
-            (λ ne. omega (
-              arith,
-              get_or-set_other counts kind k (get_or counts kind 0 + 1) 0 ne,
-              had,
-              all,
-              below_next k,
-              way-count-kind incoming script card k (at - 1) (λ q. ne (q ∙ sym is)),
-            ))
-            (eq-or-ne k kind);
-      }
+    pub arriving-next : (kind : ℕ) → kind ≡ kind_at script i → kind < length counts
+        → CountedAlong script links card (set counts kind (get_or counts kind 0 + 1)) later left
+    arriving-next kind is lk = record {
+      chain = along-next s.chain t;
+      counted = λ k l.
+          let more : List ℕ = set counts kind (get_or counts kind 0 + 1) in
+          let had = s.counted k (simp length-set at l) in
+          let all = ap (way_count incoming script card k) (t.stood ∙ add-one i) in
+          ⊎_elim
+          (λ (q : k ≡ kind).
+          let here : get_or more k 0 ≡ get_or counts k 0 + 1 =
+          ap (λ (x : ℕ). get_or more x 0) q ∙ get_or-set_same counts kind (get_or counts kind 0 + 1) 0 lk
+          ∙ ap (λ (x : ℕ). get_or counts x 0 + 1) (sym q) in
+          omega (
+            arith,
+            here,
+            had,
+            all,
+            below_next k,
+            way-count-same incoming script card k i (along-key s.chain t) (q ∙ is),
+          ))
+          (λ ne. omega (
+            arith,
+            get_or-set_other counts kind k (get_or counts kind 0 + 1) 0 ne,
+            had,
+            all,
+            below_next k,
+            way-count-kind incoming script card k i (λ q. ne (q ∙ sym is)),
+          ))
+          (eq-or-ne k kind);
+    }

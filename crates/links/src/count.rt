@@ -3,6 +3,8 @@ ghost use Rattle.std.specs.Prelude.{ℕ, ◌+◌, ◌*◌, ◌≡◌, List};
 ghost use Rattle.links.specs.Index.{CountArrivingAsked, ArrivingCounted};
 ghost use Rattle.links.specs.Runs.{KindsPassed, RunAsked, RunOf, CountOnAsked, CountOf};
 
+use words::Chain;
+
 // How many of a card's links, sorted by kind, are of the kind of the link whose kind stands at the place `at`, from
 // there on.
 pub fn run_length(links: &[u16], at: usize, kind: u16) -> usize
@@ -67,12 +69,8 @@ pub fn count_arriving(
     requires { CountArrivingAsked script.now first.now next.now links card counts.old }
     ensures { ArrivingCounted script.now links card counts.old counts.new }
 {
-    // A chain: each link names the next, so no index is counted.
-    let mut at = usize::from(first[card]);
-    while 0 < at {
-        let i = at - 1;
+    for i in Chain::new(first[card], next) {
         let kind = usize::from(script[3 + 3 * i]);
         counts[kind] += 1;
-        at = usize::from(next[i]);
     }
 }

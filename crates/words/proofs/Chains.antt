@@ -3,6 +3,11 @@
 -- last-zero                                            no number below another has a key
 -- last-same, chained_same                              keys that agree on the numbers below another
 -- chained-none, chained_more, chained-skip             the chains of no numbers, of one more, and of one with no head
+-- chain-falls                                          a chain goes down
+-- Along                                                a chain of the numbers with a key, and where it stands
+-- along-start                                          it starts at the key's head
+-- along-in, along-key                                  the number that it gives next is one of them
+-- along-last, along-next                               and it goes on to the last one below
 -- Assumes nothing.
 use Prim.Native.Nat.{ℕ, zero, suc, ◌+◌, ◌≤◌, ◌<◌}
 use mathlib.Core.Path.{◌≡◌, refl, sym, ap, subst, ◌∙◌}
@@ -14,7 +19,7 @@ use native.Mathlib.Numerals.{add-one}
 use lib.ListN.{length, get_or, set, length-set}
 use lib.Seq.{get_or-set_same, get_or-set_other}
 use borrow.Author.Tests.{eq-eqb, ne_eqb}
-use Rattle.words.specs.Chain.{last_at, Chained}
+use Rattle.words.specs.Chain.{last_at, Chained, Falling, Stepped}
 use Rattle.words.proofs.Bools.{eq-or-ne}
 
 pub last-here : (key : ℕ → ℕ) (m k : ℕ) → key k ≡ m → last_at key m (suc k) ≡ suc k
@@ -123,3 +128,46 @@ chained-skip key first next k s past own zero-next = rw (add-one k) (record {
       (λ l. s.nexts i l)
       (eq-or-lt_of_le (le_of_suc-le-suc li));
 })
+
+-- ---- along a chain
+-- Of the first k numbers, those with the key m: the chain stands before the number at - 1, or at its end if `at` is 0.
+pub record Along (key : ℕ → ℕ) (m k at : ℕ) (next : List ℕ) : Type 0 where
+  pub before : ℕ
+  pub last : at ≡ last_at key m before
+  pub bound : at ≤ k
+  pub nexts : (i : ℕ) → i < k → get_or next i 0 ≡ last_at key (key i) i
+
+module _ {key : ℕ → ℕ} {first next : List ℕ} {m k : ℕ} (s : Chained key first next k) (h : m < length first) where
+  pub along-start : Along key m k (get_or first m 0) next
+  along-start = record {
+    before = k;
+    last = s.heads m h;
+    bound = omega (arith, s.heads m h, last-le key m k);
+    nexts = s.nexts;
+  }
+
+  pub chain-falls : k ≤ length next → Falling (get_or first m 0) next
+  chain-falls room = record {
+    inside = omega (arith, along-start.bound);
+    lower = λ i l. omega (arith, s.nexts i (omega (arith, along-start.bound, l)), last-le key (key i) i);
+  }
+
+module _ {key : ℕ → ℕ} {m k at : ℕ} {next : List ℕ} (s : Along key m k at next)
+    {i later : ℕ} {left : List ℕ} (t : Stepped at next i later left)
+  where
+    pub along-in : i < k
+    along-in = omega (arith, s.bound, t.stood)
+
+    pub along-key : key i ≡ m
+    along-key = last-is key m s.before i (omega (arith, s.last, t.stood))
+
+    pub along-last : later ≡ last_at key m i
+    along-last = t.leads ∙ s.nexts i along-in ∙ ap (λ (x : ℕ). last_at key x i) along-key
+
+    pub along-next : Along key m k later left
+    along-next = record {
+      before = i;
+      last = along-last;
+      bound = omega (arith, along-in, along-last, last-le key m i);
+      nexts = λ j l. ap (λ (x : List ℕ). get_or x j 0) t.same ∙ s.nexts j l;
+    }

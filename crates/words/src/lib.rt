@@ -1,12 +1,15 @@
 // The format's limits, the numbers of cards, kinds and shapes, and words and bytes as sizes: what every crate starts
 // with.
+//   chain     the numbers of a chain, each of which leads to the one before it
 //   refusal   what an operation refuses its input for
 #![tactic(auto)]
 
+mod chain;
 mod refusal;
 
 ghost use Rattle.words.specs.Bounded.{Bounded};
 
+pub use chain::Chain;
 pub use refusal::{Fault, Refusal};
 
 // The limits, as specs/Limits and specs/Sizes have them.

@@ -10,8 +10,6 @@ use Rattle.bookings.proofs.lookup.enter_booking.Given as goal
 abbrev pub it : ℕ → ℕ → ℕ → Booking
 it desk card shape = record { desk = desk; card = card; shape = shape }
 
-abbrev pub invariant-loop-at : goal.invariant-loop-at
-invariant-loop-at l = Looking l.bookings (it l.desk l.n l.shape.0) l.k l.at
-
-abbrev pub decreases-loop-at : goal.decreases-loop-at
-decreases-loop-at l = l.at
+abbrev pub invariant-loop-j : goal.invariant-loop-j
+invariant-loop-j l =
+    Looking l.bookings (it l.desk l.fn.card.0 l.shape.0) l.k l.j-iterator.at l.j-iterator.next.now

@@ -5,9 +5,7 @@ use lib.ListN.{length}
 use Rattle.links.proofs.Arrivals.{CountedAlong}
 use Rattle.links.proofs.count.count_arriving.Given as goal
 
-abbrev pub invariant-loop-at : goal.invariant-loop-at
-invariant-loop-at l =
-    (length l.counts ≡ length l.initial.counts) × CountedAlong l.script l.links l.card l.counts l.at
-
-abbrev pub decreases-loop-at : goal.decreases-loop-at
-decreases-loop-at l = l.at
+abbrev pub invariant-loop-i : goal.invariant-loop-i
+invariant-loop-i l =
+    (length l.counts ≡ length l.initial.counts)
+    × CountedAlong l.script l.links l.card l.counts l.i-iterator.at l.i-iterator.next.now
