@@ -1,6 +1,6 @@
 -- The bytes of all pairs, shape by shape, and of one shape card by card.
 -- CardsFitted    what holds before each card: the cards before it have their bytes under the shape
--- cards-start, cards-next, cards-end      at the first card, after one more, and after the last
+-- cards-next     after one more
 -- ShapesFitted   what holds before each shape: the shapes before it have their columns
 -- shapes-start, shapes-next, shapes-end   at the first shape, after one more, and after the last
 -- cell-inside    the byte of a pair lies in the grid
@@ -58,22 +58,6 @@ pub record CardsFitted (template script : List ℕ) (e : Extent) (t : ℕ) (befo
       → get_or grid (c * e.shapes + s) 0 ≡ get_or before (c * e.shapes + s) 0
 
 module _ (template script : List ℕ) (e : Extent) (t : ℕ) (before : List ℕ) where
-  pub cards-start : length before ≡ e.cards * e.shapes → CardsFitted template script e t before before 0
-  cards-start h = record {
-    size = h;
-    within = omega arith;
-    each = λ parts r c l. absurd (omega arith);
-    others = λ c s l h d. refl;
-  }
-
-  pub cards-end : (grid : List ℕ) (n : ℕ) → CardsFitted template script e t before grid n → e.cards ≤ n →
-      ColumnFitted template script e t before grid
-  cards-end grid n f h = record {
-    full = f.size;
-    each = λ parts r c l. f.each parts r c (omega arith);
-    others = f.others;
-  }
-
   module _ (grid : List ℕ) (n cell byte : ℕ) (f : CardsFitted template script e t before grid n) (l : n < e.cards)
       (h : t < e.shapes) (q : cell ≡ n * e.shapes + t)
       (b : (parts : List Part) → read_template template ≡ accepted (template_as e.kinds e.shapes parts)

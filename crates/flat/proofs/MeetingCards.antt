@@ -1,7 +1,7 @@
 -- Meeting the interval of a flat part, label by label.
 --   link-none, link-some           no link at a place, or one that is met: a `return` of meet_link each
 --   demand-none, demand-few         no link needs to be there where there is none; it counts 1 at most
---   all_found, one-missing         no link is missing, or one is: a `return` of all_met each
+--   one-missing                    a link is missing: a `return` of all_met
 --   met-none, met_next, met-skip   no label is met yet; the label at the bound; labels that count 0
 --   met-alike, met-few             other counts that are the same below the bound; no more links than labels
 --   flat-at                        what lies in a flat part's interval, by the places of its links
@@ -73,11 +73,6 @@ demand-few words place = bool_case (ltb 0 place && ltb 0 (low_at words place))
 demand-must : (words places : List ℕ) (k : ℕ) → demanded words (get_or places k 0) ≡ bit (must words places k)
 unfolding demanded must
 demand-must words places k = refl
-
-pub all_found : (needed found : ℕ) (before : Span) → needed ≤ found → AllMet needed found before before
-all_found needed found before l = record {
-  numbers = λ i. (λ h. (h, λ g. absurd (omega arith)), λ h. h.0);
-}
 
 pub one-missing : (needed found : ℕ) (before after : Span) → view after ≡ meet (view before) (view (span 0 0))
     → found < needed → AllMet needed found before after

@@ -3,7 +3,7 @@
 -- begins-none   no part is taken yet
 -- begins-more   one part more; begins-link: one link more
 -- begins-all    the first parts, as a run of their own; begins-small: their span is small enough to be added
--- Grows         so many parts more; grows_none, grows-link: none, and one link more
+-- Grows         so many parts more; grows-link: one link more
 -- Assumes nothing.
 use Prim.Native.Nat.{ℕ, ◌+◌, ◌-◌, ◌*◌, ◌≤◌, ◌<◌}
 use mathlib.Core.Path.{◌≡◌, refl, sym, ap, subst, ◌∙◌}
@@ -153,11 +153,6 @@ Grows w words left code before count e =
     (at done : ℕ) → Begins w words left at code done before → Begins w words left at code (done + count) e
 
 module _ (w : ℕ → ℕ) (words : List ℕ) (left code : ℕ) (before : Eval) where
-  pub grows_none : Grows w words left code before 0 before
-  grows_none at done b =
-      let same : done ≡ done + 0 = omega arith in
-      subst (λ (n : ℕ). Begins w words left at code n before) same b
-
   pub grows-link : (count : ℕ) (e : Eval) → Grows w words left code before count e → (amount label : ℕ) (x : Span) →
       0 < left → LinkHere words e.next → label ≡ get_or words e.next 0 - 256 → amount ≡ w label → amount < 65536 →
       JoinedWith code e.span (link_interval_at words e.next amount) amount x →
