@@ -1,6 +1,5 @@
--- What each way out of the call for both typings answers, in the format's order of refusals (docs/FORMAT.md,
--- "Operations").
---   both-refused, both-large, both-done
+-- What each way out of the call for both typings answers where what is lent is read (docs/FORMAT.md, "Operations").
+--   both-large, both-done
 -- Assumes nothing.
 use Prim.Native.Nat.{ℕ}
 use mathlib.Core.Path.{◌≡◌, refl}
@@ -8,25 +7,16 @@ use mathlib.Core.List.{List, [], ◌∷◌}
 use lib.ListN.{length}
 use borrow.Author.Tests.{eq-eqb, ne_eqb}
 use Rattle.words.specs.Said.{refusal}
-use Rattle.words.specs.Reading.{accepted, turned_down}
+use Rattle.words.specs.Reading.{accepted}
 use Rattle.sheet.specs.Sheet.{Sheet, size}
 use Rattle.bookings.specs.Bookings.{Booked}
 use Rattle.typing.specs.Answer.{BothSaid, both_refused}
 use Rattle.typing.specs.Calls.{smallest_reading, BothFound, Grids, BothSays}
 
--- One refusal for both typings.
-abbrev twice : ℕ → ℕ → BothSaid
-twice number place = both_refused (refusal number (place ∷ []))
-
 module _ (template script bookings : List ℕ) (desk : ℕ) (before : Grids) where
-  pub both-refused : (number place : ℕ)
-      → smallest_reading template script bookings desk before.small ≡ turned_down number place
-      → BothSays template script bookings desk before before (twice number place)
-  both-refused number place h = rw h (refl, refl)
-
   module _ (s : Sheet) (h : smallest_reading template script bookings desk before.small ≡ accepted s) where
     pub both-large : (length before.large ≡ size s → ⊥)
-        → BothSays template script bookings desk before before (twice 40 0)
+        → BothSays template script bookings desk before before (both_refused (refusal 40 (0 ∷ [])))
     both-large ne = rw (h, ne_eqb (length before.large) (size s) ne) (refl, refl)
 
     pub both-done : (after : Grids) (said : BothSaid) → length before.large ≡ size s

@@ -1,6 +1,6 @@
--- What each way out of the call for the typings of both desks answers, in the format's order of refusals
--- (docs/FORMAT.md, "Operations").
---   desks-refused, desks-radio, desks-television, desks-large, desks-done
+-- What each way out of the call for the typings of both desks answers where what is lent is read (docs/FORMAT.md,
+-- "Operations").
+--   desks-radio, desks-television, desks-large, desks-done
 -- Assumes nothing.
 use Prim.Native.Nat.{ℕ}
 use mathlib.Core.Path.{◌≡◌, refl}
@@ -8,30 +8,25 @@ use mathlib.Core.List.{List, [], ◌∷◌}
 use lib.ListN.{length}
 use borrow.Author.Tests.{eq-eqb, ne_eqb}
 use Rattle.words.specs.Said.{refusal}
-use Rattle.words.specs.Reading.{accepted, turned_down}
+use Rattle.words.specs.Reading.{accepted}
 use Rattle.sheet.specs.Sheet.{Sheet, size}
 use Rattle.typing.specs.Answer.{DesksSaid, desks_refused}
 use Rattle.typing.specs.Calls.{listed_reading}
 use Rattle.typing.specs.Desks.{DeskGrids, DesksFound, DesksSays}
 
--- One refusal for all that the call says.
-abbrev thrice : ℕ → ℕ → DesksSaid
-thrice number place = desks_refused (refusal number (place ∷ []))
+-- One refusal for all that the call says: the size of a grid.
+abbrev resized : DesksSaid
+resized = desks_refused (refusal 40 (0 ∷ []))
 
 module _ (template script bookings : List ℕ) where
-  pub desks-refused : (grids : DeskGrids) (number place : ℕ)
-      → listed_reading template script bookings ≡ turned_down number place
-      → DesksSays template script bookings grids grids (thrice number place)
-  desks-refused grids number place h = rw h (refl, refl)
-
   module _ (s : Sheet) (h : listed_reading template script bookings ≡ accepted s) (grids : DeskGrids) where
     pub desks-radio : (length grids.radio ≡ size s → ⊥)
-        → DesksSays template script bookings grids grids (thrice 40 0)
+        → DesksSays template script bookings grids grids resized
     desks-radio ne = rw (h, ne_eqb (length grids.radio) (size s) ne) (refl, refl)
 
     module _ (e : length grids.radio ≡ size s) where
       pub desks-television : (length grids.television ≡ size s → ⊥)
-          → DesksSays template script bookings grids grids (thrice 40 0)
+          → DesksSays template script bookings grids grids resized
       desks-television ne = rw (
         h,
         eq-eqb (length grids.radio) (size s) e,
@@ -40,7 +35,7 @@ module _ (template script bookings : List ℕ) where
 
       module _ (f : length grids.television ≡ size s) where
         pub desks-large : (length grids.large ≡ size s → ⊥)
-            → DesksSays template script bookings grids grids (thrice 40 0)
+            → DesksSays template script bookings grids grids resized
         desks-large ne = rw (
           h,
           eq-eqb (length grids.radio) (size s) e,

@@ -1,8 +1,7 @@
 -- What reading a sheet and a booking list finds, by what its steps find.
---   sheet-refused, list-refused  the two together are turned down for the sheet, or for the list
---   list-taken                   the list is read, and so are both
+--   list-taken, list-refused     the list is read, and so are both; or both are turned down for it
 --   listed-asked, lent-asked     the sheet of a list that is read, and for a desk and a grid
---   files-refused, desk-refused, size-refused   what is lent is turned down for the files, the desk or the grid
+--   desk-refused, size-refused   what is lent is turned down for the desk or the grid
 -- Assumes nothing.
 use Prim.Native.Nat.{ℕ, ◌≤◌, ◌<◌}
 use mathlib.Core.Path.{◌≡◌, refl}
@@ -18,11 +17,6 @@ use Rattle.typing.specs.Calls.{with_list, listed_reading, booked_reading, smalle
 use Rattle.typing.proofs.Booked.{desk-taken, grid-taken}
 use Rattle.lent.specs.Readings.{BookedSheet, ReadFor}
 use Rattle.lent.proofs.KnownSheet.{sheet, asked}
-
-pub sheet-refused : (template script : List ℕ) (list : ℕ → ℕ → Reading ℕ) {number place : ℕ}
-    → read_sheet template script ≡ turned_down number place
-    → then (read_sheet template script) (with_list list) ≡ turned_down number place
-sheet-refused template script list h = rw h refl
 
 -- A booking list of a sheet that is read, by a reading of it.
 module _ (reading : ℕ → ℕ → Reading ℕ) {template script names : List ℕ} {e : Extent}
@@ -58,8 +52,3 @@ module _ (template script bookings : List ℕ) {s : Sheet} (taken : listed_readi
   pub size-refused : desk ≤ 1 → (length grid ≡ size s → ⊥)
       → smallest_reading template script bookings desk grid ≡ turned_down 40 0
   size-refused ours other = rw (taken, le-ltb 1 desk ours, ne_eqb (length grid) (size s) other) refl
-
-pub files-refused : (template script bookings : List ℕ) (desk : ℕ) (grid : List ℕ) {number place : ℕ}
-    → listed_reading template script bookings ≡ turned_down number place
-    → smallest_reading template script bookings desk grid ≡ turned_down number place
-files-refused template script bookings desk grid h = rw h refl
