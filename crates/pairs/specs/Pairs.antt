@@ -4,17 +4,20 @@
 -- SheetTested   a sheet that is read, its table of names, and the grid of the pairs that fit by counts
 -- TestedAs      the same of a sheet that is lent
 -- SomeTested    some sheet is tested, and where its links stand is known
+-- walk_on       what a search on a sheet goes by
 -- PairsTested   what testing the pairs leaves: some sheet is tested so, and each that the readings ask for
 -- Assumes nothing.
 use Rattle.std.specs.Prelude.{ℕ, ◌*◌, ◌≤◌, ◌≡◌, List, length}
 use Rattle.words.specs.Limits.{max_cards, max_links}
 use Rattle.words.specs.Reading.{accepted}
 use Rattle.links.specs.Index.{ArrivalsOf, ChainAsked}
+use Rattle.links.specs.declared.index.CardLinks.{CardLinks}
 use Rattle.links.specs.declared.index.Chains.{Chains}
 use Rattle.sheet.specs.Sheet.{Sheet, read_sheet}
 use Rattle.sheet.specs.Opened.{Known, SheetKnown}
 use Rattle.sheet.specs.declared.Extent.{Extent}
 use Rattle.sheet.specs.declared.ReadSheet.{ReadSheet}
+use Rattle.walks.specs.declared.walk.Walk.{Walk}
 use Rattle.fits.specs.Fitting.{NamedArrivals, LinksFound, Fitted}
 
 -- What chaining the links to each card asks.
@@ -59,3 +62,15 @@ pub record SomeTested (lent : ReadSheet) (starts : List ℕ) (chains : Chains) (
 pub record PairsTested (lent : ReadSheet) (starts : List ℕ) (chains : Chains) (fitting : List ℕ) : Type 0 where
   pub some : SomeTested lent starts chains fitting
   pub tested : (s : Sheet) → read_sheet lent.template.now lent.script.now ≡ accepted s → TestedAs s lent fitting
+
+-- What a search on a sheet goes by.
+abbrev pub walk_on : ReadSheet → CardLinks → Walk
+walk_on sheet links = record {
+  script = sheet.script;
+  starts = links.starts;
+  first = links.chains.first;
+  next = links.chains.next;
+  names = sheet.names;
+  shapes = sheet.extent.shapes;
+  incoming = sheet.extent.incoming;
+}

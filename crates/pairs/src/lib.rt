@@ -1,11 +1,13 @@
 // The pairs of a sheet tested, and where its links stand.
 #![tactic(auto)]
 
-ghost use Rattle.pairs.specs.Pairs.{ArrivalsAsked, ArrivalsChained, TestAsked, PairsTested};
+ghost use Rattle.std.specs.Prelude.{◌≡◌};
+ghost use Rattle.pairs.specs.Pairs.{ArrivalsAsked, ArrivalsChained, TestAsked, PairsTested, walk_on};
 
 use fits::fit_grid;
 use links::{CardLinks, Chains, chain, link_starts};
 use sheet::{Extent, ReadSheet};
+use walks::Walk;
 use words::{MAX_CARDS, MAX_LINKS};
 
 // Where the links from each card start, and where those from the last end.
@@ -46,4 +48,19 @@ pub fn test_pairs(
         chains: *chains,
     };
     fit_grid(sheet, &links, fitting);
+}
+
+// What a search on a sheet goes by.
+pub fn walk_of<'a>(sheet: &ReadSheet<'a>, links: &CardLinks<'a>) -> Walk<'a>
+    ensures { result ≡ walk_on sheet.now links.now }
+{
+    Walk {
+        script: sheet.script,
+        starts: links.starts,
+        first: links.chains.first,
+        next: links.chains.next,
+        names: sheet.names,
+        shapes: usize::from(sheet.extent.shapes),
+        incoming: sheet.extent.incoming,
+    }
 }
