@@ -34,8 +34,8 @@ pub fn flip(grid: &mut [u8])
     }
 }
 
-#[tactic(auto, unfolding(crate::specs::Grid::on))]
 // Finds the lowest place that is on in `wanted` and not in `had`, if there is one.
+#[tactic(auto, unfolding(crate::specs::Grid::on))]
 pub fn first_missing(wanted: &[u8], had: &[u8]) -> Option<usize>
     requires { length had.now ≡ length wanted.now }
     ensures { MissingFound wanted.now had.now result }

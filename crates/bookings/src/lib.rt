@@ -13,7 +13,7 @@ ghost use Rattle.bookings.specs.Bookings.{booking_rule, read_each, read_bookings
 ghost use Rattle.bookings.specs.Steps.{WordsIn, CountRead, PairsAsked};
 
 pub use lookup::enter_booking;
-use words::{Card, Fault, MAX_BOOKINGS, MAX_CARDS, Refusal, Shape, wide};
+use words::{Card, Fault, MAX_BOOKINGS, MAX_CARDS, Refusal, Shape};
 
 // Where the desk of booking i stands in the list.
 pub fn desk_index(i: usize) -> usize
@@ -72,10 +72,10 @@ pub fn list_count(width: usize, bookings: &[u16]) -> Result<u16, Refusal>
         return Err(Refusal(Fault::ListLength, 0));
     }
     let count = bookings[0];
-    if MAX_BOOKINGS < wide(count) {
+    if MAX_BOOKINGS < usize::from(count) {
         return Err(Refusal(Fault::BookingCount, 0));
     }
-    if bookings.len() != 1 + width * wide(count) {
+    if bookings.len() != 1 + width * usize::from(count) {
         return Err(Refusal(Fault::ListLength, 0));
     }
     Ok(count)
@@ -89,7 +89,7 @@ fn read_pairs(cards: u16, shapes: u16, count: u16, bookings: &[u16]) -> Result<u
 {
     let mut first = [0u16; MAX_CARDS];
     let mut next = [0u16; MAX_BOOKINGS];
-    let pairs = wide(count);
+    let pairs = usize::from(count);
     for i in 0..pairs {
         let desk = desk_at(bookings, i);
         if 1 < desk {

@@ -3,7 +3,7 @@
 ghost use Rattle.bookings.specs.Steps.{LookupAsked, Entered};
 
 use crate::{desk_at, shape_at};
-use words::{Card, Shape, wide};
+use words::{Card, Shape};
 
 // Whether one of the first k bookings of the list is the desk's and of the card and the shape. Where none is, booking k
 // is chained with them: `first[n]` is one more than the last booking of card n, or 0, and `next[j]` one more than the
@@ -21,16 +21,16 @@ pub fn enter_booking(
     ensures { Entered bookings.now k (record { desk = desk; card = card.0; shape = shape.0 })
         first.old next.old first.new next.new result }
 {
-    let n = wide(card.0);
+    let n = usize::from(card.0);
     let last = first[n];
-    let mut at = wide(last);
+    let mut at = usize::from(last);
     // a chain: each step follows the last by `next`
     while at != 0 {
         let j = at - 1;
         if shape_at(bookings, j).0 == shape.0 && desk_at(bookings, j) == desk {
             return true;
         }
-        at = wide(next[j]);
+        at = usize::from(next[j]);
     }
     next[k] = last;
     first[n] = (k + 1) as u16;

@@ -8,7 +8,7 @@
 //   6 Judge a grid: a template, a script, bookings, a desk, the bytes of a grid
 //   7 Tidy bookings: a template, a script, a stored list, how many words the buffer has, which are all 7 before
 // The program ends where the input does, at any other tag, and at a section that is not whole or has no room. Each
-// function reads the sections from one place on, and answers whether it is to go on.
+// function reads the sections of one operation, and answers whether its end was written; none, where they are not there.
 #![tactic(auto)]
 
 use answers::{
@@ -24,147 +24,87 @@ const MOST_CASES: u32 = 1000000;
 // Room for a buffer of as many words as a word can say.
 const BUFFER_ROOM: usize = 65536;
 
-// From the shape on.
-fn from_shape(rt: &impl Print, input: &mut impl Read, template: &[u16]) -> bool {
-    let shape = read_word(input);
-    if !shape.whole {
-        return false;
-    }
-    let mut words = [0u16; MOST_WORDS];
-    let counts = read_words(input, &mut words);
-    if !counts.whole {
-        return false;
-    }
-    let end = counts.count;
-    tell_fit(rt, template, shape.value, &words[..end])
+fn template(rt: &impl Print, input: &mut impl Read) -> Option<bool> {
+    let mut first = [0u16; MOST_WORDS];
+    let template = read_words(input, &mut first)?;
+    Some(tell_template(rt, template))
 }
 
-// From the card on.
-fn from_card(rt: &impl Print, input: &mut impl Read, template: &[u16], script: &[u16]) -> bool {
-    let card = read_word(input);
-    if !card.whole {
-        return false;
-    }
-    tell_links(rt, template, script, card.value)
+fn fit(rt: &impl Print, input: &mut impl Read) -> Option<bool> {
+    let mut first = [0u16; MOST_WORDS];
+    let template = read_words(input, &mut first)?;
+    let shape = read_word(input)?;
+    let mut second = [0u16; MOST_WORDS];
+    let counts = read_words(input, &mut second)?;
+    Some(tell_fit(rt, template, shape, counts))
 }
 
-// From the desk on.
-fn from_desk(
-    rt: &impl Print,
-    input: &mut impl Read,
-    template: &[u16],
-    script: &[u16],
-    bookings: &[u16],
-) -> bool {
-    let desk = read_word(input);
-    if !desk.whole {
-        return false;
-    }
-    let mut bytes = [0u8; MOST_BYTES];
-    let grid = read_bytes(input, &mut bytes);
-    if !grid.whole {
-        return false;
-    }
-    let end = grid.count;
-    tell_verdict(rt, template, script, bookings, desk.value, &bytes[..end])
+fn script(rt: &impl Print, input: &mut impl Read) -> Option<bool> {
+    let mut first = [0u16; MOST_WORDS];
+    let template = read_words(input, &mut first)?;
+    let mut second = [0u16; MOST_WORDS];
+    let script = read_words(input, &mut second)?;
+    Some(tell_script(rt, template, script))
 }
 
-// From the size of the buffer on.
-fn from_size(
-    rt: &impl Print,
-    input: &mut impl Read,
-    template: &[u16],
-    script: &[u16],
-    stored: &[u16],
-) -> bool {
-    let size = read_word(input);
-    if !size.whole {
-        return false;
-    }
-    let end = wide(size.value);
+fn links(rt: &impl Print, input: &mut impl Read) -> Option<bool> {
+    let mut first = [0u16; MOST_WORDS];
+    let template = read_words(input, &mut first)?;
+    let mut second = [0u16; MOST_WORDS];
+    let script = read_words(input, &mut second)?;
+    let card = read_word(input)?;
+    Some(tell_links(rt, template, script, card))
+}
+
+fn sheet(rt: &impl Print, input: &mut impl Read) -> Option<bool> {
+    let mut room = [0u8; MOST_BYTES];
+    let bytes = read_bytes(input, &mut room)?;
+    Some(tell_sheet(rt, bytes))
+}
+
+fn verdict(rt: &impl Print, input: &mut impl Read) -> Option<bool> {
+    let mut first = [0u16; MOST_WORDS];
+    let template = read_words(input, &mut first)?;
+    let mut second = [0u16; MOST_WORDS];
+    let script = read_words(input, &mut second)?;
+    let mut third = [0u16; MOST_WORDS];
+    let bookings = read_words(input, &mut third)?;
+    let desk = read_word(input)?;
+    let mut room = [0u8; MOST_BYTES];
+    let grid = read_bytes(input, &mut room)?;
+    Some(tell_verdict(rt, template, script, bookings, desk, grid))
+}
+
+fn tidied(rt: &impl Print, input: &mut impl Read) -> Option<bool> {
+    let mut first = [0u16; MOST_WORDS];
+    let template = read_words(input, &mut first)?;
+    let mut second = [0u16; MOST_WORDS];
+    let script = read_words(input, &mut second)?;
+    let mut third = [0u16; MOST_WORDS];
+    let stored = read_words(input, &mut third)?;
+    let size = wide(read_word(input)?);
     let mut buffer = [7u16; BUFFER_ROOM];
-    tell_tidied(rt, template, script, stored, &mut buffer[0..end])
-}
-
-// From the bookings or the stored list on.
-fn from_list(
-    rt: &impl Print,
-    input: &mut impl Read,
-    tag: u16,
-    template: &[u16],
-    script: &[u16],
-) -> bool {
-    let mut words = [0u16; MOST_WORDS];
-    let section = read_words(input, &mut words);
-    if !section.whole {
-        return false;
-    }
-    let end = section.count;
-    let list = &words[..end];
-    match tag {
-        6 => from_desk(rt, input, template, script, list),
-        _ => from_size(rt, input, template, script, list),
-    }
-}
-
-// From the script on.
-fn from_script(rt: &impl Print, input: &mut impl Read, tag: u16, template: &[u16]) -> bool {
-    let mut words = [0u16; MOST_WORDS];
-    let section = read_words(input, &mut words);
-    if !section.whole {
-        return false;
-    }
-    let end = section.count;
-    let script = &words[..end];
-    match tag {
-        3 => tell_script(rt, template, script),
-        4 => from_card(rt, input, template, script),
-        _ => from_list(rt, input, tag, template, script),
-    }
-}
-
-// From the template on.
-fn from_template(rt: &impl Print, input: &mut impl Read, tag: u16) -> bool {
-    let mut words = [0u16; MOST_WORDS];
-    let section = read_words(input, &mut words);
-    if !section.whole {
-        return false;
-    }
-    let end = section.count;
-    let template = &words[..end];
-    match tag {
-        1 => tell_template(rt, template),
-        2 => from_shape(rt, input, template),
-        _ => from_script(rt, input, tag, template),
-    }
-}
-
-// From the bytes of an input on.
-fn from_input(rt: &impl Print, input: &mut impl Read) -> bool {
-    let mut bytes = [0u8; MOST_BYTES];
-    let section = read_bytes(input, &mut bytes);
-    if !section.whole {
-        return false;
-    }
-    let end = section.count;
-    tell_sheet(rt, &bytes[..end])
+    Some(tell_tidied(rt, template, script, stored, &mut buffer[..size]))
 }
 
 // The next case.
-fn next_case(rt: &impl Print, input: &mut impl Read) -> bool {
-    let word = next_word(input);
-    let tag = word.value;
-    match tag {
-        5 => from_input(rt, input),
-        1..=7 => from_template(rt, input, tag),
-        _ => false,
+fn next_case(rt: &impl Print, input: &mut impl Read) -> Option<bool> {
+    match next_word(input)? {
+        1 => template(rt, input),
+        2 => fit(rt, input),
+        3 => script(rt, input),
+        4 => links(rt, input),
+        5 => sheet(rt, input),
+        6 => verdict(rt, input),
+        7 => tidied(rt, input),
+        _ => None,
     }
 }
 
 fn main(rt: HostRuntime) {
     let mut input = rt.stdin();
     for _ in 0..MOST_CASES {
-        if !next_case(&rt, &mut input) {
+        if next_case(&rt, &mut input) != Some(true) {
             break;
         }
     }

@@ -1,17 +1,16 @@
 -- The closure of the bookings in a grid ("Smallest").
 --   closes      a flood from the marked pairs, turned round, is the closure of the bookings
 -- Assumes nothing.
-use mathlib.Core.Path.{◌≡◌, sym, ◌∙◌, subst}
+use mathlib.Core.Path.{◌≡◌, ◌∙◌}
 use mathlib.Core.List.{List}
-use Prim.Native.Nat.{ℕ, ◌+◌, ◌*◌, ◌/◌, ◌%◌, ◌<◌}
+use Prim.Native.Nat.{ℕ, ◌*◌}
 use native.Mathlib.Omega.{arith}
-use lib.ListN.{length, get_or, replicate}
-use Rattle.board.specs.Machine.{Flipped, FirstMissing}
+use lib.ListN.{length, get_or}
+use Rattle.board.specs.Machine.{Flipped}
 use Rattle.board.proofs.Closure.{flooded-books}
 use Rattle.board.proofs.Flooding.{flood-flipped}
 use Rattle.typing.specs.Needs.{Ready}
 use Rattle.flood.specs.Follows.{Followed}
-use Rattle.words.proofs.Places.{shape-in, place_of}
 use Rattle.typing.proofs.Boards.{board-inside}
 use Rattle.bookings.specs.Steps.{BookingsIn}
 use Rattle.closure.specs.Closing.{Marked, Closes}

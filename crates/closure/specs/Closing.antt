@@ -4,7 +4,7 @@
 -- CloseAsked, Closes      a grid is the closure of the bookings
 -- UnfitAsked, UnfitFound  the lowest pair of the closure that does not fit, if there is one
 -- Assumes nothing.
-use Rattle.std.specs.Prelude.{ℕ, ◌+◌, ◌*◌, ◌≤◌, ◌<◌, ◌≡◌, List, Bool, false, length, get_or, replicate, Option, MatchOption}
+use Rattle.std.specs.Prelude.{ℕ, ◌+◌, ◌*◌, ◌≤◌, ◌<◌, ◌≡◌, List, false, length, get_or, replicate, Option, MatchOption}
 use Rattle.words.specs.declared.Card.{Card}
 use Rattle.words.specs.declared.Shape.{Shape}
 use Rattle.words.specs.Limits.{max_cards, max_shapes}

@@ -17,7 +17,7 @@ use evaluator::part_fits;
 use parts::Sizes;
 use template::{open_at, read_names};
 use trees::word;
-use words::{Fault, MAX_COUNT, MAX_KINDS, MAX_LABELS, Refusal, Shape, TABLE_SIZE, wide};
+use words::{Fault, MAX_COUNT, MAX_KINDS, MAX_LABELS, Refusal, Shape, TABLE_SIZE};
 
 // Where the count of words of a shape stands.
 fn shape_place(words: &[u16], shape: u16) -> usize
@@ -25,7 +25,7 @@ fn shape_place(words: &[u16], shape: u16) -> usize
 {
     let mut at = 2;
     for _ in 0..shape {
-        at = at + 1 + wide(word(words, at));
+        at = at + 1 + usize::from(word(words, at));
     }
     at
 }
@@ -102,14 +102,14 @@ fn fit_accepted(
     if sizes.shapes <= n {
         return Err(Refusal(Fault::CountedShape, 0));
     }
-    let each_way = wide(sizes.kinds);
+    let each_way = usize::from(sizes.kinds);
     if counts.len() != 2 * each_way {
         return Err(Refusal(Fault::CountsLength, 0));
     }
     if let Some(over) = first_over(counts) {
         return Err(Refusal(Fault::CountRange, over));
     }
-    let base = wide(n) * MAX_LABELS;
+    let base = usize::from(n) * MAX_LABELS;
     let end = base + MAX_LABELS;
     let at = shape_place(template, n);
     let mut labels = [0u16; MAX_LABELS];

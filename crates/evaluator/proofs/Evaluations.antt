@@ -7,6 +7,7 @@ use mathlib.Core.Path.{◌≡◌, refl, ap, ◌∙◌, subst}
 use mathlib.Core.List.{List}
 use Prim.Native.Nat.{ℕ, ◌+◌, ◌-◌, ◌*◌, ◌≤◌, ◌<◌}
 use native.Mathlib.Omega.{arith}
+use borrow.Author.Tests.{eq-eqb, ne_eqb}
 use lib.ListN.{length}
 use Rattle.words.specs.Limits.{max_template}
 use Rattle.bags.specs.Part.{Part, Parts, Limit}
@@ -14,7 +15,8 @@ use Rattle.bags.specs.Interval.{link_interval}
 use Rattle.bags.specs.Span.{view, Small}
 use Rattle.bags.specs.declared.Span.{Span}
 use Rattle.bags.proofs.Spans.{span, small-more, small-up}
-use Rattle.parts.specs.Placed.{Placed, placed}
+use Rattle.parts.specs.Reading.{gathered}
+use Rattle.parts.specs.Placed.{Placed, placed, onto}
 use Rattle.trees.specs.Trees.{tree_at}
 use Rattle.trees.proofs.Sizes.{next-bound}
 use Rattle.joins.specs.declared.Eval.{Eval}
@@ -58,7 +60,15 @@ module _ (w : ℕ → ℕ) (at : ℕ) where
     small = small-more c (65535 * (at + 4 - at)) x (omega arith) s;
   }
 
-  -- No parts of a choice.
-  pub none-choice : (next : ℕ) → Evaluates w at (placed (Part.choice Parts.none) next) (eval next (span 0 0))
-  unfolding view Small
-  none-choice next = record { next = refl; span = refl; small = (omega arith, λ d. omega arith) }
+  -- No parts of a choice, and of all.
+  module _ (code next : ℕ) where
+    pub none-choice :
+        code ≡ 16 → Evaluates w at (onto (gathered code) (placed Parts.none next)) (eval next (span 0 0))
+    unfolding view Small
+    none-choice h =
+        rw (eq-eqb code 16 h) (record { next = refl; span = refl; small = (omega arith, λ d. omega arith) })
+
+    pub none-all :
+        (e : Eval) → (code ≡ 16 → ⊥) → Evaluates w at (placed Part.nothing next) e →
+        Evaluates w at (onto (gathered code) (placed Parts.none next)) e
+    none-all e d v = rw (ne_eqb code 16 d) (record { next = v.next; span = v.span; small = v.small })

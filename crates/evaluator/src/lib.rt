@@ -10,11 +10,11 @@ ghost use Rattle.parts.specs.Reading.{gathered};
 ghost use Rattle.parts.specs.Placed.{placed, onto};
 ghost use Rattle.links.specs.Runs.{amount};
 ghost use Rattle.trees.specs.Trees.{link_at, tree_at, trees_at};
-ghost use Rattle.joins.specs.Evaluation.{Evaluates, group_code};
+ghost use Rattle.joins.specs.Evaluation.{Evaluates};
 ghost use Rattle.evaluator.specs.Machine.{Evaluable, LinkEvaluable, Wrapped};
 
 use bags::{Span, TOP, has_one, link_span, wrap_span};
-use joins::{Eval, Group, count_next, join, take_links, uncounted};
+use joins::{Eval, count_next, join, take_links, uncounted};
 use trees::{Front, front_of, word};
 use words::MAX_DEPTH;
 
@@ -28,28 +28,16 @@ fn nothing(next: usize) -> Eval
     }
 }
 
-// The group that a code of one (16 or 17) starts.
-fn group_of(code: u16) -> Group
-    ensures { (ps : Parts) → gathered (group_code result) ps ≡ gathered code ps }
+// No parts of a choice (16) or of all (17), before the place `next`.
+fn none(code: u16, next: usize) -> Eval
+    ensures { (w : ℕ → ℕ) (at : ℕ) → Evaluates w at (onto (gathered code) (placed Parts.none next)) result }
 {
-    if code == 16 {
-        Group::Choice
-    } else {
-        Group::All
+    if code != 16 {
+        return nothing(next);
     }
-}
-
-// No parts of a group, before the place `next`.
-fn none(group: Group, next: usize) -> Eval
-    ensures { (w : ℕ → ℕ) (at : ℕ) →
-        Evaluates w at (onto (gathered (group_code group)) (placed Parts.none next)) result }
-{
-    match group {
-        Group::Choice => Eval {
-            next,
-            span: Span { lo: 0, hi: 0 },
-        },
-        Group::All => nothing(next),
+    Eval {
+        next,
+        span: Span { lo: 0, hi: 0 },
     }
 }
 
@@ -91,8 +79,7 @@ fn part(words: &[u16], links: &[u16], listed: &[u16], at: usize, left: usize) ->
     match code {
         16..=17 => {
             let parts = word(words, core + 1);
-            let group = group_of(code);
-            let inner = run(words, links, listed, core + 2, levels - 1, parts, group);
+            let inner = run(words, links, listed, core + 2, levels - 1, parts, code);
             wrapped(front, inner)
         }
         256..=383 => wrapped(front, link(words, links, listed, core, code - 256)),
@@ -100,7 +87,7 @@ fn part(words: &[u16], links: &[u16], listed: &[u16], at: usize, left: usize) ->
     }
 }
 
-// So many parts of a group, one after the other. Links that stand side by side are taken together.
+// So many parts of a choice (16) or of all (17), one after the other. Links that stand side by side are taken together.
 #[cycle(part_run)]
 fn run(
     words: &[u16],
@@ -109,20 +96,20 @@ fn run(
     at: usize,
     left: usize,
     parts: u16,
-    group: Group,
+    code: u16,
 ) -> Eval
     requires { Evaluable words.now links.now listed.now }
     ensures { Evaluates (amount links.now listed.now) at
-        (onto (gathered (group_code group)) (trees_at (tree_at left words.now) parts at)) result }
+        (onto (gathered code) (trees_at (tree_at left words.now) parts at)) result }
 {
-    let mut whole = none(group, at);
+    let mut whole = none(code, at);
     let mut done = 0;
     // a cursor: each turn takes a part, or as many links as stand there
     while done < parts {
-        let some = take_links(words, links, listed, left, parts - done, group, whole);
+        let some = take_links(words, links, listed, left, parts - done, code, whole);
         if some.count == 0 {
             let first = part(words, links, listed, whole.next, left);
-            whole = join(group, whole, first);
+            whole = join(code, whole, first);
             done += 1;
         } else {
             whole = some.eval;

@@ -6,7 +6,7 @@
 -- FloodAsked   what the search asks
 -- Off, Followed   its answer: from the places that were off
 -- Assumes nothing.
-use Rattle.std.specs.Prelude.{ℕ, ◌+◌, ◌*◌, ◌/◌, ◌≤◌, ◌<◌, ◌≡◌, List, Bool, false, not, length, get_or}
+use Rattle.std.specs.Prelude.{ℕ, ◌+◌, ◌*◌, ◌/◌, ◌≤◌, ◌<◌, ◌≡◌, List, false, not, length, get_or}
 use Rattle.words.specs.Limits.{max_cards}
 use Rattle.words.specs.Sizes.{max_grid}
 use Rattle.bags.specs.Label.{outgoing, incoming}

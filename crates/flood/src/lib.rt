@@ -27,14 +27,7 @@ fn strike_entry(entry: u8, base: usize, grid: &mut [u8], queue: &mut Queue)
 }
 
 // Strikes what the links lo up to hi lead to, by the entries that a row has for their kinds.
-fn follow_leaving(
-    walk: &Walk,
-    row: &[u8],
-    lo: usize,
-    hi: usize,
-    grid: &mut [u8],
-    queue: &mut Queue,
-)
+fn follow_leaving(walk: &Walk, row: &[u8], lo: usize, hi: usize, grid: &mut [u8], queue: &mut Queue)
     requires { LeavingAsked walk.now.script.now row.now walk.now.shapes lo hi (work grid.old queue.old) }
     ensures { Swept (Leaving (LedGood outgoing walk.now.script.now row.now walk.now.shapes) lo hi)
         (work grid.old queue.old) (work grid.new queue.new) }

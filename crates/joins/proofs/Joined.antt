@@ -1,5 +1,6 @@
 -- Joining the intervals of the parts of a choice or of an all.
 -- joined-assoc                the order of joining does not matter
+-- joined-choice, joined-all   by the code
 -- zero-free, zero-alone       with a link of a choice whose label counts 0
 -- joined-none, none-joined    with no parts
 -- joined-more                 the first part of a run, with the rest
@@ -8,6 +9,7 @@ use Prim.Native.Nat.{ℕ, ◌<◌}
 use mathlib.Core.Path.{◌≡◌, refl, ap, ◌∙◌}
 use mathlib.Core.Bool.{Bool, true, false, cond}
 use lib.Dec.{eqb}
+use borrow.Author.Tests.{eq-eqb, ne_eqb}
 use Rattle.bags.specs.Part.{Part, Parts, Limit}
 use Rattle.bags.specs.Interval.{Interval, add, meet, link_interval, wrap_interval, interval}
 use Rattle.bags.proofs.Intervals.{Proper}
@@ -27,13 +29,22 @@ pub joined-assoc : (code : ℕ) (I J K : Interval) → Proper I → Proper J →
     joined code (joined code I J) K ≡ joined code I (joined code J K)
 joined-assoc code = assoc-by (eqb code 16)
 
--- A link of a choice whose label counts 0 takes the limit away if its low is 0, and else changes nothing.
-pub zero-free : (low : ℕ) (I : Interval) (high : Limit) → low ≡ 0 →
-    add I (link_interval 0 low high) ≡ wrap_interval false true I
-zero-free low I high z = ap (add I) (zero-from low high z) ∙ add_free I
+pub joined-choice : (code : ℕ) (I J : Interval) → code ≡ 16 → joined code I J ≡ add I J
+joined-choice code I J e = rw (eq-eqb code 16 e) refl
 
-pub zero-alone : (low : ℕ) (I : Interval) (high : Limit) → 0 < low → add I (link_interval 0 low high) ≡ I
-zero-alone low I high h = ap (add I) (zero-only low high h) ∙ add_none I
+pub joined-all : (code : ℕ) (I J : Interval) → (code ≡ 16 → ⊥) → joined code I J ≡ meet I J
+joined-all code I J d = rw (ne_eqb code 16 d) refl
+
+-- A link of a choice whose label counts 0 takes the limit away if its low is 0, and else changes nothing.
+pub zero-free : (code low : ℕ) (I : Interval) (high : Limit) → code ≡ 16 → low ≡ 0 →
+    joined code I (link_interval 0 low high) ≡ wrap_interval false true I
+zero-free code low I high e z =
+    joined-choice code I (link_interval 0 low high) e ∙ ap (add I) (zero-from low high z) ∙ add_free I
+
+pub zero-alone : (code low : ℕ) (I : Interval) (high : Limit) → code ≡ 16 → 0 < low →
+    joined code I (link_interval 0 low high) ≡ I
+zero-alone code low I high e h =
+    joined-choice code I (link_interval 0 low high) e ∙ ap (add I) (zero-only low high h) ∙ add_none I
 
 -- The parts of a choice or of an all.
 abbrev group_by : Bool → Parts → Part

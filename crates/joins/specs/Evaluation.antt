@@ -1,7 +1,6 @@
 -- What the interval evaluator answers for a part at a place, and for the first parts of a run (section 8.2 of the
 -- paper); no part of a promise.
 -- Evaluates    the next place, and the part's interval
--- group_code   the code of a group in a template's words
 -- joined       the interval of some parts of a choice or of all with others
 -- JoinedWith   a span for some parts with one more; JoinedPart: the answer for them
 -- Begins       the answer for the first parts of a run
@@ -17,8 +16,6 @@ use Rattle.parts.specs.Reading.{gathered}
 use Rattle.parts.specs.Placed.{Placed}
 use Rattle.trees.specs.Trees.{trees_at, tree_at}
 use Rattle.joins.specs.declared.Eval.{Eval}
-use Rattle.joins.specs.declared.Group.{Group}
-use Rattle.joins.specs.declared.Group.TheVariants as group
 use Rattle.joins.specs.declared.Taken.{Taken}
 
 -- The evaluator's answer for the part that stands at `at`, where `count` has the count of each label. The ends of its
@@ -27,10 +24,6 @@ pub record Evaluates (count : ℕ → ℕ) (at : ℕ) (t : Placed Part) (e : Eva
   pub next : e.next ≡ t.next
   pub span : view e.span ≡ interval t.value count
   pub small : Small (65535 * (t.next - at)) e.span
-
-abbrev pub group_code : Group → ℕ
-group_code group.Choice = 16
-group_code group.All = 17
 
 -- Some parts of a choice (16) or of all (17), and others after them.
 abbrev pub joined : ℕ → Interval → Interval → Interval

@@ -7,20 +7,13 @@ ghost use Rattle.bags.specs.Part.{Limit};
 ghost use Rattle.bags.specs.Interval.{link_interval};
 ghost use Rattle.bags.specs.Span.{view, Small, Addable};
 ghost use Rattle.links.specs.Runs.{amount, KindsPassed};
-ghost use Rattle.joins.specs.Evaluation.{group_code, link_interval_at, JoinedWith, JoinedPart, LinkHere, TakesLinks};
+ghost use Rattle.joins.specs.Evaluation.{link_interval_at, JoinedWith, JoinedPart, LinkHere, TakesLinks};
 ghost use Rattle.joins.specs.Machine.{CountAsked, LabelCounted, JoinAsked, TakeAsked};
 
 use bags::{Span, add_span, link_span, meet_span, wrap_span, zero_span};
 use links::{KindCount, count_on};
 use trees::word;
 use words::{MAX_LABELS, wide};
-
-// What a run of parts makes.
-#[derive(Clone, Copy)]
-pub enum Group {
-    Choice,
-    All,
-}
 
 // What evaluating a part finds: the next place, and its interval.
 #[derive(Clone, Copy)]
@@ -65,38 +58,41 @@ pub fn count_next(links: &[u16], listed: &[u16], before: KindCount, label: u16) 
     }
 }
 
-// Two parts of a group, or two runs of them.
-fn join_span(group: Group, x: Span, y: Span) -> Span
+// Two parts of a choice (16) or of all (17), or two runs of them. The code stays a word of the template's, since any is
+// taken: what is no choice is an all.
+fn join_span(code: u16, x: Span, y: Span) -> Span
     requires { Addable x y }
-    ensures { (n : ℕ) → Small n y → JoinedWith (group_code group) x (view y) n result }
+    ensures { (n : ℕ) → Small n y → JoinedWith code x (view y) n result }
 {
-    match group {
-        Group::Choice => add_span(x, y),
-        Group::All => meet_span(x, y),
+    if code == 16 {
+        return add_span(x, y);
     }
+    meet_span(x, y)
 }
 
 // The same, where the second is a link whose label counts 0.
-fn join_zero(group: Group, x: Span, low: u16) -> Span
-    ensures { (high : Limit) → JoinedWith (group_code group) x (link_interval 0 low high) 0 result }
+fn join_zero(code: u16, x: Span, low: u16) -> Span
+    ensures { (high : Limit) → JoinedWith code x (link_interval 0 low high) 0 result }
 {
-    match group {
-        Group::Choice if low == 0 => wrap_span(false, true, x),
-        Group::Choice => x,
-        Group::All => meet_span(x, zero_span(low)),
+    if code != 16 {
+        return meet_span(x, zero_span(low));
     }
+    if low == 0 {
+        return wrap_span(false, true, x);
+    }
+    x
 }
 
 // The same, where the second is the link at a place, whose label counts so many.
-fn join_link(words: &[u16], at: usize, count: u16, group: Group, x: Span) -> Span
+fn join_link(words: &[u16], at: usize, count: u16, code: u16, x: Span) -> Span
     requires { JoinAsked words.now at x }
-    ensures { JoinedWith (group_code group) x (link_interval_at words.now at count) count result }
+    ensures { JoinedWith code x (link_interval_at words.now at count) count result }
 {
     let low = words[at + 2];
     if count == 0 {
-        return join_zero(group, x, low);
+        return join_zero(code, x, low);
     }
-    join_span(group, x, link_span(count, low, words[at + 3]))
+    join_span(code, x, link_span(count, low, words[at + 3]))
 }
 
 // Whether a whole link stands at a place.
@@ -106,18 +102,18 @@ fn is_link(words: &[u16], at: usize) -> bool
     at < words.len().saturating_sub(3) && (256..384).contains(&words[at])
 }
 
-// Takes the links that come next in a group, so many parts at most, together with the parts before them.
+// Takes the links that come next in a choice (16) or an all (17), so many parts at most, together with the parts before them.
 pub fn take_links(
     words: &[u16],
     links: &[u16],
     listed: &[u16],
     left: usize,
     parts: u16,
-    group: Group,
+    code: u16,
     before: Eval,
 ) -> Taken
-    requires { TakeAsked words.now links.now listed.now left (group_code group) before }
-    ensures { TakesLinks (amount links.now listed.now) words.now left parts (group_code group)
+    requires { TakeAsked words.now links.now listed.now left code before }
+    ensures { TakesLinks (amount links.now listed.now) words.now left parts code
         before result }
 {
     if left == 0 {
@@ -133,19 +129,19 @@ pub fn take_links(
             return Taken { eval, count };
         }
         counted = count_next(links, listed, counted, words[eval.next] - 256);
-        eval.span = join_link(words, eval.next, counted.count, group, eval.span);
+        eval.span = join_link(words, eval.next, counted.count, code, eval.span);
         eval.next += 4;
     }
     Taken { eval, count: parts }
 }
 
-// The parts of a group so far, with one more.
-pub fn join(group: Group, before: Eval, part: Eval) -> Eval
+// The parts of a choice (16) or an all (17) so far, with one more.
+pub fn join(code: u16, before: Eval, part: Eval) -> Eval
     requires { Addable before.span part.span }
-    ensures { JoinedPart (group_code group) before part result }
+    ensures { JoinedPart code before part result }
 {
     Eval {
         next: part.next,
-        span: join_span(group, before.span, part.span),
+        span: join_span(code, before.span, part.span),
     }
 }

@@ -3,7 +3,7 @@
 -- kinds-none, kinds-some   how many have a kind: none where no link has it, one at least
 -- RunTo               the links counted of a run; run-start, run_more, run_ends: the first, one more, the whole run
 -- run-counted         the first run of a kind is all that have it
--- passed-more   what is passed, by a higher bound
+-- passed_none, passed-more   no link is passed; a higher bound
 -- CountedOff          where counting a kind stands; off-start, off-same, off-other, off-above, off-end: its steps
 -- amount-counted, amount-listed   the count of a label
 -- Assumes nothing.
@@ -130,6 +130,11 @@ run-counted links r first kind count run before =
     kinds-all links r kind ∙ sym (ap (tally p) e) ∙ omega (arith, past, row, none_before)
 
 -- ---- counting a kind off
+-- No link is passed yet.
+pub passed_none : (links : List ℕ) (bound next : ℕ) → next ≡ 1 → KindsPassed links bound next
+passed_none links bound next e =
+    record { link = 0; place = e; inside = omega arith; under = λ i l. absurd (omega arith) }
+
 -- What was passed has kinds below any higher number too.
 abbrev pub passed-more : (links : List ℕ) (low high next : ℕ) → low ≤ high → KindsPassed links low next
     → KindsPassed links high next

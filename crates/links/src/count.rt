@@ -67,7 +67,7 @@ pub fn count_arriving(
     requires { CountArrivingAsked script.now first.now next.now links card counts.old }
     ensures { ArrivingCounted script.now links card counts.old counts.new }
 {
-    // a chain: each link says which is the next
+    // A chain: each link names the next, so no index is counted.
     let mut at = usize::from(first[card]);
     while 0 < at {
         let i = at - 1;

@@ -23,7 +23,7 @@ fn print_file(rt: &(impl Env + Files + Print + Eprint), number: usize) {
 }
 
 fn main(rt: HostRuntime) {
-    print_file(&rt, 1);
-    print_file(&rt, 2);
-    print_file(&rt, 3);
+    for number in 1..=3 {
+        print_file(&rt, number);
+    }
 }

@@ -1,7 +1,6 @@
 -- What the printer writes for an input.
 --   refused_end        where a refusal ends
 --   refused-written    template, script or bookings are refused
---   same-words         equal words are printed alike
 --   written-by         a text for the input at the front of the buffer, which has so many bytes
 -- Assumes nothing.
 use mathlib.Core.Path.{◌≡◌, refl, sym, subst}
@@ -36,12 +35,6 @@ refused-written {bookings = bookings} {number = number} {place = place} e w = re
   prints = subst (λ (r : Reading Sheet). PrintsSheet r bookings (refused_line number place)) (sym e) refl;
   wrote = w;
 }
-
--- Words in place of equal ones.
-pub same-words : {template script bookings words list pairs before after : List ℕ} {next : ℕ}
-    → words ≡ template → list ≡ script → pairs ≡ bookings
-    → SheetWritten words list pairs before after next → SheetWritten template script bookings before after next
-same-words e f g w = rw (sym e, sym f, sym g) w
 
 -- What is written at the front of the buffer is the text for the input, and the rest is as it was.
 pub written-by : (input : List ℕ) {before after text : List ℕ} {next : ℕ} (r : Reading Input) → read_input input ≡ r

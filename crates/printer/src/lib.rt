@@ -2,14 +2,14 @@
 #![tactic(auto)]
 
 ghost use Rattle.std.specs.Prelude.{◌≤◌, length};
-ghost use Rattle.input.specs.Machine.{words_in, part_in};
+ghost use Rattle.input.specs.Machine.{words_in};
 ghost use Rattle.sheet_text.specs.Steps.{text_room, SheetWritten};
 ghost use Rattle.text.specs.Output.{Outputs};
 ghost use Rattle.text.specs.Steps.{Counted};
 ghost use Rattle.printer.specs.Printed.{Prints};
-ghost use Rattle.printer.specs.Steps.{SectionsLent, PartsLent};
+ghost use Rattle.printer.specs.Steps.{SectionsLent};
 
-use input::{Section, Sections, decode, find_sections};
+use input::{Sections, find_sections};
 use lent::{BookedRead, grid_size, read_booked};
 use sheet_text::print_grids;
 use text::put_refused;
@@ -30,7 +30,7 @@ fn print_words(template: &[u16], script: &[u16], bookings: &[u16], out: &mut [u8
     let mut names = [0u8; TABLE_SIZE];
     let read = read_booked(template, script, bookings, &mut names);
     match read {
-        BookedRead::Refused(number, place) => put_refused(out, 0, number as usize, place),
+        BookedRead::Refused(number, place) => put_refused(out, usize::from(number), place),
         BookedRead::Sheet(e, count) => {
             let size = grid_size(e);
             let mut radio = [0u8; MAX_GRID];
@@ -52,47 +52,15 @@ fn print_words(template: &[u16], script: &[u16], bookings: &[u16], out: &mut [u8
     }
 }
 
-// The text of an input's words: each section is a part of them.
-fn print_parts(
-    words: &[u16],
-    first: Section,
-    second: Section,
-    third: Section,
-    out: &mut [u8],
-) -> usize
-    requires { PartsLent words.now first second third out.old }
-    ensures { SheetWritten (part_in words.now first) (part_in words.now second)
-        (part_in words.now third) out.old out.new result }
-{
-    let template = first.at / 2;
-    let template_end = template + first.count;
-    let script = second.at / 2;
-    let script_end = script + second.count;
-    let bookings = third.at / 2;
-    let bookings_end = bookings + third.count;
-    print_words(
-        &words[template..template_end],
-        &words[script..script_end],
-        &words[bookings..bookings_end],
-        out,
-    )
-}
-
 // The text of an input whose three sections are found: its words are decoded once.
-fn print_sections(
-    input: &[u8],
-    first: Section,
-    second: Section,
-    third: Section,
-    out: &mut [u8],
-) -> usize
-    requires { SectionsLent input.now first second third out.old }
-    ensures { SheetWritten (words_in input.now first) (words_in input.now second)
-        (words_in input.now third) out.old out.new result }
+fn print_sections(input: &[u8], sections: Sections, out: &mut [u8]) -> usize
+    requires { SectionsLent input.now sections out.old }
+    ensures { SheetWritten (words_in input.now sections.template) (words_in input.now sections.script)
+        (words_in input.now sections.bookings) out.old out.new result }
 {
-    let mut words = [0u16; MAX_WORDS];
-    decode(input, 0, input.len() / 2, &mut words);
-    print_parts(&words, first, second, third, out)
+    let mut room = [0u16; MAX_WORDS];
+    let lists = sections.decode(input, &mut room);
+    print_words(lists.template, lists.script, lists.bookings, out)
 }
 
 // Writes the printed sheet for an input to the front of a buffer that has room for any, and returns its number of
@@ -101,9 +69,8 @@ pub fn print_sheet(input: &[u8], out: &mut [u8; TEXT_ROOM]) -> usize
     ensures writes { Outputs (Prints input.now) out.old out.new result }
     ensures inside { Counted out.new result }
 {
-    let found = find_sections(input);
-    match found {
-        Sections::Faulty => put_refused(out, 0, 60, 0),
-        Sections::Found(first, second, third) => print_sections(input, first, second, third, out),
+    match find_sections(input) {
+        None => put_refused(out, 60, 0),
+        Some(sections) => print_sections(input, sections, out),
     }
 }

@@ -16,48 +16,37 @@ const MOST_CASES: u32 = 1000000;
 // One byte more than the longest input of either program.
 const INPUT_ROOM: usize = MAX_JUDGED + 1;
 
-fn tell_verdict(rt: &impl Print, input: &[u8]) -> bool {
+fn verdict(rt: &impl Print, input: &mut impl Read) -> Option<bool> {
+    let mut room = [0u8; INPUT_ROOM];
+    let section = read_bytes(input, &mut room)?;
     let mut out = [0u8; LINE_ROOM];
-    let end = judge_line(input, &mut out);
-    text(rt, &out[..end])
+    let end = judge_line(section, &mut out);
+    Some(text(rt, &out[..end]))
 }
 
-fn tell_list(rt: &impl Print, input: &[u8]) -> bool {
+fn list(rt: &impl Print, input: &mut impl Read) -> Option<bool> {
+    let mut room = [0u8; INPUT_ROOM];
+    let section = read_bytes(input, &mut room)?;
     let mut out = [0u8; LIST_ROOM];
-    let end = tidy_list(input, &mut out);
+    let end = tidy_list(section, &mut out);
     text(rt, b":");
     bytes(rt, &out[..end]);
-    text(rt, b"\n")
+    Some(text(rt, b"\n"))
 }
 
-// From the bytes of an input on.
-fn from_input(rt: &impl Print, input: &mut impl Read, tag: u16) -> bool {
-    let mut room = [0u8; INPUT_ROOM];
-    let section = read_bytes(input, &mut room);
-    if !section.whole {
-        return false;
-    }
-    let end = section.count;
-    match tag {
-        8 => tell_verdict(rt, &room[..end]),
-        _ => tell_list(rt, &room[..end]),
-    }
-}
-
-// The next case.
-fn next_case(rt: &impl Print, input: &mut impl Read) -> bool {
-    let word = next_word(input);
-    let tag = word.value;
-    match tag {
-        8..=9 => from_input(rt, input, tag),
-        _ => false,
+// The next case: whether its end was written; none, where it is not there.
+fn next_case(rt: &impl Print, input: &mut impl Read) -> Option<bool> {
+    match next_word(input)? {
+        8 => verdict(rt, input),
+        9 => list(rt, input),
+        _ => None,
     }
 }
 
 fn main(rt: HostRuntime) {
     let mut input = rt.stdin();
     for _ in 0..MOST_CASES {
-        if !next_case(&rt, &mut input) {
+        if next_case(&rt, &mut input) != Some(true) {
             break;
         }
     }

@@ -27,7 +27,9 @@ fn source_card(walk: &Walk, factor: usize, alone: bool, last: usize, q: usize) -
 }
 
 // Strikes rounds from the pairs in the grid, those whose counts fit, until one strikes nothing; the others are queued.
-// Links are looked at from both ends where there is an index of incoming names. The tally has the rounds that are closed; the one at the end is closed like the others.
+// Links are looked at from both ends where there is an index of incoming names. The tally has the rounds that are
+// closed; the one at the end is closed like the others. Inlined, the loop has no test for that index.
+#[inline(always)]
 fn strike_rounds(
     walk: &Walk,
     outgoing: &NameIndex,

@@ -10,7 +10,7 @@ ghost use Rattle.script.specs.Script.{card_links, links_start};
 ghost use Rattle.script.specs.Steps.{after_link, LinkIn, LinksIn, Ascending, PartAsked, CardPart};
 
 use template::read_template;
-use words::{Card, Fault, MAX_CARDS, MAX_LINKS, Refusal, wide};
+use words::{Card, Fault, MAX_CARDS, MAX_LINKS, Refusal};
 
 // A script's counts of cards and of links.
 #[derive(Clone, Copy)]
@@ -81,7 +81,7 @@ fn read_links(kinds: u16, cards: u16, links: u16, script: &[u16]) -> Result<Scri
         ≡ said_of script_values
         (read_links kinds cards script.now links 0 (accepted (counts_of cards links))) }
 {
-    for i in 0..wide(links) {
+    for i in 0..usize::from(links) {
         test_link(kinds, cards, script, i)?;
     }
     Ok(ScriptSizes { cards, links })
@@ -95,14 +95,14 @@ pub fn read_with_kinds(kinds: u16, script: &[u16]) -> Result<ScriptSizes, Refusa
         return Err(Refusal(Fault::ScriptLength, 0));
     }
     let cards = script[0];
-    if MAX_CARDS < wide(cards) {
+    if MAX_CARDS < usize::from(cards) {
         return Err(Refusal(Fault::CardCount, 0));
     }
     let links = script[1];
-    if MAX_LINKS < wide(links) {
+    if MAX_LINKS < usize::from(links) {
         return Err(Refusal(Fault::LinkCount, 1));
     }
-    if script.len() != 2 + 3 * wide(links) {
+    if script.len() != 2 + 3 * usize::from(links) {
         return Err(Refusal(Fault::ScriptLength, 0));
     }
     read_links(kinds, cards, links, script)
@@ -126,7 +126,7 @@ fn count_below(script: &[u16], links: usize, card: usize) -> usize
     let mut hi = links;
     while lo < hi {
         let mid = lo + (hi - lo) / 2;
-        if wide(script[2 + 3 * mid]) < card {
+        if usize::from(script[2 + 3 * mid]) < card {
             lo = mid + 1;
         } else {
             hi = mid;
@@ -154,7 +154,11 @@ pub fn links_of_card<'t, 's>(template: &'t [u16], script: &'s [u16], card: Card)
 {
     let none = &script[0..0];
     match read_script(template, script) {
-        Ok(sizes) if card.0 < sizes.cards => card_part(script, wide(sizes.links), wide(card.0)),
+        Ok(sizes) if card.0 < sizes.cards => card_part(
+            script,
+            usize::from(sizes.links),
+            usize::from(card.0),
+        ),
         Ok(_) => none,
         Err(_) => none,
     }

@@ -7,7 +7,7 @@ ghost use Rattle.sheet.specs.Opened.{OnlyOutgoing, WaysAsked, ReadAs};
 
 use script::read_with_kinds;
 use template::read_names;
-use words::{MAX_KINDS, MAX_LABELS, Refusal, wide};
+use words::{MAX_KINDS, MAX_LABELS, Refusal};
 
 // The counts of a template and a script that are read, and whether some shape names an incoming kind.
 #[derive(Clone, Copy)]
@@ -56,7 +56,7 @@ pub fn read_sheet(template: &[u16], script: &[u16], names: &mut [u8]) -> Result<
 {
     let sizes = read_names(template, names)?;
     let counts = read_with_kinds(sizes.kinds, script)?;
-    let incoming = names_incoming(names, wide(sizes.kinds), wide(sizes.shapes));
+    let incoming = names_incoming(names, usize::from(sizes.kinds), usize::from(sizes.shapes));
     Ok(Extent {
         kinds: sizes.kinds,
         shapes: sizes.shapes,

@@ -2,7 +2,8 @@
 -- typing_room, text_room   bytes that are enough for one typing, and for a whole sheet
 -- settled_text    the text of how a desk's bookings fared
 -- SheetWritten   the text of a sheet was written to the front of a buffer
--- Putting        a grid of a sheet that can be, and room for its text from a place on
+-- Settling       a grid of a sheet that can be, and room for its text
+-- Putting        and a line in front of it
 -- Printing       what is read of a sheet, with its grids and with room for its text
 -- Assumes nothing.
 use Rattle.std.specs.Prelude.{ℕ, ◌+◌, ◌*◌, ◌≤◌, List, length}
@@ -10,6 +11,7 @@ use Rattle.words.specs.Limits.{max_cards, max_shapes}
 use Rattle.words.specs.Wrote.{Wrote}
 use Rattle.sheet.specs.declared.Extent.{Extent}
 use Rattle.text.specs.Text.{not_met_line}
+use Rattle.text.specs.declared.Writer.{Writer}
 use Rattle.typing.specs.declared.Settled.{Settled}
 use Rattle.typing.specs.declared.Settled.TheVariants as settled
 use Rattle.typing.specs.Calls.{listed_reading}
@@ -35,12 +37,18 @@ pub record SheetWritten (template script bookings before after : List ℕ) (next
   pub prints : PrintsSheet (listed_reading template script bookings) bookings text
   pub wrote : Wrote before 0 text after next
 
--- A grid has the places of so many shapes and cards, a sheet can have that many, and a buffer has room for its lines.
-pub record Putting (grid : List ℕ) (shapes cards at : ℕ) (out : List ℕ) : Type 0 where
-  pub inside : cards * shapes ≤ length grid
-  pub few-shapes : shapes ≤ max_shapes
-  pub few-cards : cards ≤ max_cards
-  pub room : at + typing_room ≤ length out
+-- A grid has the places of a sheet's shapes and cards, a sheet can have that many, and a writer has room for its lines.
+pub record Settling (grid : List ℕ) (e : Extent) (w : Writer) : Type 0 where
+  pub inside : e.cards * e.shapes ≤ length grid
+  pub few-shapes : e.shapes ≤ max_shapes
+  pub few-cards : e.cards ≤ max_cards
+  pub room : w.end + typing_room ≤ length w.out.now
+
+-- The same with a line in front, of a word and numbers.
+pub record Putting (word numbers grid : List ℕ) (e : Extent) (w : Writer) : Type 0 where
+  pub short : length word ≤ 8
+  pub few : length numbers ≤ 3
+  pub lent : Settling grid e w
 
 -- A sheet and a booking list that are read, three grids of its size, and room for its text.
 pub record Printing (template script names : List ℕ) (e : Extent) (bookings : List ℕ) (count : ℕ)

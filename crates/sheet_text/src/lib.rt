@@ -2,59 +2,35 @@
 // buffer.
 #![tactic(auto)]
 
-ghost use Rattle.words.specs.Wrote.{Wrote};
-ghost use Rattle.sheet_text.specs.Printed.{largest_text, pairs_text};
-ghost use Rattle.sheet_text.specs.Steps.{settled_text, Putting, Printing, SheetWritten};
+ghost use Rattle.std.specs.Prelude.{◌++◌};
+ghost use Rattle.text.specs.Text.{card_lines};
+ghost use Rattle.text.specs.Steps.{line_text, Adds};
+ghost use Rattle.sheet_text.specs.Steps.{settled_text, Settling, Putting, Printing, SheetWritten};
 
 use desks::desks_of;
 use sheet::Extent;
-use text::{put_cards, put_largest, put_not_met, put_smallest};
-use typing::{Settled, Struck};
+use text::Writer;
+use typing::Settled;
 
-// Writes the largest typing: its numbers and the lines of its cards.
-fn put_large(out: &mut [u8], found: Struck, grid: &[u8], shapes: usize, cards: usize) -> usize
-    requires { Putting grid.now shapes cards 0 out.old }
-    ensures { Wrote out.old 0
-        (largest_text found.rounds found.struck found.bare grid.now shapes cards)
-        out.new result }
+// Adds a typing: a line of a word and numbers, and the lines of its cards.
+fn put_typing(text: &mut Writer, word: &[u8], numbers: &[usize], grid: &[u8], e: Extent)
+    requires { Putting word.now numbers.now grid.now e text.old }
+    ensures { Adds text.old (line_text word.now numbers.now ++ card_lines grid.now e.shapes e.cards) text.new }
 {
-    let first = put_largest(out, 0, found.rounds, found.struck, found.bare);
-    put_cards(out, first, grid, shapes, cards)
+    text.line(word, numbers);
+    text.cards(grid, e.shapes as usize, e.cards as usize);
 }
 
-// Writes the smallest typing: its number of pairs and the lines of its cards.
-fn put_small(
-    out: &mut [u8],
-    at: usize,
-    pairs: usize,
-    grid: &[u8],
-    shapes: usize,
-    cards: usize,
-) -> usize
-    requires { Putting grid.now shapes cards at out.old }
-    ensures { Wrote out.old at (pairs_text pairs grid.now shapes cards)
-        out.new result }
-{
-    let first = put_smallest(out, at, pairs);
-    put_cards(out, first, grid, shapes, cards)
-}
-
-// Writes how a desk's bookings fared: its smallest typing, or the pair that is not met.
-fn put_settled(
-    out: &mut [u8],
-    at: usize,
-    found: Settled,
-    grid: &[u8],
-    shapes: usize,
-    cards: usize,
-) -> usize
-    requires { Putting grid.now shapes cards at out.old }
-    ensures { Wrote out.old at (settled_text found grid.now shapes cards)
-        out.new result }
+// Adds how a desk's bookings fared: its smallest typing with its number of pairs, or the pair that is not met.
+fn put_settled(text: &mut Writer, found: Settled, grid: &[u8], e: Extent)
+    requires { Settling grid.now e text.old }
+    ensures { Adds text.old (settled_text found grid.now e.shapes e.cards) text.new }
 {
     match found {
-        Settled::Pairs(pairs) => put_small(out, at, pairs, grid, shapes, cards),
-        Settled::NotMet(card, shape) => put_not_met(out, at, card.0 as usize, shape.0 as usize),
+        Settled::Pairs(pairs) => put_typing(text, b"smallest", &[pairs], grid, e),
+        Settled::NotMet(card, shape) => {
+            text.line(b"smallest no", &[card.0 as usize, shape.0 as usize]);
+        }
     }
 }
 
@@ -79,11 +55,14 @@ pub fn print_grids(
     let found = desks_of(
         template, script, bookings, count, names, e, radio, television, large,
     );
-    let shapes = e.shapes as usize;
-    let cards = e.cards as usize;
-    let first = put_large(out, found.largest, large, shapes, cards);
-    let one = found.radio;
-    let second = put_settled(out, first, one, radio, shapes, cards);
-    let other = found.television;
-    put_settled(out, second, other, television, shapes, cards)
+    let mut text = Writer { out, end: 0 };
+    let numbers = [
+        found.largest.rounds,
+        found.largest.struck,
+        found.largest.bare,
+    ];
+    put_typing(&mut text, b"largest", &numbers, large, e);
+    put_settled(&mut text, found.radio, radio, e);
+    put_settled(&mut text, found.television, television, e);
+    text.end
 }

@@ -13,7 +13,7 @@ ghost use Rattle.stored.specs.Stored.{stored_card_at, stored_shape_at, stored_ru
 
 use bookings::list_count;
 pub use tidying::tidy;
-use words::{Card, Fault, Refusal, Shape, wide};
+use words::{Card, Fault, Refusal, Shape};
 
 // The card of booking i.
 fn stored_card_at(bookings: &[u16], i: usize) -> Card
@@ -37,7 +37,7 @@ fn read_stored_pairs(cards: u16, shapes: u16, count: u16, bookings: &[u16]) -> R
     ensures { read_as result
         ≡ read_each (stored_rule cards shapes bookings.now) count 0 (accepted count) }
 {
-    let pairs = wide(count);
+    let pairs = usize::from(count);
     for i in 0..pairs {
         if cards <= stored_card_at(bookings, i).0 {
             return Err(Refusal(Fault::BookedCard, 1 + 2 * i));

@@ -5,7 +5,7 @@ ghost use Rattle.stored.specs.Steps.{TidyAsked};
 
 use crate::{stored_card_at, stored_shape_at};
 use bookings::{card_index, desk_index, enter_booking, shape_index};
-use words::{MAX_BOOKINGS, MAX_CARDS, wide};
+use words::{MAX_BOOKINGS, MAX_CARDS};
 
 // Writes the first booking of each pair, in their order, each with desk 0 in front, and their count before all; answers
 // how many words these are.
@@ -15,7 +15,7 @@ pub fn tidy(bookings: &[u16], count: u16, out: &mut [u16]) -> usize
 {
     let mut first = [0u16; MAX_CARDS];
     let mut next = [0u16; MAX_BOOKINGS];
-    let pairs = wide(count);
+    let pairs = usize::from(count);
     let mut kept = 0;
     for i in 0..pairs {
         let card = stored_card_at(bookings, i);

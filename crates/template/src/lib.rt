@@ -13,7 +13,7 @@ ghost use Rattle.template.specs.Machine.{ShapeReadAsked, ShapeAnswer, Tabled, Sh
 
 use parts::{Sizes, part};
 use words::{
-    Fault, MAX_DEPTH, MAX_KINDS, MAX_LABELS, MAX_SHAPES, MAX_TEMPLATE, Refusal, TABLE_SIZE, wide,
+    Fault, MAX_DEPTH, MAX_KINDS, MAX_LABELS, MAX_SHAPES, MAX_TEMPLATE, Refusal, TABLE_SIZE,
 };
 
 // A template's words and the next place to read.
@@ -47,7 +47,7 @@ fn shape_at(words: &[u16], at: usize, sizes: Sizes, row: &mut [u8]) -> Result<us
     if words.len() <= at {
         return Err(Refusal(Fault::MissingWord, words.len()));
     }
-    let count = wide(words[at]);
+    let count = usize::from(words[at]);
     let start = at + 1;
     if words.len() - start < count {
         return Err(Refusal(Fault::MissingWord, words.len()));
@@ -86,7 +86,7 @@ fn all_shapes(words: &[u16], sizes: Sizes, names: &mut [u8]) -> Result<usize, Re
     ensures { ShapesAnswer (read_shapes sizes words.now sizes.shapes 2) (read_as result) names.new }
 {
     let mut at = 2;
-    for t in 0..wide(sizes.shapes) {
+    for t in 0..usize::from(sizes.shapes) {
         let base = t * MAX_LABELS;
         at = shape_from(words, at, sizes, &mut names[base..base + MAX_LABELS])?;
     }
@@ -107,11 +107,11 @@ pub fn read_names(template: &[u16], names: &mut [u8]) -> Result<Sizes, Refusal>
         return Err(Refusal(Fault::TemplateLength, 0));
     }
     let kinds = template[0];
-    if kinds < 1 || MAX_KINDS < wide(kinds) {
+    if kinds < 1 || MAX_KINDS < usize::from(kinds) {
         return Err(Refusal(Fault::KindCount, 0));
     }
     let shapes = template[1];
-    if shapes < 1 || MAX_SHAPES < wide(shapes) {
+    if shapes < 1 || MAX_SHAPES < usize::from(shapes) {
         return Err(Refusal(Fault::ShapeCount, 1));
     }
     let sizes = Sizes { kinds, shapes };

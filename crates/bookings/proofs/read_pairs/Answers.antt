@@ -22,7 +22,7 @@ told c =
 
 pub loop-i-init : goal.loop-i-init
 loop-i-init c =
-    let e : c.wide-pairs.result - 0 ≡ c.args.count = omega arith in
+    let e : c.from-pairs.result - 0 ≡ c.args.count = omega arith in
     record {
       within = omega arith;
       heads = refl;

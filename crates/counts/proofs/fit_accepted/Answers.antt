@@ -38,7 +38,7 @@ slice_bounds-list_fits-end c =
 pub list_fits-requires : goal.list_fits-requires
 list_fits-requires c =
     let (t, e, kinds, shapes) = template-read _ _ _ c.requires.said in
-    let row = c.wide-base.result * max_labels in
+    let row = c.from-base.result * max_labels in
     let base : row ≡ c.args.shape.0 * max_labels = omega arith in
     let size : row + max_labels - row ≡ max_labels = omega arith in
     let few = (template-accepted _ t e).kinds-high in

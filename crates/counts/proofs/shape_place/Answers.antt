@@ -17,7 +17,7 @@ loop-preserved c =
     record {
       leads =
           rw one_less
-          (place-next _ _ _ _ (omega arith) (c.wide.ensures.same ∙ c.word.ensures) ∙ c.loop.invariant.leads);
+          (place-next _ _ _ _ (omega arith) (c.from.ensures ∙ c.word.ensures) ∙ c.loop.invariant.leads);
       bound = omega arith;
     }
 

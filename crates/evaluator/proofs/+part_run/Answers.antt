@@ -5,7 +5,7 @@ use Prim.Native.Nat.{ℕ}
 use mathlib.Core.Path.{refl}
 use native.Mathlib.Omega.{arith}
 use Rattle.links.specs.Runs.{amount}
-use Rattle.joins.specs.Evaluation.{Begins, group_code}
+use Rattle.joins.specs.Evaluation.{Begins}
 use Rattle.evaluator.proofs.Steps.{part-deep, part-past, part-other, part-group, part-link}
 use Rattle.evaluator.proofs.Steps.{wrapped-part}
 use Prim.Native.Nat.{ℕ}
@@ -31,7 +31,7 @@ pub part-returns-in-16-to-17 : goal.part-returns-in-16-to-17
 part-returns-in-16-to-17 t c =
     wrapped-part _ _ _ _ _ _ _ _ c.front_of-front.ensures refl
     (part-group _ _ _ _ _ (omega arith) (omega arith) _ _ c.word-parts.ensures (omega arith)
-    (omega arith) c.group_of-group.ensures c.run-inner.ensures) c.wrapped-in-16-to-17.ensures
+    (omega arith) (λ ps. refl) c.run-inner.ensures) c.wrapped-in-16-to-17.ensures
 
 pub part-returns-in-256-to-383 : goal.part-returns-in-256-to-383
 part-returns-in-256-to-383 t c =
@@ -76,5 +76,5 @@ run-returns t c =
     let a = c.args in
     let all : c.loop-done.done ≡ a.parts = omega (arith, c.loop-done.invariant.few) in
     begins-all _ _ _ _ _ _ _
-    (subst (λ (n : ℕ). Begins (amount a.links.now a.listed.now) a.words.now a.left a.at (group_code a.group) n
+    (subst (λ (n : ℕ). Begins (amount a.links.now a.listed.now) a.words.now a.left a.at a.code n
     c.loop-done.whole) all c.loop-done.invariant.begun)

@@ -6,7 +6,7 @@ use lib.ListN.{length}
 use mathlib.Core.List.{List}
 use Rattle.links.specs.Runs.{amount}
 use Rattle.joins.specs.declared.Eval.{Eval}
-use Rattle.joins.specs.Evaluation.{Begins, group_code}
+use Rattle.joins.specs.Evaluation.{Begins}
 use Rattle.evaluator.proofs.+part_run.Given as goal
 
 -- what holds before each turn of `run`: so many first parts are evaluated
@@ -16,7 +16,7 @@ pub record RunBegun (words links listed : List ℕ) (at left parts code : ℕ) (
 
 abbrev pub invariant-run-loop-done : goal.invariant-run-loop-done
 invariant-run-loop-done l =
-    RunBegun l.words l.links l.listed l.at l.left l.parts (group_code l.group) l.whole l.done
+    RunBegun l.words l.links l.listed l.at l.left l.parts l.code l.whole l.done
 
 abbrev pub decreases-run-loop-done : goal.decreases-run-loop-done
 decreases-run-loop-done l = l.parts - l.done

@@ -1,11 +1,9 @@
 -- `none` meets its contract. Assumes nothing.
-use Rattle.evaluator.proofs.Evaluations.{none-choice}
+use Rattle.evaluator.proofs.Evaluations.{none-choice, none-all}
 use Rattle.evaluator.proofs.none.Goals as goal
 
-pub returns-in-Choice : goal.returns-in-Choice
-returns-in-Choice c w at = rw c.in-Choice.is (none-choice w at _)
+pub returns-then-code-ne16 : goal.returns-then-code-ne16
+returns-then-code-ne16 c w at = none-all w at _ _ _ c.if-code-ne16.true (c.nothing.ensures w at)
 
-pub returns-in-All : goal.returns-in-All
-returns-in-All c w at =
-    let v = c.nothing.ensures w at in
-    rw c.in-All.is (record { next = v.next; span = v.span; small = v.small })
+pub returns : goal.returns
+returns c w at = none-choice w at _ _ c.if-code-ne16.false

@@ -1,5 +1,5 @@
 -- `flood::flood` leaves the closure of what was queued. Assumes nothing.
-use mathlib.Core.Path.{subst, sym, ◌∙◌}
+use mathlib.Core.Path.{◌≡◌, subst, sym, ◌∙◌}
 use Prim.Native.Nat.{ℕ, ◌<◌, ◌≤◌, ◌*◌}
 use native.Mathlib.Omega.{arith}
 use lib.ListN.{length, get_or}
@@ -14,14 +14,12 @@ use Rattle.flood.proofs.Followed.{led-asked, followed}
 use Rattle.flood.proofs.flood.Goals as goal
 use Rattle.flood.proofs.flood.Goals.{After-at-q, At-loop-head}
 
--- the invariant for one grid of fits, and what it says of sizes
-Now : (l : At-loop-head) → Flooding (board_of l.args.walk.now.script.now l.args.walk.now.names.now l.args.walk.now.shapes l.args.grid.now)
-    (Queued (entry l.args.queue.now.places) l.args.queue.now.len) (length l.args.queue.now.places)
-    (work l.loop-head.grid l.loop-head.queue) l.loop-head.head
-Now l = l.loop-head.invariant.2 l.args.grid.now
-
-room_of : (l : At-loop-head) → get_or l.args.walk.now.script.now 0 0 * l.args.walk.now.shapes ≤ length l.args.queue.now.places
-room_of l = omega (arith, l.loop-head.invariant.0, l.requires.full)
+-- the invariant for one grid of fits
+Now : (l : At-loop-head)
+    → Flooding (board_of l.args.walk.now.script.now l.args.walk.now.names.now l.args.walk.now.shapes l.args.grid.now)
+    (Queued (entry l.args.queue.now.places) l.args.queue.now.len) max_grid (work l.loop-head.grid l.loop-head.queue)
+    l.loop-head.head
+Now l = l.loop-head.invariant.1 l.args.grid.now
 
 few-pairs : (l : At-loop-head) → get_or l.args.walk.now.script.now 0 0 * l.args.walk.now.shapes ≤ max_grid
 few-pairs l = pairs-bound l.requires.links.ready
@@ -36,10 +34,12 @@ reciprocal-factor-requires c = let ready = c.requires.links.ready in (ready.one-
 
 pub loop-head-init : goal.loop-head-init
 loop-head-init c = (
-  omega (arith, c.requires.full, pairs-bound c.requires.links.ready),
   omega arith,
   λ fits.
-      flood-start c.args.grid.now c.args.queue.now.places c.args.queue.now.len c.requires.full c.requires.listed,
+      let all : length c.args.queue.now.places ≡ max_grid = omega arith in
+      subst (λ (n : ℕ). Flooding (board_of c.args.walk.now.script.now c.args.walk.now.names.now c.args.walk.now.shapes
+      fits) (Queued (entry c.args.queue.now.places) c.args.queue.now.len) n (work c.args.grid.now c.args.queue.now) 0)
+      all (flood-start c.args.grid.now c.args.queue.now.places c.args.queue.now.len c.requires.full c.requires.listed),
 )
 
 pub at-q-requires : goal.at-q-requires
@@ -65,7 +65,7 @@ overflow_add-head c =
 pub led_card-n-requires : goal.led_card-n-requires
 led_card-n-requires c =
     let links = c.requires.links in
-    led-asked links.ready (read-in c) c.reciprocal-factor.ensures c.loop-head.invariant.1 links.leaving
+    led-asked links.ready (read-in c) c.reciprocal-factor.ensures c.loop-head.invariant.0 links.leaving
 
 pub follow_pair-requires : goal.follow_pair-requires
 follow_pair-requires c =
@@ -79,7 +79,7 @@ follow_pair-requires c =
             (goal.at.follow_pair-requires c).At-loop-head).full,
       );
       full = (Now (goal.at.follow_pair-requires c).At-loop-head).full;
-      room = flood-room (Now (goal.at.follow_pair-requires c).At-loop-head) (room_of
+      room = flood-room (Now (goal.at.follow_pair-requires c).At-loop-head) (few-pairs
           (goal.at.follow_pair-requires c).At-loop-head);
     }
 
@@ -103,9 +103,8 @@ loop-head-preserved c =
     let w = work c.loop-head.grid c.loop-head.queue in
     let v = work c.follow_pair.new.grid c.follow_pair.new.queue in
     let NeededBy = Needs c.args.walk.now.script.now c.args.walk.now.names.now c.args.walk.now.shapes in (
-      c.loop-head.invariant.0,
       card-last ready (read-in (goal.at.loop-head-preserved c).After-at-q) c.led_card-n.ensures,
-      λ fits. flood-turn (c.loop-head.invariant.2 fits) (room_of (goal.at.loop-head-preserved c).At-loop-head)
+      λ fits. flood-turn (c.loop-head.invariant.1 fits) (few-pairs (goal.at.loop-head-preserved c).At-loop-head)
           c.loop-head-test.true
           (λ p d. (needs-in ready q p d, d)) (λ p d. d)
           (subst (λ (x : ℕ). Swept (NeededBy x) w v) c.at-q.ensures c.follow_pair.ensures),
@@ -117,5 +116,5 @@ shape_of-grid c = (Now (goal.at.shape_of-grid c).At-loop-head).full ∙ sym c.re
 pub returns : goal.returns
 returns c =
     followed c.requires.listed ((Now (goal.at.returns c).At-loop-head).full ∙ sym c.requires.full) (λ fits.
-    flood-done (c.loop-head.invariant.2 fits) (board-inside c.requires.links.ready fits)
+    flood-done (c.loop-head.invariant.1 fits) (board-inside c.requires.links.ready fits)
     (λ p b. omega (arith, queued-inside c.requires.listed p b, c.requires.full)) c.loop-head-test.false)

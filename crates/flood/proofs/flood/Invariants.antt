@@ -2,6 +2,7 @@
 use mathlib.Core.List.{List}
 use Prim.Native.Nat.{ℕ, ◌≤◌, ◌-◌}
 use lib.ListN.{length, get_or}
+use Rattle.words.specs.Sizes.{max_grid}
 use Rattle.board.specs.Work.{work, entry, Queued}
 use Rattle.board.proofs.Flooding.{Flooding}
 use Rattle.typing.specs.Needs.{board_of}
@@ -9,11 +10,10 @@ use Rattle.flood.proofs.flood.Given as goal
 
 abbrev pub invariant-loop-head : goal.invariant-loop-head
 invariant-loop-head l =
-    (length l.initial.grid ≤ length l.initial.queue.places) × (l.last ≤ get_or l.walk.script.now 0 0 - 1)
+    (l.last ≤ get_or l.walk.script.now 0 0 - 1)
     × ((fits : List ℕ)
-    → Flooding (board_of l.walk.script.now l.walk.names.now l.walk.shapes fits) (Queued (entry l.initial.queue.places)
-    l.initial.queue.len) (length l.initial.queue.places)
-    (work l.grid l.queue) l.head)
+    → Flooding (board_of l.walk.script.now l.walk.names.now l.walk.shapes fits)
+    (Queued (entry l.initial.queue.places) l.initial.queue.len) max_grid (work l.grid l.queue) l.head)
 
 abbrev pub decreases-loop-head : goal.decreases-loop-head
 decreases-loop-head l =

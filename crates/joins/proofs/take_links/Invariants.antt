@@ -4,7 +4,6 @@ use Prim.Native.Nat.{ℕ, ◌+◌, ◌≤◌}
 use mathlib.Core.List.{List}
 use Rattle.links.specs.Runs.{amount, KindsPassed}
 use Rattle.joins.specs.declared.Eval.{Eval}
-use Rattle.joins.specs.Evaluation.{group_code}
 use Rattle.joins.proofs.Beginnings.{Grows}
 use Rattle.joins.proofs.take_links.Given as goal
 
@@ -17,4 +16,4 @@ pub record Taking (words links listed : List ℕ) (left parts code : ℕ) (befor
 
 abbrev pub invariant-loop-count : goal.invariant-loop-count
 invariant-loop-count l =
-    Taking l.words l.links l.listed l.left l.parts (group_code l.group) l.initial.eval l.eval l.count l.counted.kind l.counted.next
+    Taking l.words l.links l.listed l.left l.parts l.code l.initial.eval l.eval l.count l.counted.kind l.counted.next

@@ -1,9 +1,11 @@
 -- `printer::print_words` prints a refusal, or lends grids of the sheet's size. Assumes nothing.
-use Prim.Native.Nat.{◌≤◌}
-use mathlib.Core.Path.{subst}
+use Prim.Native.Nat.{ℕ, ◌≤◌}
+use mathlib.Core.Path.{ap, subst}
 use native.Mathlib.Omega.{arith}
 use native.Mathlib.Nat.{le_trans}
 use Rattle.words.specs.Sizes.{max_grid}
+use Rattle.words.proofs.Writing.{wrote-same}
+use Rattle.text.specs.Text.{refused_line}
 use Rattle.lent.specs.Readings.{BookedSheet, BookedAs}
 use Rattle.lent.proofs.KnownSheet.{few-pairs}
 use Rattle.printer.proofs.Writes.{refused_end, refused-written}
@@ -53,4 +55,5 @@ returns-in-Refused c =
     let s = c.args in
     refused-written
     (subst (BookedAs s.template.now s.script.now c.read_booked-read.new.names s.bookings.now)
-    c.in-Refused.is c.read_booked-read.ensures) c.put_refused.ensures
+    c.in-Refused.is c.read_booked-read.ensures) (wrote-same (ap (λ (n : ℕ). refused_line n c.in-Refused.place)
+    c.from.ensures) c.put_refused.ensures)

@@ -11,9 +11,9 @@ use Rattle.script.proofs.count_below.Goals as goal
 pub loop-lo-init : goal.loop-lo-init
 loop-lo-init c = (omega arith, omega arith, (λ k l. absurd (omega arith)), (λ k a b. absurd (omega arith)))
 
-pub loop-lo-preserved-then-wide-card : goal.loop-lo-preserved-then-wide-card
+pub loop-lo-preserved-then-from-card : goal.loop-lo-preserved-then-from-card
 unfolding from_at
-loop-lo-preserved-then-wide-card c = (
+loop-lo-preserved-then-from-card c = (
   omega arith,
   omega arith,
   λ k h.

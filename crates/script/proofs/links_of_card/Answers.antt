@@ -1,6 +1,7 @@
 -- `script::links_of_card` lends an empty part or the card's part.
 -- Assumes nothing.
 use Prim.Native.Nat.{ℕ, ◌+◌, ◌*◌}
+use native.Mathlib.Omega.{arith}
 use mathlib.Core.Path.{◌≡◌, refl, sym, ap, subst, ◌∙◌}
 use Rattle.script.specs.Steps.{Ascending}
 use Rattle.script.specs.Answer.{script_said}
@@ -16,8 +17,8 @@ pub card_part-requires : goal.card_part-requires
 card_part-requires c =
     let both = both_read _ _ _ _ (sym (ap script_said c.in-Ok.is) ∙ c.read_script.ensures) in
     record {
-      ascending = subst (Ascending _) (sym c.wide.ensures.same) both.read.ascending;
-      small = c.wide-in-Ok.ensures.small;
+      ascending = subst (Ascending _) (sym c.from.ensures) both.read.ascending;
+      small = omega arith;
     }
 
 pub returns-in-Ok : goal.returns-in-Ok
@@ -28,11 +29,11 @@ returns-in-Ok c =
     record {
       list =
           part.list
-          ∙ rw (c.wide-in-Ok.ensures.same, c.wide.ensures.same) (card-links-part _ _ _ _ _ both inside);
+          ∙ rw (c.from-in-Ok.ensures, c.from.ensures) (card-links-part _ _ _ _ _ both inside);
       lent = part.lent;
       place =
           part.place
-          ∙ rw (c.wide-in-Ok.ensures.same, c.wide.ensures.same) (at-word _ (links-start-part _ _ _ _ _ both inside));
+          ∙ rw (c.from-in-Ok.ensures, c.from.ensures) (at-word _ (links-start-part _ _ _ _ _ both inside));
     }
 
 pub returns-in-Ok-2 : goal.returns-in-Ok-2

@@ -10,18 +10,18 @@ use Rattle.script.proofs.read_with_kinds.Goals as goal
 pub returns-then-script-lt2 : goal.returns-then-script-lt2
 returns-then-script-lt2 c = sym (ap (said_of script_values) (script-short _ _ (omega arith)))
 
-pub returns-then-wide-gt-MAX_CARDS : goal.returns-then-wide-gt-MAX_CARDS
-returns-then-wide-gt-MAX_CARDS c = sym (ap (said_of script_values) (script-cards _ _ (omega arith) (omega arith)))
+pub returns-then-from-gt-MAX_CARDS : goal.returns-then-from-gt-MAX_CARDS
+returns-then-from-gt-MAX_CARDS c = sym (ap (said_of script_values) (script-cards _ _ (omega arith) (omega arith)))
 
-pub returns-then-wide-gt-MAX_LINKS : goal.returns-then-wide-gt-MAX_LINKS
-returns-then-wide-gt-MAX_LINKS c = sym (ap (said_of script_values) (script-links _ _ (omega arith) (omega arith)
+pub returns-then-from-gt-MAX_LINKS : goal.returns-then-from-gt-MAX_LINKS
+returns-then-from-gt-MAX_LINKS c = sym (ap (said_of script_values) (script-links _ _ (omega arith) (omega arith)
     (omega arith)))
 
-pub returns-then-script-wide : goal.returns-then-script-wide
-returns-then-script-wide c =
+pub returns-then-script-from : goal.returns-then-script-from
+returns-then-script-from c =
     sym
     (ap (said_of script_values)
-    (script-size _ _ (omega arith) (omega arith) (omega arith) (λ e. c.if-script-wide.true (omega arith))))
+    (script-size _ _ (omega arith) (omega arith) (omega arith) (λ e. c.if-script-from.true (omega arith))))
 
 pub read_links-requires : goal.read_links-requires
 read_links-requires c = record { order = omega arith; few = omega arith; end = omega arith }

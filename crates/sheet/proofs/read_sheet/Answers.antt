@@ -26,7 +26,7 @@ full w = w.read_names.auto.names ∙ ap length w.requires ∙ length-replicate {
 pub names_incoming-incoming-requires : goal.names_incoming-incoming-requires
 names_incoming-incoming-requires c =
     let read = (goal.at.names_incoming-incoming-requires c).After-read_with_kinds in
-    ways-asked _ _ _ _ (said read) _ _ (full read) c.wide.ensures.same c.wide-2.ensures.same
+    ways-asked _ _ _ _ (said read) _ _ (full read) c.from.ensures c.from-2.ensures
 
 pub returns-in_err-sizes : goal.returns-in_err-sizes
 returns-in_err-sizes c =
@@ -50,6 +50,6 @@ returns c =
       table = table;
       room = full read;
       ways = λ e.
-          all-outgoing _ c.read_names.new.names _ _ (said read) _ _ table c.wide.ensures.same c.wide-2.ensures.same
+          all-outgoing _ c.read_names.new.names _ _ (said read) _ _ table c.from.ensures c.from-2.ensures
           (c.names_incoming-incoming.ensures e);
     }

@@ -1,19 +1,23 @@
--- `sheet_text::put_settled` writes how a desk's bookings fared: a law of proofs/Writes for each way. Assumes nothing.
+-- `sheet_text::put_settled` adds how a desk's bookings fared. Assumes nothing.
+use mathlib.Core.Path.{ap}
+use mathlib.Core.List.{List, [], ◌∷◌, ◌++◌}
+use Prim.Native.Nat.{ℕ}
 use native.Mathlib.Omega.{arith}
-use Rattle.text.proofs.Lines.{not-met-bound}
-use Rattle.sheet_text.proofs.Rooms.{pairs-wrote, not-met-wrote}
+use Rattle.text.specs.Steps.{smallest_no}
+use Rattle.text.specs.Text.{card_lines}
+use Rattle.text.proofs.Lines.{line-bound, smallest-line, not-met-line}
+use Rattle.text.proofs.Adding.{adds-same}
 use Rattle.sheet_text.proofs.put_settled.Goals as goal
 
-pub put_not_met-requires : goal.put_not_met-requires
-put_not_met-requires c =
-    omega (arith, c.requires.room, not-met-bound c.in-NotMet.card.0 c.in-NotMet.shape.0)
+pub line-requires : goal.line-requires
+line-requires c = omega (arith, line-bound smallest_no (c.in-NotMet.card.0 ∷ c.in-NotMet.shape.0 ∷ []))
 
 pub returns-in-Pairs : goal.returns-in-Pairs
 returns-in-Pairs c =
-    pairs-wrote c.args.grid.now c.args.shapes c.args.cards c.in-Pairs.is
-    c.put_small.ensures
+    let args = c.args in
+    rw c.in-Pairs.is (adds-same c.put_typing.ensures (ap
+    (λ (l : List ℕ). l ++ card_lines args.grid.now args.e.shapes args.e.cards) (smallest-line c.in-Pairs.pairs)))
 
 pub returns-in-NotMet : goal.returns-in-NotMet
 returns-in-NotMet c =
-    not-met-wrote c.args.grid.now c.args.shapes c.args.cards c.in-NotMet.is
-    c.put_not_met.ensures
+    rw c.in-NotMet.is (adds-same c.line.ensures (not-met-line c.in-NotMet.card.0 c.in-NotMet.shape.0))

@@ -10,7 +10,7 @@ use Rattle.stored.proofs.read_stored_pairs.Goals as goal
 
 pub loop-i-init : goal.loop-i-init
 loop-i-init c =
-    let e : c.wide-pairs.result - 0 ≡ c.args.count = omega arith in
+    let e : c.from-pairs.result - 0 ≡ c.args.count = omega arith in
     record { within = omega arith; rest = rw e refl }
 
 pub stored_card_at-requires : goal.stored_card_at-requires

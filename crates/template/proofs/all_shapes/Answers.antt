@@ -14,7 +14,7 @@ use Rattle.template.proofs.all_shapes.Goals.{In-loop-t}
 
 -- a turn's shape is one of the template's
 below : (c : In-loop-t) → c.loop-t.t < c.args.sizes.shapes
-below c = omega (arith, c.wide-t-end.ensures.same, c.loop-t-test.true)
+below c = omega (arith, c.from-t-end.ensures, c.loop-t-test.true)
 
 pub loop-t-init : goal.loop-t-init
 loop-t-init c =

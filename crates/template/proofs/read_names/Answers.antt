@@ -16,17 +16,17 @@ use Rattle.template.proofs.TemplateLaws.{template-refused}
 use Rattle.template.proofs.read_names.Goals as goal
 use Rattle.template.proofs.read_names.Goals.{Joined-then-template-lt2, Joined-then-kinds-lt1}
 use Rattle.template.proofs.read_names.Goals.{Joined-then-shapes-lt1}
-use Rattle.template.proofs.read_names.Goals.{Else-wide-gt-MAX_KINDS, Else-wide-gt-MAX_SHAPES}
+use Rattle.template.proofs.read_names.Goals.{Else-from-gt-MAX_KINDS, Else-from-gt-MAX_SHAPES}
 use Rattle.template.proofs.read_names.Goals.{then-kinds-lt1-via-then-kinds-lt1}
-use Rattle.template.proofs.read_names.Goals.{then-kinds-lt1-via-else-kinds-lt1+then-wide-gt-MAX_KINDS}
+use Rattle.template.proofs.read_names.Goals.{then-kinds-lt1-via-else-kinds-lt1+then-from-gt-MAX_KINDS}
 use Rattle.template.proofs.read_names.Goals.{then-shapes-lt1-via-then-shapes-lt1}
-use Rattle.template.proofs.read_names.Goals.{then-shapes-lt1-via-else-shapes-lt1+then-wide-gt-MAX_SHAPES}
+use Rattle.template.proofs.read_names.Goals.{then-shapes-lt1-via-else-shapes-lt1+then-from-gt-MAX_SHAPES}
 
-few-kinds : (c : Else-wide-gt-MAX_KINDS) → get_or c.args.template.now 0 0 ≤ max_kinds
-few-kinds c = omega (arith, c.wide.ensures.same, c.if-wide-gt-MAX_KINDS.false)
+few-kinds : (c : Else-from-gt-MAX_KINDS) → get_or c.args.template.now 0 0 ≤ max_kinds
+few-kinds c = omega (arith, c.from.ensures, c.if-from-gt-MAX_KINDS.false)
 
-few-shapes : (c : Else-wide-gt-MAX_SHAPES) → get_or c.args.template.now 1 0 ≤ max_shapes
-few-shapes c = omega (arith, c.wide-else-shapes-lt1.ensures.same, c.if-wide-gt-MAX_SHAPES.false)
+few-shapes : (c : Else-from-gt-MAX_SHAPES) → get_or c.args.template.now 1 0 ≤ max_shapes
+few-shapes c = omega (arith, c.from-else-shapes-lt1.ensures, c.if-from-gt-MAX_SHAPES.false)
 
 -- the three tests of the counts, each of two parts
 lengths : (c : Joined-then-template-lt2) → TemplateRead c.args.template.now (refusal 1 (0 ∷ [])) c.args.names.now
@@ -40,10 +40,10 @@ kinds c =
       | then-kinds-lt1-via-then-kinds-lt1 w ↦
           template-no-kinds c.args.template.now c.args.names.now c.if-template-lt2.false
           c.if-template-gt-MAX_TEMPLATE.false w.if-kinds-lt1.true
-      | then-kinds-lt1-via-else-kinds-lt1+then-wide-gt-MAX_KINDS w ↦
+      | then-kinds-lt1-via-else-kinds-lt1+then-from-gt-MAX_KINDS w ↦
           template-kinds c.args.template.now c.args.names.now c.if-template-lt2.false
           c.if-template-gt-MAX_TEMPLATE.false w.if-kinds-lt1.false
-          (omega (arith, w.wide.ensures.same, w.if-wide-gt-MAX_KINDS.true))
+          (omega (arith, w.from.ensures, w.if-from-gt-MAX_KINDS.true))
     ]
 
 shapes :
@@ -53,10 +53,10 @@ shapes c few =
       | then-shapes-lt1-via-then-shapes-lt1 w ↦
           template-no-shapes c.args.template.now c.args.names.now c.if-template-lt2.false
           c.if-template-gt-MAX_TEMPLATE.false c.if-kinds-lt1.false few w.if-shapes-lt1.true
-      | then-shapes-lt1-via-else-shapes-lt1+then-wide-gt-MAX_SHAPES w ↦
+      | then-shapes-lt1-via-else-shapes-lt1+then-from-gt-MAX_SHAPES w ↦
           template-shapes c.args.template.now c.args.names.now c.if-template-lt2.false
           c.if-template-gt-MAX_TEMPLATE.false c.if-kinds-lt1.false few w.if-shapes-lt1.false
-          (omega (arith, w.wide-else-shapes-lt1.ensures.same, w.if-wide-gt-MAX_SHAPES.true))
+          (omega (arith, w.from-else-shapes-lt1.ensures, w.if-from-gt-MAX_SHAPES.true))
     ]
 
 pub returns-then-template-lt2 : goal.returns-then-template-lt2
@@ -71,7 +71,7 @@ returns-then-kinds-lt1 c =
 
 pub returns-then-shapes-lt1 : goal.returns-then-shapes-lt1
 returns-then-shapes-lt1 c =
-    let told = shapes c (few-kinds (goal.at.returns-then-shapes-lt1 c).Else-wide-gt-MAX_KINDS) in
+    let told = shapes c (few-kinds (goal.at.returns-then-shapes-lt1 c).Else-from-gt-MAX_KINDS) in
     record { answer = told.0; table = told.1 }
 
 pub returns-in_err-all_shapes : goal.returns-in_err-all_shapes
@@ -79,8 +79,8 @@ returns-in_err-all_shapes c =
     let told =
     template-refused c.args.template.now c.all_shapes.new.names c.if-template-lt2.false
     c.if-template-gt-MAX_TEMPLATE.false c.if-kinds-lt1.false
-    (few-kinds (goal.at.returns-in_err-all_shapes c).Else-wide-gt-MAX_KINDS) c.if-shapes-lt1.false
-    (few-shapes (goal.at.returns-in_err-all_shapes c).Else-wide-gt-MAX_SHAPES) _ _ (ap read_as c.in_err-all_shapes.was)
+    (few-kinds (goal.at.returns-in_err-all_shapes c).Else-from-gt-MAX_KINDS) c.if-shapes-lt1.false
+    (few-shapes (goal.at.returns-in_err-all_shapes c).Else-from-gt-MAX_SHAPES) _ _ (ap read_as c.in_err-all_shapes.was)
     c.all_shapes.ensures in
     let p = err_from_is_err_and c.from_residual.result c.from_residual.ensures.1 in
     record { answer = rw (p.1, p.2) told.0; table = told.1 }
@@ -89,7 +89,7 @@ pub returns : goal.returns
 returns c =
     let told =
     template-counts c.args.template.now c.all_shapes.new.names c.if-template-lt2.false
-    c.if-template-gt-MAX_TEMPLATE.false c.if-kinds-lt1.false (few-kinds (goal.at.returns c).Else-wide-gt-MAX_KINDS)
-    c.if-shapes-lt1.false (few-shapes (goal.at.returns c).Else-wide-gt-MAX_SHAPES) _ (ap read_as c.in_ok-all_shapes.was)
+    c.if-template-gt-MAX_TEMPLATE.false c.if-kinds-lt1.false (few-kinds (goal.at.returns c).Else-from-gt-MAX_KINDS)
+    c.if-shapes-lt1.false (few-shapes (goal.at.returns c).Else-from-gt-MAX_SHAPES) _ (ap read_as c.in_ok-all_shapes.was)
     c.all_shapes.ensures in
     record { answer = told.0; table = told.1 }

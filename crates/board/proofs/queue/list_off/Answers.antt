@@ -15,12 +15,12 @@ loop-place-preserved c =
     let grid = c.args.grid.now in
     let queue = c.loop-place.queue.places in
     let so_far = c.loop-place.invariant.2 in elim c.if-byte-ne1.branch [
-      then-byte-ne1 w ↦ rw (w.queue-is, w.push.ensures) (
+      | then-byte-ne1 w ↦ rw (w.queue-is, w.push.ensures) (
         omega arith,
         length-set queue c.loop-place.queue.len c.loop-place.place ∙ c.loop-place.invariant.1,
         listed-add grid queue so_far (on-no grid c.loop-place.place w.if-byte-ne1.true) (omega arith),
       )
-    | else-byte-ne1 w ↦ rw w.queue-is (
+      | else-byte-ne1 w ↦ rw w.queue-is (
         omega arith,
         c.loop-place.invariant.1,
         listed-skip grid queue so_far (on-yes grid c.loop-place.place w.if-byte-ne1.false),

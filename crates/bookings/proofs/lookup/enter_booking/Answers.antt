@@ -14,12 +14,12 @@ use Rattle.bookings.proofs.Repeats.{booking-same, Looking, look-start, look-card
 use Rattle.bookings.proofs.Repeats.{look_none, entered-again, entered-new}
 use Rattle.bookings.proofs.lookup.enter_booking.Invariants.{it}
 use Rattle.bookings.proofs.lookup.enter_booking.Goals as goal
-use Rattle.bookings.proofs.lookup.enter_booking.Goals.{After-wide-at-in-loop-at, At-loop-at, In-loop-at}
+use Rattle.bookings.proofs.lookup.enter_booking.Goals.{After-from-at-in-loop-at, At-loop-at, In-loop-at}
 use Rattle.bookings.proofs.lookup.enter_booking.Goals.{Joined-else-shape_at-shape}
 
 -- the card as a size is the card
-card-here : (l : At-loop-at) → l.wide-n.result ≡ l.args.card.0
-card-here l = l.wide-n.ensures.same
+card-here : (l : At-loop-at) → l.from-n.result ≡ l.args.card.0
+card-here l = l.from-n.ensures
 
 -- so what is below the booking that it stands at decides whether the card's is there
 seen : (l : At-loop-at) → let a = l.args in
@@ -49,17 +49,17 @@ other-here c card e =
     c.else-shape_at-shape.branch-raw
 
 -- the next booking of the chain
-next_here : (a : After-wide-at-in-loop-at) → let key = card_at a.args.bookings.now in
-    a.wide-at-in-loop-at.result ≡ last_at key (key (a.loop-at.at - 1)) (a.loop-at.at - 1)
+next_here : (a : After-from-at-in-loop-at) → let key = card_at a.args.bookings.now in
+    a.from-at-in-loop-at.result ≡ last_at key (key (a.loop-at.at - 1)) (a.loop-at.at - 1)
 next_here a =
-    a.wide-at-in-loop-at.ensures.same ∙ a.requires.chained.nexts (a.loop-at.at - 1)
+    a.from-at-in-loop-at.ensures ∙ a.requires.chained.nexts (a.loop-at.at - 1)
     (omega (arith, a.loop-at.invariant.bound, a.loop-at-test.true))
 
 pub loop-at-init : goal.loop-at-init
 loop-at-init c =
-    look-start c.args.bookings.now (it c.args.desk c.wide-n.result c.args.shape.0)
-    (c.wide-at.ensures.same
-    ∙ c.requires.chained.heads c.wide-n.result (omega (arith, c.wide-n.ensures, c.requires.card-in)))
+    look-start c.args.bookings.now (it c.args.desk c.from-n.result c.args.shape.0)
+    (c.from-at.ensures
+    ∙ c.requires.chained.heads c.from-n.result (omega (arith, c.from-n.ensures, c.requires.card-in)))
 
 pub shape_at-requires : goal.shape_at-requires
 shape_at-requires c = words-here c
@@ -87,7 +87,7 @@ loop-at-smaller c =
 pub loop-at-preserved : goal.loop-at-preserved
 loop-at-preserved c =
     look-next c.loop-at.invariant c.loop-at-test.true
-    (other-here (goal.at.loop-at-preserved c).Joined-else-shape_at-shape c.wide-n.result) (next_here c)
+    (other-here (goal.at.loop-at-preserved c).Joined-else-shape_at-shape c.from-n.result) (next_here c)
 
 pub returns : goal.returns
 returns c =

@@ -20,13 +20,13 @@ some_word : (s : Start) → 1 ≤ length s.args.out.now
 some_word s = omega (arith, s.requires.room)
 
 -- it has room for one booking more
-room-left : (l : At-loop-i) → l.loop-i.i < l.wide-pairs.result
+room-left : (l : At-loop-i) → l.loop-i.i < l.from-pairs.result
     → shape_index l.loop-i.kept < length l.loop-i.out
 room-left l below =
     omega (
       arith,
       below,
-      l.wide-pairs.ensures.same,
+      l.from-pairs.ensures,
       l.loop-i.invariant.few,
       wrote-length l.loop-i.invariant.keeping.wrote,
       l.requires.room,

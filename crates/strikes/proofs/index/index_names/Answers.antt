@@ -170,8 +170,8 @@ pub loop-p-preserved : goal.loop-p-preserved
 loop-p-preserved c =
     let b = (goal.at.loop-p-preserved c).After-byte-entry in
     elim c.if-entry-gt0.branch [
-      then-entry-gt0 w ↦ rw w.index-is (one_more b w.name_key-key.result w.if-entry-gt0.true w.name_key-key.ensures)
-    | else-entry-gt0 w ↦ rw w.index-is (none_here b w.if-entry-gt0.false)
+      | then-entry-gt0 w ↦ rw w.index-is (one_more b w.name_key-key.result w.if-entry-gt0.true w.name_key-key.ensures)
+      | else-entry-gt0 w ↦ rw w.index-is (none_here b w.if-entry-gt0.false)
     ]
 
 pub returns : goal.returns
