@@ -27,8 +27,8 @@ fn put_settled(text: &mut Writer, found: Settled, grid: &[u8], e: Extent)
     ensures { Adds text.old (settled_text found grid.now e.shapes e.cards) text.new }
 {
     match found {
-        Settled::Pairs(pairs) => put_typing(text, b"smallest", &[pairs], grid, e),
-        Settled::NotMet(card, shape) => {
+        Ok(pairs) => put_typing(text, b"smallest", &[pairs], grid, e),
+        Err((card, shape)) => {
             text.line(b"smallest no", &[card.0 as usize, shape.0 as usize]);
         }
     }
