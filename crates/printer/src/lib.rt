@@ -10,7 +10,8 @@ ghost use Rattle.printer.specs.Printed.{Prints};
 ghost use Rattle.printer.specs.Steps.{SectionsLent};
 
 use input::{Sections, find_sections};
-use lent::{grid_size, read_booked};
+use lent::{ListedSheet, grid_size, read_booked};
+use sheet::ReadSheet;
 use sheet_text::print_grids;
 use text::put_refused;
 use words::{Fault, MAX_GRID, MAX_INPUT, Refusal, TABLE_SIZE};
@@ -22,7 +23,12 @@ pub const TEXT_ROOM: usize = 393216;
 const MAX_WORDS: usize = MAX_INPUT / 2;
 
 // The text of a template, a script and bookings.
-fn print_words(template: &[u16], script: &[u16], bookings: &[u16], out: &mut [u8]) -> usize
+fn print_words<'a>(
+    template: &'a [u16],
+    script: &'a [u16],
+    bookings: &'a [u16],
+    out: &mut [u8],
+) -> usize
     requires { text_room ≤ length out.old }
     ensures { SheetWritten template.now script.now bookings.now
         out.old out.new result }
@@ -35,13 +41,18 @@ fn print_words(template: &[u16], script: &[u16], bookings: &[u16], out: &mut [u8
             let mut radio = [0u8; MAX_GRID];
             let mut television = [0u8; MAX_GRID];
             let mut large = [0u8; MAX_GRID];
-            print_grids(
-                template,
-                script,
+            let listed = ListedSheet {
+                sheet: ReadSheet {
+                    template,
+                    script,
+                    names: &names,
+                    extent: e,
+                },
                 bookings,
                 count,
-                &names,
-                e,
+            };
+            print_grids(
+                &listed,
                 &mut radio[0..size],
                 &mut television[0..size],
                 &mut large[0..size],

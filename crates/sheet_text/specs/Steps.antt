@@ -15,6 +15,7 @@ use Rattle.text.specs.declared.Writer.{Writer}
 use Rattle.words.specs.declared.Card.{Card}
 use Rattle.words.specs.declared.Shape.{Shape}
 use Rattle.typing.specs.Calls.{listed_reading}
+use Rattle.lent.specs.declared.ListedSheet.{ListedSheet}
 use Rattle.desks.specs.ThreeGrids.{ThreeGrids}
 use Rattle.sheet_text.specs.Printed.{pairs_text, PrintsSheet}
 
@@ -51,7 +52,6 @@ pub record Putting (word numbers grid : List ℕ) (e : Extent) (w : Writer) : Ty
   pub lent : Settling grid e w
 
 -- A sheet and a booking list that are read, three grids of its size, and room for its text.
-pub record Printing (template script names : List ℕ) (e : Extent) (bookings : List ℕ) (count : ℕ)
-    (radio television large out : List ℕ) : Type 0 where
-  pub lent : ThreeGrids template script names e bookings count radio television large
+pub record Printing (listed : ListedSheet) (radio television large out : List ℕ) : Type 0 where
+  pub lent : ThreeGrids listed radio television large
   pub room : text_room ≤ length out
