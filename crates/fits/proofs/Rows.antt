@@ -1,6 +1,6 @@
 -- The row of a shape in the table of names.
 -- row-part    the entries of a row from a place on
--- row_inside  the row lies in the table
+-- row_at      the row of a shape; row_inside: it lies in the table
 -- row_named   it has the names of the part that stands at the shape's place
 -- Assumes nothing.
 use Prim.Native.Nat.{ℕ, ◌+◌, ◌-◌, ◌*◌, ◌≤◌, ◌<◌}
@@ -28,7 +28,7 @@ pub row-part :
 row-part row from size k h = get_or-take size (drop from row) k 0 h ∙ get_or-drop from row k 0
 
 -- The row of the shape t in a table of names.
-abbrev row_at : List ℕ → ℕ → List ℕ
+abbrev pub row_at : List ℕ → ℕ → List ℕ
 row_at names t = take (t * max_labels + max_labels - t * max_labels) (drop (t * max_labels) names)
 
 module _ (template script names : List ℕ) (e : Extent) (known : Known template script names e) (t : ℕ)

@@ -1,12 +1,15 @@
 -- What testing a sheet's pairs by counts asks and leaves behind; no part of a promise.
--- SheetReady, GridReady     what testing all cards under all shapes asks
+-- LinksFound  where the links from each card stand and, if some shape names an incoming kind, those to it
+-- LinksKnown  the same of what is lent
+-- GridReady   what testing all cards under all shapes asks
 -- Named       a row has the names of the shape whose count of words stands at a place
 -- ShapeReady, PairReady     what testing all cards, and one card, under a shape asks
 -- WaysAsked, WaysSeen       what looking for incoming kinds in a row asks and says
 -- byte_of      the byte of a shape, open or closed, for some counts: 1 where they fit it
 -- byte_at      the byte of a pair: by the counts of the card's links
--- PairFits    what the test of a pair says
+-- PairFits    what the test of a pair says; ShapeFits: of a sheet that is lent
 -- ColumnFitted, Fitted      a grid has that byte for each card under a shape, and for each pair
+-- GridFitted  the grid of a sheet that is lent has it
 -- Assumes nothing.
 use Rattle.std.specs.Prelude.{ℕ, ◌+◌, ◌*◌, ◌≤◌, ◌<◌, ◌≡◌, Bool, true, false, cond, List, length, get_or}
 use Rattle.words.specs.Limits.{max_kinds, max_labels, max_depth}
@@ -18,25 +21,36 @@ use Rattle.bags.specs.Proposition.{label_count}
 use Rattle.template.specs.Template.{part_at, shape_place, opens, read_template}
 use Rattle.script.specs.Link.{neighbours}
 use Rattle.links.specs.Index.{StartsOf, ArrivalsOf}
+use Rattle.links.specs.declared.index.CardLinks.{CardLinks}
 use Rattle.twins.specs.Twins.{TwinsOf}
 use Rattle.sheet.specs.declared.Extent.{Extent}
-use Rattle.sheet.specs.Opened.{template_as, Opened, Known}
+use Rattle.sheet.specs.declared.ReadSheet.{ReadSheet}
+use Rattle.sheet.specs.Opened.{template_as, Opened, SheetKnown}
 use Rattle.trees.specs.Trees.{tree_at}
 use Rattle.evaluator.specs.Rows.{RowOf}
 use Rattle.fits.specs.declared.Plan.{Plan}
+use Rattle.fits.specs.declared.ShapeTest.{ShapeTest}
 use Rattle.fits.specs.Plans.{PlanOf}
 
--- A sheet that is read, its table of names, where the links from each card stand and, if some shape names an incoming
--- kind, those to it.
-pub record SheetReady (template script names starts first next : List ℕ) (e : Extent) : Type 0 where
-  pub known : Known template script names e
-  pub leaving : StartsOf script starts e.cards e.links
-  pub arriving : e.incoming ≡ true → ArrivalsOf script first next e.cards e.links
+-- Where the links to each card stand, if some shape names an incoming kind.
+abbrev pub NamedArrivals : List ℕ → Extent → List ℕ → List ℕ → Type 0
+NamedArrivals script e first next = e.incoming ≡ true → ArrivalsOf script first next e.cards e.links
 
--- Such a sheet, and a grid with a byte for each pair.
-pub record GridReady (template script names starts first next : List ℕ) (e : Extent) (grid : List ℕ) : Type 0 where
-  pub sheet : SheetReady template script names starts first next e
-  pub size : length grid ≡ e.cards * e.shapes
+-- And where the links from each card stand.
+pub record LinksFound (script : List ℕ) (e : Extent) (starts first next : List ℕ) : Type 0 where
+  pub leaving : StartsOf script starts e.cards e.links
+  pub arriving : NamedArrivals script e first next
+
+-- The same of what is lent.
+abbrev pub LinksKnown : ReadSheet → CardLinks → Type 0
+LinksKnown sheet links =
+    LinksFound sheet.script.now sheet.extent links.starts.now links.chains.first.now links.chains.next.now
+
+-- A sheet that is read, where its links stand, and a grid with a byte for each pair.
+pub record GridReady (sheet : ReadSheet) (links : CardLinks) (grid : List ℕ) : Type 0 where
+  pub known : SheetKnown sheet
+  pub standing : LinksKnown sheet links
+  pub size : length grid ≡ sheet.extent.cards * sheet.extent.shapes
 
 -- No entry of a row for all labels is for an incoming kind, where the sheet is said to name none.
 pub record WaysAsked (row : List ℕ) (e : Extent) : Type 0 where
@@ -56,29 +70,27 @@ pub record Named (template row : List ℕ) (e : Extent) (t at : ℕ) : Type 0 wh
   pub names : RowOf row max_labels (tree_at max_depth template (part_at template at)).value
   pub asked : WaysAsked row e
 
--- A sheet that is read, where its links stand, the cards' twins, the row of a shape, and a grid with a byte for each
--- pair.
-pub record ShapeReady (template script row starts first next twins : List ℕ) (e : Extent) (t at : ℕ) (grid : List ℕ)
+-- A sheet that is read, where its links stand, the cards' twins, a shape whose count of words stands at a place, and a
+-- grid with a byte for each pair.
+pub record ShapeReady (sheet : ReadSheet) (links : CardLinks) (twins : List ℕ) (t at : ℕ) (grid : List ℕ)
     : Type 0 where
-  pub opened : Opened template script e
-  pub leaving : StartsOf script starts e.cards e.links
-  pub arriving : e.incoming ≡ true → ArrivalsOf script first next e.cards e.links
-  pub alike : TwinsOf script e.cards e.links twins
-  pub named : Named template row e t at
-  pub size : length grid ≡ e.cards * e.shapes
+  pub known : SheetKnown sheet
+  pub standing : LinksKnown sheet links
+  pub alike : TwinsOf sheet.script.now sheet.extent.cards sheet.extent.links twins
+  pub below : t < sheet.extent.shapes
+  pub place : at ≡ shape_place sheet.template.now t 2
+  pub size : length grid ≡ sheet.extent.cards * sheet.extent.shapes
 
 -- A sheet that is read, where its links stand, a shape of it with its plan, and a card.
-pub record PairReady (template script row places starts first next : List ℕ) (e : Extent) (plan : Plan) (back : Bool)
-    (n : ℕ) : Type 0 where
-  pub opened : Opened template script e
-  pub leaving : StartsOf script starts e.cards e.links
-  pub arriving : e.incoming ≡ true → ArrivalsOf script first next e.cards e.links
+pub record PairReady (sheet : ReadSheet) (links : CardLinks) (shape : ShapeTest) (back : Bool) (n : ℕ) : Type 0 where
+  pub opened : Opened sheet.template.now sheet.script.now sheet.extent
+  pub standing : LinksKnown sheet links
   pub t : ℕ
   pub at : ℕ
-  pub named : Named template row e t at
-  pub planned : PlanOf template at places plan
-  pub seen : WaysSeen row e back
-  pub below : n < e.cards
+  pub named : Named sheet.template.now shape.row.now sheet.extent t at
+  pub planned : PlanOf sheet.template.now at shape.places.now shape.plan
+  pub seen : WaysSeen shape.row.now sheet.extent back
+  pub below : n < sheet.extent.cards
 
 -- The byte of a shape for some counts: 1 where those that it looks at fit it, else 0.
 abbrev byte_of : Bool → ℕ → Part → (ℕ → ℕ) → ℕ
@@ -94,6 +106,10 @@ PairFits template script e plan n r =
     r ≡ fits plan.opened e.kinds (tree_at max_depth template plan.start).value
     (label_count (neighbours script n e.links))
 
+-- The same of a shape of a sheet that is lent.
+abbrev pub ShapeFits : ReadSheet → ShapeTest → ℕ → Bool → Type 0
+ShapeFits sheet shape n r = PairFits sheet.template.now sheet.script.now sheet.extent shape.plan n r
+
 -- A grid of bytes: at n × shapes + t, the byte of card n under the shape t.
 pub record Fitted (template script : List ℕ) (e : Extent) (parts : List Part) (grid : List ℕ) : Type 0 where
   pub full : length grid ≡ e.cards * e.shapes
@@ -108,3 +124,9 @@ pub record ColumnFitted (template script : List ℕ) (e : Extent) (t : ℕ) (bef
       → get_or grid (n * e.shapes + t) 0 ≡ byte_at script e (opens template t) (get_or parts t Part.nothing) n
   pub others : (n s : ℕ) → n < e.cards → s < e.shapes → (s ≡ t → ⊥)
       → get_or grid (n * e.shapes + s) 0 ≡ get_or before (n * e.shapes + s) 0
+
+-- The grid of a sheet has the byte of each pair.
+abbrev pub GridFitted : ReadSheet → List ℕ → Type 0
+GridFitted sheet grid = (parts : List Part)
+    → read_template sheet.template.now ≡ accepted (template_as sheet.extent.kinds sheet.extent.shapes parts)
+    → Fitted sheet.template.now sheet.script.now sheet.extent parts grid

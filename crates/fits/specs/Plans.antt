@@ -16,6 +16,7 @@ use Rattle.trees.specs.Trees.{tree_at}
 use Rattle.trees.specs.Wrappers.{WrapAsked}
 use Rattle.evaluator.specs.Rows.{RowOf}
 use Rattle.fits.specs.declared.Plan.{Plan}
+use Rattle.fits.specs.declared.ShapeTest.{ShapeTest}
 
 -- A shape of a template that is read stands there, and no label has a place yet.
 pub record PlanAsked (template : List ℕ) (at : ℕ) (places : List ℕ) : Type 0 where
@@ -46,14 +47,16 @@ pub record NamesAsked (row links : List ℕ) : Type 0 where
   pub leaving : (i : ℕ) → 3 * i < length links → kind_in links i < max_kinds
 
 -- Such a row and such links, a plan, and counts of incoming kinds at most.
-pub record CardReady (template row places : List ℕ) (plan : Plan) (links arriving : List ℕ) : Type 0 where
+pub record CardReady (template : List ℕ) (shape : ShapeTest) (links arriving : List ℕ) : Type 0 where
   pub short : length template ≤ max_template
-  pub flat : (needed : ℕ) → plan.needed ≡ Some needed → FlatPlan template places plan needed
-  pub names : NamesAsked row links
+  pub flat : (needed : ℕ) → shape.plan.needed ≡ Some needed
+      → FlatPlan template shape.places.now shape.plan needed
+  pub names : NamesAsked shape.row.now links
   pub few : length arriving ≤ max_kinds
 
 -- Whether the counts fit the part of the plan, where the row has the part's names.
-abbrev pub CardFits : List ℕ → List ℕ → Plan → List ℕ → List ℕ → Bool → Type 0
-CardFits template row plan links arriving r =
-    (kinds : ℕ) → RowOf row kinds (tree_at max_depth template plan.start).value → KindsUnder links kinds →
-    r ≡ fits plan.opened kinds (tree_at max_depth template plan.start).value (amount links arriving)
+abbrev pub CardFits : List ℕ → ShapeTest → List ℕ → List ℕ → Bool → Type 0
+CardFits template shape links arriving r =
+    (kinds : ℕ) → RowOf shape.row.now kinds (tree_at max_depth template shape.plan.start).value
+    → KindsUnder links kinds
+    → r ≡ fits shape.plan.opened kinds (tree_at max_depth template shape.plan.start).value (amount links arriving)

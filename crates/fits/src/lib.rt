@@ -6,20 +6,17 @@
 ghost use Rattle.std.specs.Prelude.{ℕ, ◌≡◌, List};
 ghost use Rattle.bags.specs.Part.{Part};
 ghost use Rattle.bags.specs.Interval.{others_zero};
-ghost use Rattle.words.specs.Reading.{accepted};
-ghost use Rattle.template.specs.Template.{read_template};
 ghost use Rattle.links.specs.Runs.{kinds_in};
-ghost use Rattle.sheet.specs.Opened.{template_as};
 ghost use Rattle.flat.specs.Meeting.{KindsUnder};
 ghost use Rattle.evaluator.specs.Rows.{RowOf};
 ghost use Rattle.fits.specs.Plans.{PlanAsked, PlanOf, NamesAsked, CardReady, CardFits};
 ghost use Rattle.fits.specs.Fitting.{GridReady, ShapeReady, WaysAsked, WaysSeen};
-ghost use Rattle.fits.specs.Fitting.{PairReady, PairFits, ColumnFitted, Fitted};
+ghost use Rattle.fits.specs.Fitting.{PairReady, ShapeFits, ColumnFitted, GridFitted};
 
 use evaluator::part_fits;
 use flat::{meet_card, survey_part};
-use links::{count_arriving, leaving_links};
-use sheet::{Extent, some_named};
+use links::{CardLinks, Chains, count_arriving, leaving_links};
+use sheet::{Extent, ReadSheet, some_named};
 use template::{open_at, part_at};
 use trees::{core_fits, core_place};
 use twins::find_twins;
@@ -33,6 +30,14 @@ struct Plan {
     start: usize,
     core: usize,
     needed: Option<usize>,
+}
+
+// A shape as it is held against a card: its row of the table of names, the places of its core's links, and its plan.
+#[derive(Clone, Copy)]
+struct ShapeTest<'a> {
+    row: &'a [u8],
+    places: &'a [u16],
+    plan: Plan,
 }
 
 // Looks a shape over, whose count of words stands at `at`. The places of a flat core's links are entered, which are
@@ -69,24 +74,24 @@ fn all_named(row: &[u8], links: &[u16]) -> bool
 }
 
 // Whether a card's links and the counts of the last labels fit a shape.
-fn card_fits(
-    template: &[u16],
-    row: &[u8],
-    places: &[u16],
-    plan: Plan,
-    links: &[u16],
-    arriving: &[u16],
-) -> bool
-    requires { CardReady template.now row.now places.now plan links.now arriving.now }
-    ensures { CardFits template.now row.now plan links.now
-        arriving.now result }
+fn card_fits(template: &[u16], shape: &ShapeTest, links: &[u16], arriving: &[u16]) -> bool
+    requires { CardReady template.now shape.now links.now arriving.now }
+    ensures { CardFits template.now shape.now links.now arriving.now result }
 {
+    let plan = shape.plan;
     match plan.needed {
-        Some(needed) => match meet_card(template, places, plan.opened, needed, links, arriving) {
+        Some(needed) => match meet_card(
+            template,
+            shape.places,
+            plan.opened,
+            needed,
+            links,
+            arriving,
+        ) {
             Some(span) => core_fits(template, plan.start, plan.core, span),
             None => false,
         },
-        None => (plan.opened || all_named(row, links))
+        None => (plan.opened || all_named(shape.row, links))
             && part_fits(template, links, arriving, plan.start),
     }
 }
@@ -104,108 +109,80 @@ fn looks_back(row: &[u8], e: Extent) -> bool
 }
 
 // Whether the links of card n fit a shape. Those to it are looked at if the shape names an incoming kind.
-fn pair_fits(
-    template: &[u16],
-    script: &[u16],
-    row: &[u8],
-    places: &[u16],
-    starts: &[u16],
-    first: &[u16],
-    next: &[u16],
-    e: Extent,
-    plan: Plan,
-    back: bool,
-    n: usize,
-) -> bool
-    requires { PairReady template.now script.now row.now places.now starts.now first.now next.now e
-        plan back n }
-    ensures { PairFits template.now script.now e plan n result }
+fn pair_fits(sheet: &ReadSheet, links: &CardLinks, shape: &ShapeTest, back: bool, n: usize) -> bool
+    requires { PairReady sheet.now links.now shape.now back n }
+    ensures { ShapeFits sheet.now shape.now n result }
 {
-    let own = leaving_links(script, starts, n);
+    let own = leaving_links(sheet.script, links.starts, n);
     if !back {
-        return card_fits(template, row, places, plan, own, &[]);
+        return card_fits(sheet.template, shape, own, &[]);
     }
+    let Chains { first, next } = links.chains;
     let mut arriving = [0u16; MAX_KINDS];
-    count_arriving(script, first, next, wide(e.links), n, &mut arriving);
-    card_fits(template, row, places, plan, own, &arriving)
+    count_arriving(
+        sheet.script,
+        first,
+        next,
+        wide(sheet.extent.links),
+        n,
+        &mut arriving,
+    );
+    card_fits(sheet.template, shape, own, &arriving)
 }
 
 // Tests the shape t, whose count of words stands at `at`, on each card: its column of the grid is 1 where the counts
-// fit, else 0. The row is the shape's in the table of names. If the shape names no incoming kind, a card takes the byte
-// of its twin.
+// fit, else 0. If the shape names no incoming kind, a card takes the byte of its twin.
 fn fit_shape(
-    template: &[u16],
-    script: &[u16],
-    row: &[u8],
-    starts: &[u16],
-    first: &[u16],
-    next: &[u16],
+    sheet: &ReadSheet,
+    links: &CardLinks,
     twins: &[u16],
-    e: Extent,
     t: usize,
     at: usize,
     grid: &mut [u8],
 )
-    requires { ShapeReady template.now script.now row.now starts.now first.now next.now twins.now e t
-        at grid.old }
-    ensures { ColumnFitted template.now script.now e t grid.old
-        grid.new }
+    requires { ShapeReady sheet.now links.now twins.now t at grid.old }
+    ensures { ColumnFitted sheet.now.template.now sheet.now.script.now sheet.now.extent t grid.old grid.new }
 {
+    let base = t * MAX_LABELS;
+    let end = base + MAX_LABELS;
+    let row = &sheet.names[base..end];
     let mut places = [0u16; MAX_LABELS];
-    let plan = plan_shape(template, at, &mut places);
-    let back = looks_back(row, e);
-    let cards = wide(e.cards);
-    let shapes = wide(e.shapes);
+    let plan = plan_shape(sheet.template, at, &mut places);
+    let back = looks_back(row, sheet.extent);
+    let shape = ShapeTest {
+        row,
+        places: &places,
+        plan,
+    };
+    let cards = wide(sheet.extent.cards);
+    let shapes = wide(sheet.extent.shapes);
     for n in 0..cards {
         let twin = wide(twins[n]);
         if twin < n && !back {
             grid[n * shapes + t] = grid[twin * shapes + t];
         } else {
-            let fit = pair_fits(
-                template, script, row, &places, starts, first, next, e, plan, back, n,
-            );
+            let fit = pair_fits(sheet, links, &shape, back, n);
             grid[n * shapes + t] = u8::from(fit);
         }
     }
 }
 
 // Tests each shape on each card: the grid has 1 where the counts fit, else 0.
-pub fn fit_grid(
-    template: &[u16],
-    script: &[u16],
-    names: &[u8],
-    starts: &[u16],
-    first: &[u16],
-    next: &[u16],
-    e: Extent,
-    grid: &mut [u8],
-)
-    requires { GridReady template.now script.now names.now starts.now first.now next.now e
-        grid.old }
-    ensures { (parts : List Part) →
-        read_template template.now ≡ accepted (template_as e.kinds e.shapes parts) →
-        Fitted template.now script.now e parts grid.new }
+pub fn fit_grid(sheet: &ReadSheet, links: &CardLinks, grid: &mut [u8])
+    requires { GridReady sheet.now links.now grid.old }
+    ensures { GridFitted sheet.now grid.new }
 {
     let mut twins = [0u16; MAX_CARDS];
-    find_twins(script, starts, wide(e.cards), &mut twins);
-    let shapes = wide(e.shapes);
+    find_twins(
+        sheet.script,
+        links.starts,
+        wide(sheet.extent.cards),
+        &mut twins,
+    );
+    let shapes = wide(sheet.extent.shapes);
     let mut at = 2;
     for t in 0..shapes {
-        let base = t * MAX_LABELS;
-        let end = base + MAX_LABELS;
-        fit_shape(
-            template,
-            script,
-            &names[base..end],
-            starts,
-            first,
-            next,
-            &twins,
-            e,
-            t,
-            at,
-            grid,
-        );
-        at += 1 + wide(template[at]);
+        fit_shape(sheet, links, &twins, t, at, grid);
+        at += 1 + wide(sheet.template[at]);
     }
 }

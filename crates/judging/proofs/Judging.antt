@@ -33,22 +33,22 @@ use Rattle.judging.specs.Judging.{LinkGood, LeavingTested, ArrivingTested, met, 
 use Rattle.judging.specs.declared.Judged.{Judged}
 
 -- ---- a link, by its kind and the card at its end as they are read
-module _ (way : Way) (j : Judged) (row : List ℕ) (i : ℕ) {kind card : ℕ} (same : kind ≡ kind_at j.script.now i)
-    (leads : card ≡ far_at way j.script.now i) where
-  entry-is : get_or row kind 0 ≡ get_or row (kind_at j.script.now i) 0
+module _ (way : Way) (j : Judged) (row : List ℕ) (i : ℕ) {kind card : ℕ} (same : kind ≡ kind_at j.walk.script.now i)
+    (leads : card ≡ far_at way j.walk.script.now i) where
+  entry-is : get_or row kind 0 ≡ get_or row (kind_at j.walk.script.now i) 0
   entry-is = ap (λ (k : ℕ). get_or row k 0) same
 
-  base-is : card * j.shapes ≡ far_at way j.script.now i * j.shapes
-  base-is = ap (λ (n : ℕ). n * j.shapes) leads
+  base-is : card * j.walk.shapes ≡ far_at way j.walk.script.now i * j.walk.shapes
+  base-is = ap (λ (n : ℕ). n * j.walk.shapes) leads
 
   pub link-nothing : get_or row kind 0 ≡ 0 → HasAll (on j.grid.now) (LinkGood way j row i)
   link-nothing z = had-nothing entry-is (on j.grid.now) z
 
   module _ {shape : ℕ} (e : get_or row kind 0 ≡ suc shape) where
-    pub link-named : LinkGood way j row i (card * j.shapes + shape)
+    pub link-named : LinkGood way j row i (card * j.walk.shapes + shape)
     link-named = subst (LinkGood way j row i) (omega (arith, base-is, e)) (one-named entry-is (omega (arith, e)))
 
-    pub link-both : (on j.grid.now (card * j.shapes + shape) ≡ true) ↔ HasAll (on j.grid.now) (LinkGood way j row i)
+    pub link-both : (on j.grid.now (card * j.walk.shapes + shape) ≡ true) ↔ HasAll (on j.grid.now) (LinkGood way j row i)
     link-both =
         subst (λ (p : ℕ). (on j.grid.now p ≡ true) ↔ HasAll (on j.grid.now) (LinkGood way j row i))
         (omega (arith, base-is, e)) (had-named entry-is (on j.grid.now) (omega (arith, e)))
@@ -56,39 +56,39 @@ module _ (way : Way) (j : Judged) (row : List ℕ) (i : ℕ) {kind card : ℕ} (
 -- ---- a pair
 module _ {j : Judged} {p : ℕ} (asked : MetAsked j p) where
   -- its script and its table of names fit together
-  ready : Ready j.script.now j.names.now j.shapes
+  ready : Ready j.walk.script.now j.walk.names.now j.walk.shapes
   ready = asked.lent.links.ready
 
   -- it is one of the sheet, and so is its card
-  pair-in : p < get_or j.script.now 0 0 * j.shapes
+  pair-in : p < get_or j.walk.script.now 0 0 * j.walk.shapes
   pair-in = omega (arith, asked.on-board, asked.lent.full)
 
-  card-here : p / j.shapes < get_or j.script.now 0 0
-  card-here = card-in j.shapes ready.one-shape (get_or j.script.now 0 0) p pair-in
+  card-here : p / j.walk.shapes < get_or j.walk.script.now 0 0
+  card-here = card-in j.walk.shapes ready.one-shape (get_or j.walk.script.now 0 0) p pair-in
 
   -- its shape has a row in the table, of two halves
-  shape-here : p % j.shapes < j.shapes
-  shape-here = shape-in j.shapes ready.one-shape p
+  shape-here : p % j.walk.shapes < j.walk.shapes
+  shape-here = shape-in j.walk.shapes ready.one-shape p
 
-  row-here : p % j.shapes * max_labels + max_labels ≤ length j.names.now
+  row-here : p % j.walk.shapes * max_labels + max_labels ≤ length j.walk.names.now
   row-here = omega (arith, shape-here, ready.table)
 
   abbrev half : ℕ → List ℕ
-  half base = take (base + max_kinds - base) (drop base j.names.now)
+  half base = take (base + max_kinds - base) (drop base j.walk.names.now)
 
   abbrev out : List ℕ
-  out = half (p % j.shapes * max_labels)
+  out = half (p % j.walk.shapes * max_labels)
 
   abbrev back : List ℕ
-  back = half (p % j.shapes * max_labels + max_kinds)
+  back = half (p % j.walk.shapes * max_labels + max_kinds)
 
-  out-half : Half j.names.now (p % j.shapes) outgoing out
-  out-half = half-row j.names.now (p % j.shapes) outgoing _ _ (omega arith) (omega arith) (omega (arith, row-here))
+  out-half : Half j.walk.names.now (p % j.walk.shapes) outgoing out
+  out-half = half-row j.walk.names.now (p % j.walk.shapes) outgoing _ _ (omega arith) (omega arith) (omega (arith, row-here))
 
-  back-half : Half j.names.now (p % j.shapes) incoming back
-  back-half = half-row j.names.now (p % j.shapes) incoming _ _ (omega arith) (omega arith) (omega (arith, row-here))
+  back-half : Half j.walk.names.now (p % j.walk.shapes) incoming back
+  back-half = half-row j.walk.names.now (p % j.walk.shapes) incoming _ _ (omega arith) (omega arith) (omega (arith, row-here))
 
-  pub arriving-asked : j.incoming ≡ true → ArrivingTested j back (p / j.shapes)
+  pub arriving-asked : j.walk.incoming ≡ true → ArrivingTested j back (p / j.walk.shapes)
   arriving-asked some = record {
     row_in = row-asked ready shape-here back-half asked.lent.full;
     arrivals = arrivals-at (asked.lent.links.arriving some) card-here;
@@ -99,8 +99,8 @@ module _ {j : Judged} {p : ℕ} (asked : MetAsked j p) where
   unfit-unmet off =
       sym (is_false (λ e. never_both ((board-lawful ready j.fitting.now).met-ok (on j.grid.now) p e) off))
 
-  module _ {lo hi : ℕ} (low : lo ≡ get_or j.starts.now (p / j.shapes) 0)
-      (high : hi ≡ get_or j.starts.now (p / j.shapes + 1) 0) where
+  module _ {lo hi : ℕ} (low : lo ≡ get_or j.walk.starts.now (p / j.walk.shapes) 0)
+      (high : hi ≡ get_or j.walk.starts.now (p / j.walk.shapes + 1) 0) where
     pub leaving-asked : LeavingTested j out lo hi
     leaving-asked = record {
       row_in = row-asked ready shape-here out-half asked.lent.full;
@@ -110,7 +110,7 @@ module _ {j : Judged} {p : ℕ} (asked : MetAsked j p) where
 
     -- its counts fit, so it is met exactly if the grid has what it needs
     module _ (fit : on j.fitting.now p ≡ true) where
-      met-by-needs : {r : Bool} → (r ≡ true) ↔ HasAll (on j.grid.now) (Needs j.script.now j.names.now j.shapes p)
+      met-by-needs : {r : Bool} → (r ≡ true) ↔ HasAll (on j.grid.now) (Needs j.walk.script.now j.walk.names.now j.walk.shapes p)
           → r ≡ met j p
       met-by-needs exact =
           let lawful = board-lawful ready j.fitting.now in
@@ -127,13 +127,13 @@ module _ {j : Judged} {p : ℕ} (asked : MetAsked j p) where
               (exact.1 (had-first ready asked.lent.links.leaving pair-in low high out-half had)) off,
         )
 
-        pub met-from : r ≡ true → j.incoming ≡ false → true ≡ met j p
+        pub met-from : r ≡ true → j.walk.incoming ≡ false → true ≡ met j p
         met-from all none =
             let only = had-out ready asked.lent.links.leaving pair-in low high out-half (asked.lent.links.ways none) in
             met-by-needs (λ _. only.0 (exact.0 all), λ _. refl)
 
         pub met-both : r ≡ true → {b : Bool}
-            → (b ≡ true) ↔ HasAll (on j.grid.now) (Arriving j.script.now (p / j.shapes) (LinkGood incoming j back))
+            → (b ≡ true) ↔ HasAll (on j.grid.now) (Arriving j.walk.script.now (p / j.walk.shapes) (LinkGood incoming j back))
             → b ≡ met j p
         met-both all other =
             let both = had-both ready asked.lent.links.leaving pair-in low high out-half back-half in

@@ -16,47 +16,46 @@ use Rattle.board.specs.Grid.{on}
 use Rattle.bookings.specs.Bookings.{desk_at, card_at, shape_at}
 use Rattle.bookings.specs.Steps.{ListOf, WordsIn, BookingsIn}
 use Rattle.typing.specs.Needs.{met_test}
-use Rattle.walks.specs.Walks.{LinksReady}
+use Rattle.walks.specs.declared.walk.Walk.{Walk}
+use Rattle.walks.specs.Walks.{WalkReady}
 use Rattle.walks.specs.Entries.{LedGood, RowAsked}
 use Rattle.judging.specs.declared.Judged.{Judged}
 
 -- What a link makes good by a row, for the card at its end that is seen one way.
 abbrev pub LinkGood : Way → Judged → List ℕ → ℕ → ℕ → Type 0
-LinkGood way j row = LedGood way j.script.now row j.shapes
+LinkGood way j row = LedGood way j.walk.script.now row j.walk.shapes
 
 -- What testing link i by a row asks, where it makes good a pair of a card.
 pub record LinkTested (j : Judged) (row : List ℕ) (i card : ℕ) : Type 0 where
   pub way : Way
-  pub row_in : RowAsked way j.script.now row j.shapes (length j.grid.now)
-  pub link-in : i < get_or j.script.now 1 0
-  pub leads : card ≡ far_at way j.script.now i
+  pub row_in : RowAsked way j.walk.script.now row j.walk.shapes (length j.grid.now)
+  pub link-in : i < get_or j.walk.script.now 1 0
+  pub leads : card ≡ far_at way j.walk.script.now i
 
 -- What testing the links lo up to hi by a row asks.
 pub record LeavingTested (j : Judged) (row : List ℕ) (lo hi : ℕ) : Type 0 where
-  pub row_in : RowAsked outgoing j.script.now row j.shapes (length j.grid.now)
+  pub row_in : RowAsked outgoing j.walk.script.now row j.walk.shapes (length j.grid.now)
   pub rising : lo ≤ hi
-  pub links-in : hi ≤ get_or j.script.now 1 0
+  pub links-in : hi ≤ get_or j.walk.script.now 1 0
 
 -- What testing the links to card m by a row asks.
 pub record ArrivingTested (j : Judged) (row : List ℕ) (m : ℕ) : Type 0 where
-  pub row_in : RowAsked incoming j.script.now row j.shapes (length j.grid.now)
-  pub arrivals : ArrivalsOf j.script.now j.first.now j.next.now (m + 1) (get_or j.script.now 1 0)
+  pub row_in : RowAsked incoming j.walk.script.now row j.walk.shapes (length j.grid.now)
+  pub arrivals : ArrivalsOf j.walk.script.now j.walk.first.now j.walk.next.now (m + 1) (get_or j.walk.script.now 1 0)
 
 -- Whether the pair at a place is met under the grid.
 abbrev pub met : Judged → ℕ → Bool
-met j p = met_test j.script.now j.names.now j.shapes j.fitting.now (on j.grid.now) p
+met j p = met_test j.walk.script.now j.walk.names.now j.walk.shapes j.fitting.now (on j.grid.now) p
 
 -- What testing the pairs of a grid asks: where each card's links stand, and a grid of the pairs that fit.
-pub record GridAsked (script starts first next names : List ℕ) (shapes : ℕ) (incoming : Bool) (fitting grid : List ℕ)
-    : Type 0 where
-  pub links : LinksReady script starts first next names shapes incoming
-  pub full : length grid ≡ get_or script 0 0 * shapes
+pub record GridAsked (walk : Walk) (fitting grid : List ℕ) : Type 0 where
+  pub links : WalkReady walk
+  pub full : length grid ≡ get_or walk.script.now 0 0 * walk.shapes
   pub tested : length fitting ≡ length grid
 
 -- And a pair of it.
 pub record MetAsked (j : Judged) (p : ℕ) : Type 0 where
-  pub lent : GridAsked j.script.now j.starts.now j.first.now j.next.now j.names.now j.shapes j.incoming j.fitting.now
-      j.grid.now
+  pub lent : GridAsked j.walk j.fitting.now j.grid.now
   pub on-board : p < length j.grid.now
 
 -- The grid has the pair at place p, which is not met under it.

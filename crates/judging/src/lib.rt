@@ -12,20 +12,13 @@ ghost use Rattle.judging.specs.Judging.{LinkGood, LinkTested, LeavingTested, Arr
 ghost use Rattle.judging.specs.Judging.{Failing, PairAsked, HeldAsked, Missing};
 
 use bookings::{card_at, desk_at, shape_at};
-use walks::pair_place;
+use walks::{Walk, pair_place};
 use words::{MAX_KINDS, MAX_LABELS, byte, wide};
 
-// A grid and what it is judged by: the script's links by the card that they start at and by the one that they lead to,
-// the shapes that the template names, and which pairs' counts fit.
+// A grid and what it is judged by: the links and the names of what a search goes by, and which pairs' counts fit.
 #[derive(Clone, Copy)]
 struct Judged<'a> {
-    script: &'a [u16],
-    starts: &'a [u16],
-    first: &'a [u16],
-    next: &'a [u16],
-    names: &'a [u8],
-    shapes: usize,
-    incoming: bool,
+    walk: Walk<'a>,
     fitting: &'a [u8],
     grid: &'a [u8],
 }
@@ -35,13 +28,13 @@ impl<'a> Judged<'a> {
     // kind, if it names one.
     fn link_had(&self, row: &[u8], i: usize, card: usize) -> bool
         requires { LinkTested self.now row.now i card }
-        ensures { (way : Way) → card ≡ far_at way self.now.script.now i
+        ensures { (way : Way) → card ≡ far_at way self.now.walk.script.now i
             → (result ≡ true) ↔ HasAll (on self.now.grid.now) (LinkGood way self.now row.now i) }
     {
-        let kind = wide(self.script[3 + 3 * i]);
+        let kind = wide(self.walk.script[3 + 3 * i]);
         match row[kind].checked_sub(1) {
             None => true,
-            Some(shape) => self.grid[card * self.shapes + byte(shape)] == 1,
+            Some(shape) => self.grid[card * self.walk.shapes + byte(shape)] == 1,
         }
     }
 
@@ -51,7 +44,7 @@ impl<'a> Judged<'a> {
         ensures { (result ≡ true) ↔ HasAll (on self.now.grid.now) (Leaving (LinkGood outgoing self.now row.now) lo hi) }
     {
         for i in lo..hi {
-            if !self.link_had(row, i, wide(self.script[4 + 3 * i])) {
+            if !self.link_had(row, i, wide(self.walk.script[4 + 3 * i])) {
                 return false;
             }
         }
@@ -62,16 +55,16 @@ impl<'a> Judged<'a> {
     fn arriving_had(&self, row: &[u8], m: usize) -> bool
         requires { ArrivingTested self.now row.now m }
         ensures { (result ≡ true) ↔ HasAll (on self.now.grid.now)
-            (Arriving self.now.script.now m (LinkGood arriving self.now row.now)) }
+            (Arriving self.now.walk.script.now m (LinkGood arriving self.now row.now)) }
     {
-        let mut at = wide(self.first[m]);
+        let mut at = wide(self.walk.first[m]);
         // A chain: each turn reads where the next link stands.
         while 0 < at {
             let i = at - 1;
-            if !self.link_had(row, i, wide(self.script[2 + 3 * i])) {
+            if !self.link_had(row, i, wide(self.walk.script[2 + 3 * i])) {
                 return false;
             }
-            at = wide(self.next[i]);
+            at = wide(self.walk.next[i]);
         }
         true
     }
@@ -85,16 +78,16 @@ impl<'a> Judged<'a> {
         if self.fitting[place] != 1 {
             return false;
         }
-        let n = place / self.shapes;
-        let base = place % self.shapes * MAX_LABELS;
+        let n = place / self.walk.shapes;
+        let base = place % self.walk.shapes * MAX_LABELS;
         let half = base + MAX_KINDS;
-        let lo = wide(self.starts[n]);
-        let hi = wide(self.starts[n + 1]);
-        if !self.leaving_had(&self.names[base..half], lo, hi) {
+        let lo = wide(self.walk.starts[n]);
+        let hi = wide(self.walk.starts[n + 1]);
+        if !self.leaving_had(&self.walk.names[base..half], lo, hi) {
             return false;
         }
-        if self.incoming {
-            let row = &self.names[half..half + MAX_KINDS];
+        if self.walk.incoming {
+            let row = &self.walk.names[half..half + MAX_KINDS];
             return self.arriving_had(row, n);
         }
         true
@@ -102,30 +95,13 @@ impl<'a> Judged<'a> {
 }
 
 // Finds the lowest pair of the grid that is not met under it.
-pub fn first_unmet(
-    script: &[u16],
-    starts: &[u16],
-    first: &[u16],
-    next: &[u16],
-    names: &[u8],
-    shapes: usize,
-    incoming: bool,
-    fitting: &[u8],
-    grid: &[u8],
-) -> Option<usize>
-    requires { GridAsked script.now starts.now first.now next.now names.now shapes incoming
-        fitting.now grid.now }
-    ensures { FirstFound (Failing script.now names.now shapes fitting.now
-        grid.now) (length grid.now) result }
+pub fn first_unmet(walk: &Walk, fitting: &[u8], grid: &[u8]) -> Option<usize>
+    requires { GridAsked walk.now fitting.now grid.now }
+    ensures { FirstFound (Failing walk.now.script.now walk.now.names.now walk.now.shapes fitting.now grid.now)
+        (length grid.now) result }
 {
     let judged = Judged {
-        script,
-        starts,
-        first,
-        next,
-        names,
-        shapes,
-        incoming,
+        walk: *walk,
         fitting,
         grid,
     };

@@ -1,6 +1,7 @@
 -- What reading what a call is lent finds; no part of a promise.
 -- BookedSheet   a sheet with its table of names and a booking list, all read; BookedAs: what reading them finds
 -- ReadFor       these, for a desk and with a grid of the sheet's size; LentAs: what reading them finds
+-- ListedKnown, ListedFor   the same of a sheet and a list that are lent
 -- TwoGrids      these, and another grid of the sheet's size
 -- Assumes nothing.
 use Rattle.std.specs.Prelude.{ℕ, ◌*◌, ◌≤◌, ◌≡◌, List, length, Result, Ok, Err}
@@ -11,6 +12,7 @@ use Rattle.sheet.specs.Opened.{Known}
 use Rattle.sheet.specs.declared.Extent.{Extent}
 use Rattle.bookings.specs.Bookings.{read_bookings}
 use Rattle.typing.specs.Calls.{listed_reading, smallest_reading}
+use Rattle.lent.specs.declared.ListedSheet.{ListedSheet}
 
 -- A sheet with its table of names, and a booking list of so many bookings for it.
 pub record BookedSheet (template script names : List ℕ) (e : Extent) (bookings : List ℕ) (count : ℕ) : Type 0 where
@@ -37,8 +39,18 @@ LentAs template script names bookings desk grid (Ok (e, count)) =
 LentAs template script names bookings desk grid (Err r) =
     smallest_reading template script bookings desk grid ≡ turned_down (number r.0) r.1
 
+-- The same of a sheet and a list that are lent.
+abbrev pub ListedKnown : ListedSheet → Type 0
+ListedKnown listed =
+    BookedSheet listed.sheet.template.now listed.sheet.script.now listed.sheet.names.now listed.sheet.extent
+    listed.bookings.now listed.count
+
+abbrev pub ListedFor : ListedSheet → ℕ → List ℕ → Type 0
+ListedFor listed desk grid =
+    ReadFor listed.sheet.template.now listed.sheet.script.now listed.sheet.names.now listed.sheet.extent
+    listed.bookings.now listed.count desk grid
+
 -- What is read for a desk and a grid, and another grid of the sheet's size.
-pub record TwoGrids (template script names : List ℕ) (e : Extent) (bookings : List ℕ) (count desk : ℕ)
-    (one other : List ℕ) : Type 0 where
-  pub lent : ReadFor template script names e bookings count desk one
-  pub other-size : length other ≡ e.cards * e.shapes
+pub record TwoGrids (listed : ListedSheet) (desk : ℕ) (one other : List ℕ) : Type 0 where
+  pub lent : ListedFor listed desk one
+  pub other-size : length other ≡ listed.sheet.extent.cards * listed.sheet.extent.shapes

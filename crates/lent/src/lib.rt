@@ -6,8 +6,16 @@ ghost use Rattle.words.specs.Sizes.{table_size};
 ghost use Rattle.lent.specs.Readings.{BookedAs, LentAs};
 
 use bookings::read_bookings;
-use sheet::{Extent, read_sheet};
+use sheet::{Extent, ReadSheet, read_sheet};
 use words::{Fault, Refusal};
+
+// A sheet that is read, and a booking list that is read for it, of so many bookings.
+#[derive(Clone, Copy)]
+pub struct ListedSheet<'a> {
+    pub sheet: ReadSheet<'a>,
+    pub bookings: &'a [u16],
+    pub count: u16,
+}
 
 // The number of pairs of a sheet: the bytes of its grid.
 pub fn grid_size(e: Extent) -> usize

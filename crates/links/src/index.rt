@@ -4,6 +4,21 @@ ghost use Rattle.script.specs.Link.{card_words, below};
 ghost use Rattle.links.specs.Index.{StartsOf, StartsAsked, SkipAsked, LeavingOf, LeavingLinksAsked};
 ghost use Rattle.links.specs.Index.{ChainAsked, ChainLeft};
 
+// Where the links to each card stand: one more than the last of them, and of each link one more than the one before it
+// to the same card; 0 where there is none. Both are empty where no link to a card is looked at.
+#[derive(Clone, Copy)]
+pub struct Chains<'a> {
+    pub first: &'a [u16],
+    pub next: &'a [u16],
+}
+
+// Where each card's links stand: where those from it start, and those to it.
+#[derive(Clone, Copy)]
+pub struct CardLinks<'a> {
+    pub starts: &'a [u16],
+    pub chains: Chains<'a>,
+}
+
 // The first link from link `from` on that does not start at a card below `card`.
 fn skip_below(script: &[u16], links: usize, card: usize, from: usize) -> usize
     requires { SkipAsked script.now links card from }

@@ -9,5 +9,5 @@ mod index;
 mod mark;
 
 pub use count::{KindCount, count_arriving, count_on, run_length};
-pub use index::{chain, leaving_links, link_starts};
+pub use index::{CardLinks, Chains, chain, leaving_links, link_starts};
 pub use mark::mark_linked;

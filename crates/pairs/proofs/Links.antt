@@ -23,7 +23,8 @@ use Rattle.typing.proofs.Instance as instance
 use Rattle.walks.specs.Walks.{Starts, LinksReady}
 use Rattle.walks.proofs.Starts.{starts-of}
 use Rattle.lent.proofs.KnownSheet.{shaped, read}
-use Rattle.pairs.specs.Pairs.{ArrivalsAsked, LinksFound}
+use Rattle.fits.specs.Fitting.{LinksFound}
+use Rattle.pairs.specs.Pairs.{ArrivalsAsked}
 
 module _ {template script names : List ℕ} {e : Extent} (k : Known template script names e) where
   pub tabled : Tabled k.opened.parts names

@@ -19,39 +19,39 @@ use Rattle.words.specs.Sizes.{max_grid}
 use Rattle.words.specs.Reading.{accepted}
 use Rattle.words.proofs.Places.{card-in, shape-in, place_of}
 use Rattle.board.specs.Machine.{Marks}
-use Rattle.template.specs.Template.{opens, read_template}
+use Rattle.links.specs.declared.index.Chains.{Chains}
+use Rattle.template.specs.Template.{opens}
 use Rattle.script.specs.Link.{neighbours}
 use Rattle.sheet.specs.Sheet.{Sheet, size, read_sheet}
-use Rattle.sheet.specs.Opened.{template_as, Known}
+use Rattle.sheet.specs.Opened.{SheetKnown}
 use Rattle.sheet.specs.declared.Extent.{Extent}
+use Rattle.sheet.specs.declared.ReadSheet.{ReadSheet}
 use Rattle.typing.specs.Needs.{board_of}
 use Rattle.typing.proofs.Represents.{Represents}
 use Rattle.typing.proofs.Instance.{FitsGrid, fits-grid, represents}
-use Rattle.fits.specs.Fitting.{Fitted}
+use Rattle.fits.specs.Fitting.{LinksFound, Fitted, GridFitted}
 use Rattle.bare.specs.Rows.{CountedAs}
 use Rattle.bare.proofs.Rows.{byte-on}
 use Rattle.lent.proofs.KnownSheet.{sheet, asked, same-sheet, read, few-pairs}
-use Rattle.pairs.specs.Pairs.{SheetTested, LinksFound, PairsTested}
+use Rattle.pairs.specs.Pairs.{SheetTested, TestedAs, PairsTested}
 use Rattle.pairs.proofs.Links.{tabled, rows}
 
 -- What testing the pairs leaves.
-pub pairs-tested : {template script names : List ℕ} {e : Extent} {starts first next fitting : List ℕ}
-    (k : Known template script names e) → LinksFound script e starts first next
-    → ((parts : List Part) → read_template template ≡ accepted (template_as e.kinds e.shapes parts)
-    → Fitted template script e parts fitting)
-    → PairsTested template script names e starts first next fitting
-pairs-tested {template} {script} {names} {e} {fitting = fitting} k links fit = record {
+pub pairs-tested : {lent : ReadSheet} {starts : List ℕ} {chains : Chains} {fitting : List ℕ} (k : SheetKnown lent)
+    → LinksFound lent.script.now lent.extent starts chains.first.now chains.next.now → GridFitted lent fitting
+    → PairsTested lent starts chains fitting
+pairs-tested {lent} {fitting = fitting} k links fit = record {
   some = record { sheet = sheet k; tested = each (sheet k) (asked k); links = links };
   tested = each;
 }
   where
-    each : (s : Sheet) → read_sheet template script ≡ accepted s → SheetTested s script names e fitting
+    each : (s : Sheet) → read_sheet lent.template.now lent.script.now ≡ accepted s → TestedAs s lent fitting
     each s q = record {
-      template = template;
+      template = lent.template.now;
       known = k;
       asked = q;
-      fits = subst (λ (x : Sheet). Fitted template script e x.parts fitting) (same-sheet k s q)
-          (fit k.opened.parts k.opened.template-read);
+      fits = subst (λ (x : Sheet). Fitted lent.template.now lent.script.now lent.extent x.parts fitting)
+          (same-sheet k s q) (fit k.opened.parts k.opened.template-read);
     }
 
 -- the byte of a pair is 0 or 1

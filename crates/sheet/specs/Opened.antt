@@ -3,6 +3,7 @@
 -- Opened        both files are read; TableOf: the table of names is the template's
 -- OnlyOutgoing  no shape names an incoming kind
 -- Known         what a step on a sheet that is read asks: both files, the table of names, and its room
+-- SheetKnown    the same of a sheet that is lent
 -- ReadAs        what reading the two finds: known, or the first refusal
 -- WaysAsked     what looking for incoming kinds in the table asks
 -- Assumes nothing.
@@ -17,6 +18,7 @@ use Rattle.template.specs.Machine.{Tabled, entry_at}
 use Rattle.script.specs.Script.{counts_of, read_script}
 use Rattle.sheet.specs.Sheet.{read_sheet}
 use Rattle.sheet.specs.declared.Extent.{Extent}
+use Rattle.sheet.specs.declared.ReadSheet.{ReadSheet}
 use Rattle.words.specs.Refused.{number}
 use Rattle.words.specs.declared.refusal.Refusal.{Refusal}
 
@@ -45,6 +47,10 @@ pub record Known (template script names : List ℕ) (e : Extent) : Type 0 where
   pub table : TableOf template names
   pub room : length names ≡ table_size
   pub ways : e.incoming ≡ false → OnlyOutgoing names e.shapes max_kinds
+
+-- The same of a sheet that is lent.
+abbrev pub SheetKnown : ReadSheet → Type 0
+SheetKnown sheet = Known sheet.template.now sheet.script.now sheet.names.now sheet.extent
 
 -- What reading the two files, with the table of names, finds.
 abbrev pub ReadAs : List ℕ → List ℕ → List ℕ → Result Extent Refusal → Type 0

@@ -19,6 +19,15 @@ pub struct Extent {
     pub incoming: bool,
 }
 
+// A sheet that is read: its template and script, the table of names, and what reading them found.
+#[derive(Clone, Copy)]
+pub struct ReadSheet<'a> {
+    pub template: &'a [u16],
+    pub script: &'a [u16],
+    pub names: &'a [u8],
+    pub extent: Extent,
+}
+
 // Whether one of the entries names a shape.
 pub fn some_named(entries: &[u8]) -> bool
     ensures { result ≡ false → (k : ℕ) → k < length entries.now → get_or entries.now k 0 ≡ 0 }

@@ -5,4 +5,4 @@ use Rattle.fits.proofs.fit_grid.Given as goal
 
 abbrev pub invariant-loop-t : goal.invariant-loop-t
 invariant-loop-t l =
-    ShapesFitted l.template l.script l.e l.grid l.at l.t
+    ShapesFitted l.sheet.template.now l.sheet.script.now l.sheet.extent l.grid l.at l.t

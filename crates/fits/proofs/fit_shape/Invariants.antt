@@ -5,4 +5,4 @@ use Rattle.fits.proofs.fit_shape.Given as goal
 
 abbrev pub invariant-loop-n : goal.invariant-loop-n
 invariant-loop-n l =
-    CardsFitted l.template l.script l.e l.t l.initial.grid l.grid l.n
+    CardsFitted l.sheet.template.now l.sheet.script.now l.sheet.extent l.t l.initial.grid l.grid l.n

@@ -29,9 +29,6 @@ read-in : (a : After-at-q) → a.at-q.result < get_or a.args.walk.now.script.now
 read-in a =
     omega (arith, a.at-q.ensures, flood-head (Now (goal.at.After-at-q a).At-loop-head) a.loop-head-test.true)
 
-pub reciprocal-factor-requires : goal.reciprocal-factor-requires
-reciprocal-factor-requires c = let ready = c.requires.links.ready in (ready.one-shape, ready.few-shapes)
-
 pub loop-head-init : goal.loop-head-init
 loop-head-init c = (
   omega arith,
@@ -109,9 +106,6 @@ loop-head-preserved c =
           (λ p d. (needs-in ready q p d, d)) (λ p d. d)
           (subst (λ (x : ℕ). Swept (NeededBy x) w v) c.at-q.ensures c.follow_pair.ensures),
     )
-
-pub shape_of-grid : goal.shape_of-grid
-shape_of-grid c = (Now (goal.at.shape_of-grid c).At-loop-head).full ∙ sym c.requires.full
 
 pub returns : goal.returns
 returns c =

@@ -1,9 +1,9 @@
 -- `flood::follow_arriving` walks the chain of the links to a card, and strikes what they lead back to.
 -- Assumes nothing.
 use mathlib.Core.Path.{subst₂, ◌≡◌, ◌∙◌, ap}
-use Prim.Native.Nat.{ℕ, ◌<◌, ◌≤◌, ◌+◌, ◌*◌, ◌-◌}
+use Prim.Native.Nat.{ℕ, ◌<◌, ◌*◌, ◌-◌}
 use native.Mathlib.Omega.{arith}
-use lib.ListN.{length, get_or}
+use lib.ListN.{get_or}
 use Rattle.bags.specs.Label.{incoming}
 use Rattle.script.specs.Link.{from_at, kind_at, to_at}
 use Rattle.words.specs.Chain.{last_at}
@@ -23,10 +23,6 @@ Good s = LedGood incoming s.args.walk.now.script.now s.args.row.now s.args.walk.
 -- the link that a turn looks at, and its words
 link-in : (c : In-loop-at) → c.loop-at.at - 1 < get_or c.args.walk.now.script.now 1 0
 link-in c = walk-in c.loop-at.invariant c.loop-at-test.true
-
-words-in : (c : In-loop-at)
-    → 5 + 3 * (c.loop-at.at - 1) ≤ length c.args.walk.now.script.now
-words-in c = omega (arith, link-in c, c.requires.row_in.words)
 
 -- the card that it starts at and its kind, as they are read
 from_is : (a : After-wide-from) → a.wide-from.result ≡ from_at a.args.walk.now.script.now (a.loop-at.at - 1)
@@ -56,43 +52,6 @@ pub loop-at-init : goal.loop-at-init
 loop-at-init c =
     walk_start (c.wide-at.ensures.same
     ∙ c.requires.arrivals.chained.heads c.args.m (omega (arith, c.requires.arrivals.cards-in)))
-
-pub overflow_mul-i : goal.overflow_mul-i
-overflow_mul-i c = omega (arith, link-in c, c.requires.row_in.few-links)
-
-pub overflow_add-i : goal.overflow_add-i
-overflow_add-i c = omega (arith, link-in c, c.requires.row_in.few-links)
-
-pub offset_bounds-script-i : goal.offset_bounds-script-i
-offset_bounds-script-i c = omega (arith, link-in c, c.requires.row_in.few-links)
-
-pub bounds-script-i : goal.bounds-script-i
-bounds-script-i c = omega (arith, words-in (goal.at.bounds-script-i c).In-loop-at)
-
-pub overflow_mul-i-in-loop-at : goal.overflow_mul-i-in-loop-at
-overflow_mul-i-in-loop-at c = omega (
-  arith,
-  link-in (goal.at.overflow_mul-i-in-loop-at c).In-loop-at,
-  c.requires.row_in.few-links,
-)
-
-pub overflow_add-i-in-loop-at : goal.overflow_add-i-in-loop-at
-overflow_add-i-in-loop-at c = omega (
-  arith,
-  link-in (goal.at.overflow_add-i-in-loop-at c).In-loop-at,
-  c.requires.row_in.few-links,
-)
-
-pub offset_bounds-script-i-in-loop-at : goal.offset_bounds-script-i-in-loop-at
-offset_bounds-script-i-in-loop-at c = omega (
-  arith,
-  link-in (goal.at.offset_bounds-script-i-in-loop-at
-      c).In-loop-at,
-  c.requires.row_in.few-links,
-)
-
-pub bounds-script-i-in-loop-at : goal.bounds-script-i-in-loop-at
-bounds-script-i-in-loop-at c = omega (arith, words-in (goal.at.bounds-script-i-in-loop-at c).In-loop-at)
 
 pub bounds-row-kind : goal.bounds-row-kind
 bounds-row-kind c =
@@ -128,14 +87,6 @@ strike_entry-requires c =
       room = swept-room so_far (λ p g. row.led g.number p g.below g.good) c.requires.room;
     }
 
-pub offset_bounds-next-i : goal.offset_bounds-next-i
-offset_bounds-next-i c =
-    omega (arith, link-in (goal.at.offset_bounds-next-i c).In-loop-at, c.requires.row_in.few-links)
-
-pub bounds-next-i : goal.bounds-next-i
-bounds-next-i c =
-    omega (arith, link-in (goal.at.bounds-next-i c).In-loop-at, c.requires.arrivals.links-in)
-
 pub loop-at-smaller : goal.loop-at-smaller
 loop-at-smaller c =
     walk-less c.loop-at.invariant c.loop-at-test.true (next-is c)
@@ -149,9 +100,6 @@ loop-at-preserved c =
     (goal.at.loop-at-preserved c).After-wide-kind)
     (ap (λ (x : ℕ). x * c.args.walk.now.shapes) (from_is (goal.at.loop-at-preserved c).After-wide-from))
     c.strike_entry.ensures)
-
-pub shape_of-grid : goal.shape_of-grid
-shape_of-grid c = swept-grid c.loop-at.invariant.swept
 
 pub returns : goal.returns
 returns c = arriving-swept (walk-done c.loop-at.invariant (omega (arith, c.loop-at-test.false)))

@@ -98,9 +98,6 @@ loop-i-preserved c =
           c.strike_entry.ensures),
     )
 
-pub shape_of-grid : goal.shape_of-grid
-shape_of-grid c = swept-grid c.loop-i.invariant.2
-
 pub returns : goal.returns
 returns c =
     let before = work c.args.grid.now c.args.queue.now in

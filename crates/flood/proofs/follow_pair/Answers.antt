@@ -8,10 +8,9 @@ use Rattle.words.specs.Limits.{max_kinds, max_labels}
 use Rattle.words.proofs.Places.{card-in, shape-in}
 use Rattle.bags.specs.Label.{outgoing, incoming}
 use Rattle.board.proofs.Worklist.{swept-grid, swept-room}
-use Rattle.typing.proofs.Boards.{pairs-bound}
 use Rattle.walks.specs.Walks.{Leaving}
 use Rattle.walks.specs.Entries.{LedGood}
-use Rattle.walks.proofs.Cards.{card-low, shape-left}
+use Rattle.walks.proofs.Cards.{shape-left}
 use Rattle.walks.proofs.Walks.{arriving-same}
 use Rattle.walks.proofs.Needs.{Half, half-row, row-asked, range-rising, range-in, arrivals-at}
 use Rattle.walks.proofs.Following.{followed-out, followed-both}
@@ -33,9 +32,6 @@ shape_is s = shape-in s.args.walk.now.shapes s.requires.links.ready.one-shape s.
 -- the card that is given is its card, and what is left of the place its shape
 left_is : (s : Start) → s.args.q - s.args.n * s.args.walk.now.shapes ≡ s.args.q % s.args.walk.now.shapes
 left_is s = shape-left s.args.walk.now.shapes s.args.q s.requires.links.ready.one-shape s.requires.card
-
-given-room : (s : Start) → s.args.n * s.args.walk.now.shapes ≤ s.args.q
-given-room s = card-low s.args.walk.now.shapes s.args.q s.requires.links.ready.one-shape s.requires.card
 
 given-in : (s : Start) → s.args.n < get_or s.args.walk.now.script.now 0 0
 given-in s = omega (arith, card-is s, s.requires.card)
@@ -87,71 +83,6 @@ out-in a p g =
           a).After-wide-hi),
     )) g.good
 
-pub overflow_mul-base : goal.overflow_mul-base
-overflow_mul-base c = omega (
-  arith,
-  given-room (goal.at.overflow_mul-base c).Start,
-  pair_is
-      (goal.at.overflow_mul-base c).Start,
-  pairs-bound c.requires.links.ready,
-)
-
-pub overflow_sub-base : goal.overflow_sub-base
-overflow_sub-base c = omega (arith, given-room (goal.at.overflow_sub-base c).Start)
-
-pub overflow_mul-base-2 : goal.overflow_mul-base-2
-overflow_mul-base-2 c =
-    omega (
-      arith,
-      base-is (goal.at.overflow_mul-base-2 c).Start,
-      c.requires.links.ready.few-shapes,
-      shape_is
-          (goal.at.overflow_mul-base-2 c).Start,
-    )
-
-pub overflow_add-half : goal.overflow_add-half
-overflow_add-half c =
-    omega (
-      arith,
-      base-is (goal.at.overflow_add-half c).Start,
-      c.requires.links.ready.few-shapes,
-      shape_is
-          (goal.at.overflow_add-half c).Start,
-    )
-
-pub offset_bounds-walk-n : goal.offset_bounds-walk-n
-offset_bounds-walk-n c = omega (
-  arith,
-  given-in (goal.at.offset_bounds-walk-n c).Start,
-  c.requires.links.ready.few-cards,
-)
-
-pub bounds-walk-n : goal.bounds-walk-n
-bounds-walk-n c =
-    omega (arith, given-in (goal.at.bounds-walk-n c).Start, c.requires.links.leaving.cards)
-
-pub overflow_add-n : goal.overflow_add-n
-overflow_add-n c = omega (arith, given-in (goal.at.overflow_add-n c).Start, c.requires.links.ready.few-cards)
-
-pub offset_bounds-walk-n-2 : goal.offset_bounds-walk-n-2
-offset_bounds-walk-n-2 c = omega (
-  arith,
-  given-in (goal.at.offset_bounds-walk-n-2 c).Start,
-  c.requires.links.ready.few-cards,
-)
-
-pub bounds-walk-n-2 : goal.bounds-walk-n-2
-bounds-walk-n-2 c =
-    omega (arith, given-in (goal.at.bounds-walk-n-2 c).Start, c.requires.links.leaving.cards)
-
-pub slice_bounds-follow_leaving-end : goal.slice_bounds-follow_leaving-end
-slice_bounds-follow_leaving-end c = omega (
-  arith,
-  row_in (goal.at.slice_bounds-follow_leaving-end c).Start,
-  base-is
-      (goal.at.slice_bounds-follow_leaving-end c).Start,
-)
-
 pub follow_leaving-requires : goal.follow_leaving-requires
 follow_leaving-requires c =
     let links = c.requires.links in
@@ -167,20 +98,6 @@ follow_leaving-requires c =
           c).After-wide-hi);
       room = c.requires.room;
     }
-
-pub overflow_add-row : goal.overflow_add-row
-overflow_add-row c =
-    omega (
-      arith,
-      base-is (goal.at.overflow_add-row c).Start,
-      c.requires.links.ready.few-shapes,
-      shape_is
-          (goal.at.overflow_add-row c).Start,
-    )
-
-pub slice_bounds-row-end : goal.slice_bounds-row-end
-slice_bounds-row-end c =
-    omega (arith, base-is (goal.at.slice_bounds-row-end c).Start, row_in (goal.at.slice_bounds-row-end c).Start)
 
 pub follow_arriving-requires : goal.follow_arriving-requires
 follow_arriving-requires c =

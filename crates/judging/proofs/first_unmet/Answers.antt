@@ -11,7 +11,8 @@ pub returns : goal.returns
 unfolding on
 returns c =
     let a = c.args in
-    let Fault = Failing a.script.now a.names.now a.shapes a.fitting.now a.grid.now in
+    let walk = a.walk.now in
+    let Fault = Failing walk.script.now walk.names.now walk.shapes a.fitting.now a.grid.now in
     first-found Fault (length a.grid.now) c.find.result
     (first_from_Range _ _ _ c.find.result Fault (λ p. Fault p → ⊥) c.find.ensures.ran
     (λ x q k. search rules) (λ x q k. search rules))

@@ -10,7 +10,7 @@ returns c =
       arriving = record {
         cards-in = omega (arith, left.sizes.0, asked.few-cards);
         links-in = omega (arith, left.sizes.1, asked.chaining.blank.room);
-        chained = left.chained;
+        chained = rw (← c.from.ensures) left.chained;
       };
       heads = omega (arith, left.sizes.0);
       nexts = omega (arith, left.sizes.1);

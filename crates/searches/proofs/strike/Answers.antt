@@ -9,11 +9,11 @@ use Rattle.searches.proofs.strike.Goals as goal
 pub strike_all-tally-requires : goal.strike_all-tally-requires
 strike_all-tally-requires c =
     let t = c.requires.some.tested in
-    record {
+    rw c.walk_of-walk.ensures (record {
       links = links-ready t.known c.requires.some.links;
       arriving = links-arriving t.known c.requires.arriving;
       full = full-words t;
-    }
+    })
 
 pub count_bare-bare-requires : goal.count_bare-bare-requires
 count_bare-bare-requires c =
@@ -28,4 +28,4 @@ count_bare-bare-requires c =
 
 pub returns : goal.returns
 returns c s t =
-    struck-found t c.strike_all-tally.ensures (c.count_bare-bare.ensures s (counted-as t))
+    struck-found t (rw c.walk_of-walk.ensures at c.strike_all-tally.ensures) (c.count_bare-bare.ensures s (counted-as t))

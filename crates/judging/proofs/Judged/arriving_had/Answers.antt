@@ -12,10 +12,10 @@ use Rattle.judging.proofs.Judged.arriving_had.Goals as goal
 use Rattle.judging.proofs.Judged.arriving_had.Goals.{After-wide, After-wide-at-in-loop-at}
 
 -- the card that the link starts at, and the next link of the chain, as they are read
-from_is : (a : After-wide) → a.wide.result ≡ from_at a.args.self.now.script.now (a.loop-at.at - 1)
-from_is a = a.wide.ensures.same ∙ from-word a.args.self.now.script.now (a.loop-at.at - 1)
+from_is : (a : After-wide) → a.wide.result ≡ from_at a.args.self.now.walk.script.now (a.loop-at.at - 1)
+from_is a = a.wide.ensures.same ∙ from-word a.args.self.now.walk.script.now (a.loop-at.at - 1)
 
-next-is : (a : After-wide-at-in-loop-at) → let to = to_at a.args.self.now.script.now in
+next-is : (a : After-wide-at-in-loop-at) → let to = to_at a.args.self.now.walk.script.now in
     a.wide-at-in-loop-at.result ≡ last_at to (to (a.loop-at.at - 1)) (a.loop-at.at - 1)
 next-is a =
     a.wide-at-in-loop-at.ensures.same

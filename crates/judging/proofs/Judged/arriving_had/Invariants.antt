@@ -10,7 +10,7 @@ use Rattle.judging.proofs.Judged.arriving_had.Given as goal
 
 abbrev pub invariant-loop-at : goal.invariant-loop-at
 invariant-loop-at l =
-    let script = l.self.script.now in
+    let script = l.self.walk.script.now in
     Testing (to_at script) l.m (get_or script 1 0) (LinkGood incoming l.self l.row) (on l.self.grid.now) l.at
 
 abbrev pub decreases-loop-at : goal.decreases-loop-at

@@ -11,8 +11,8 @@ use Rattle.judging.proofs.Judged.leaving_had.Goals as goal
 use Rattle.judging.proofs.Judged.leaving_had.Goals.{After-wide}
 
 -- the card that the link leads to, as it is read
-to_is : (a : After-wide) → a.wide.result ≡ to_at a.args.self.now.script.now a.loop-i.i
-to_is a = a.wide.ensures.same ∙ to_word a.args.self.now.script.now a.loop-i.i
+to_is : (a : After-wide) → a.wide.result ≡ to_at a.args.self.now.walk.script.now a.loop-i.i
+to_is a = a.wide.ensures.same ∙ to_word a.args.self.now.walk.script.now a.loop-i.i
 
 pub link_had-requires : goal.link_had-requires
 link_had-requires c = record {

@@ -11,8 +11,8 @@ use Rattle.judging.proofs.Judged.link_had.Goals as goal
 use Rattle.judging.proofs.Judged.link_had.Goals.{After-byte, After-wide-kind}
 
 -- the link's kind and the shape that the entry names, as they are read
-kind-is : (a : After-wide-kind) → a.wide-kind.result ≡ kind_at a.args.self.now.script.now a.args.i
-kind-is a = a.wide-kind.ensures.same ∙ kind-word a.args.self.now.script.now a.args.i
+kind-is : (a : After-wide-kind) → a.wide-kind.result ≡ kind_at a.args.self.now.walk.script.now a.args.i
+kind-is a = a.wide-kind.ensures.same ∙ kind-word a.args.self.now.walk.script.now a.args.i
 
 names-it : (a : After-byte) → get_or a.args.row.now a.wide-kind.result 0 ≡ suc a.byte.result
 names-it a = omega (arith, a.in-Some.ensures, a.byte.ensures.same)

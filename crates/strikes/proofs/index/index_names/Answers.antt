@@ -132,40 +132,6 @@ none_here a none =
       zeros = λ j past. so_far.zeros j (omega arith);
     }
 
-pub overflow_cast-shape : goal.overflow_cast-shape
-overflow_cast-shape c = omega (arith, c.loop-p-test.true, c.requires.table.few-shapes)
-
-pub bounds-names-entry_place : goal.bounds-names-entry_place
-bounds-names-entry_place c = place_here (goal.at.bounds-names-entry_place c).After-entry_place
-
-pub offset_bounds-index-key : goal.offset_bounds-index-key
-offset_bounds-index-key c = omega (arith, key-low c)
-
-pub bounds-index-key : goal.bounds-index-key
-bounds-index-key c = key-low (goal.at.bounds-index-key c).After-name_key-key
-
-pub offset_bounds-index-p : goal.offset_bounds-index-p
-offset_bounds-index-p c = omega (arith, place-low (goal.at.offset_bounds-index-p c).After-byte-entry)
-
-pub bounds-index-p : goal.bounds-index-p
-bounds-index-p c = place-low (goal.at.bounds-index-p c).After-byte-entry
-
-pub overflow_add-index : goal.overflow_add-index
-overflow_add-index c = omega (arith, place-low (goal.at.overflow_add-index c).After-byte-entry)
-
-pub overflow_cast-index : goal.overflow_cast-index
-overflow_cast-index c = omega (arith, place-low (goal.at.overflow_cast-index c).After-byte-entry)
-
-pub offset_bounds-index-key-then-entry-gt0 : goal.offset_bounds-index-key-then-entry-gt0
-offset_bounds-index-key-then-entry-gt0 c = omega (
-  arith,
-  key-low (goal.at.offset_bounds-index-key-then-entry-gt0
-      c).After-name_key-key,
-)
-
-pub bounds-index-key-then-entry-gt0 : goal.bounds-index-key-then-entry-gt0
-bounds-index-key-then-entry-gt0 c = key-low (goal.at.bounds-index-key-then-entry-gt0 c).After-name_key-key
-
 pub loop-p-preserved : goal.loop-p-preserved
 loop-p-preserved c =
     let b = (goal.at.loop-p-preserved c).After-byte-entry in

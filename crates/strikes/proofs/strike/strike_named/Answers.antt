@@ -37,17 +37,11 @@ key_in : (c : After-name_key-key)
 key_in c =
     omega (arith, c.name_key-key.ensures, c.requires.places.keys, c.requires.kind-in, c.requires.shape-in)
 
-pub bounds-index-key : goal.bounds-index-key
-bounds-index-key c = omega (arith, c.name_key-key.ensures, c.requires.kind-in, c.requires.shape-in)
-
 pub loop-at-init : goal.loop-at-init
 loop-at-init c =
     walk_start (c.wide-at.ensures.same
     ∙ c.requires.places.chained.heads c.name_key-key.result (key_in (goal.at.loop-at-init
     c).After-name_key-key))
-
-pub overflow_add-base : goal.overflow_add-base
-overflow_add-base c = omega (arith, pair-in (goal.at.overflow_add-base c).In-loop-at, c.requires.few-places)
 
 pub strike_one-requires : goal.strike_one-requires
 strike_one-requires c =
@@ -58,10 +52,6 @@ strike_one-requires c =
       room = swept-room c.loop-at.invariant.swept (λ p g. row_in c.args.walk.now.shapes (c.args.card * c.args.walk.now.shapes) c.requires.pairs g)
           c.requires.room;
     }
-
-pub bounds-index-p : goal.bounds-index-p
-bounds-index-p c =
-    omega (arith, c.requires.places.places, walk-in c.loop-at.invariant c.loop-at-test.true)
 
 pub loop-at-smaller : goal.loop-at-smaller
 loop-at-smaller c =
@@ -79,9 +69,6 @@ loop-at-preserved c =
       swept-grid
           c.loop-at.invariant.swept,
     ))))
-
-pub shape_of-grid : goal.shape_of-grid
-shape_of-grid c = swept-grid c.loop-at.invariant.swept
 
 pub returns : goal.returns
 returns c =

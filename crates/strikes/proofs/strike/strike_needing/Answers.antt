@@ -56,29 +56,6 @@ sources-in s p g = omega (
   s.requires.full,
 )
 
-pub overflow_mul-u : goal.overflow_mul-u
-overflow_mul-u c =
-    omega (
-      arith,
-      given-room (goal.at.overflow_mul-u c).Start,
-      c.requires.on-board,
-      c.requires.full,
-      pairs-bound
-          c.requires.by.ready,
-    )
-
-pub overflow_sub-u : goal.overflow_sub-u
-overflow_sub-u c = omega (arith, given-room (goal.at.overflow_sub-u c).Start)
-
-pub overflow_cast-u : goal.overflow_cast-u
-overflow_cast-u c =
-    omega (
-      arith,
-      left_is (goal.at.overflow_cast-u c).Start,
-      shape_is (goal.at.overflow_cast-u c).Start,
-      c.requires.by.ready.few-shapes,
-    )
-
 pub strike_sources-requires : goal.strike_sources-requires
 strike_sources-requires c =
     record {
@@ -96,28 +73,6 @@ strike_sources-requires c =
       };
       arrivals = arrivals-at c.requires.by.arriving (given-in (goal.at.strike_sources-requires c).Start);
     }
-
-pub offset_bounds-walk-m : goal.offset_bounds-walk-m
-offset_bounds-walk-m c =
-    omega (arith, given-in (goal.at.offset_bounds-walk-m c).Start, c.requires.by.ready.few-cards)
-
-pub bounds-walk-m : goal.bounds-walk-m
-bounds-walk-m c =
-    omega (arith, given-in (goal.at.bounds-walk-m c).Start, c.requires.by.leaving.cards)
-
-pub overflow_add-m : goal.overflow_add-m
-overflow_add-m c = omega (arith, given-in (goal.at.overflow_add-m c).Start, c.requires.by.ready.few-cards)
-
-pub offset_bounds-walk-m-in-Some : goal.offset_bounds-walk-m-in-Some
-offset_bounds-walk-m-in-Some c = omega (
-  arith,
-  given-in (goal.at.offset_bounds-walk-m-in-Some c).Start,
-  c.requires.by.ready.few-cards,
-)
-
-pub bounds-walk-m-in-Some : goal.bounds-walk-m-in-Some
-bounds-walk-m-in-Some c =
-    omega (arith, given-in (goal.at.bounds-walk-m-in-Some c).Start, c.requires.by.leaving.cards)
 
 pub strike_targets-requires : goal.strike_targets-requires
 strike_targets-requires c =

@@ -57,44 +57,11 @@ next-is c =
     c.wide-at-in-loop-at.ensures.same ∙ links.chained.nexts (c.loop-at.at - 1) (link-in
     (goal.at.After-wide-at-in-loop-at c).In-loop-at)
 
-pub bounds-walk-m : goal.bounds-walk-m
-bounds-walk-m c =
-    omega (arith, c.requires.arrivals.cards-in)
-
 pub loop-at-init : goal.loop-at-init
 loop-at-init c =
     walk_start (c.wide-at.ensures.same
     ∙ c.requires.arrivals.chained.heads c.args.m
     (omega (arith, c.requires.arrivals.cards-in)))
-
-pub overflow_mul-i : goal.overflow_mul-i
-overflow_mul-i c = omega (arith, link-in c, c.requires.need.ready.few-links)
-
-pub overflow_add-i : goal.overflow_add-i
-overflow_add-i c = omega (arith, link-in c, c.requires.need.ready.few-links)
-
-pub offset_bounds-script-i : goal.offset_bounds-script-i
-offset_bounds-script-i c = omega (arith, link-in c, c.requires.need.ready.few-links)
-
-pub bounds-script-i : goal.bounds-script-i
-bounds-script-i c = omega (arith, words-in (goal.at.bounds-script-i c).In-loop-at)
-
-pub overflow_mul-kind : goal.overflow_mul-kind
-overflow_mul-kind c = omega (arith, link-in (goal.at.overflow_mul-kind c).In-loop-at, c.requires.need.ready.few-links)
-
-pub overflow_add-kind : goal.overflow_add-kind
-overflow_add-kind c = omega (arith, link-in (goal.at.overflow_add-kind c).In-loop-at, c.requires.need.ready.few-links)
-
-pub offset_bounds-script-i-in-loop-at : goal.offset_bounds-script-i-in-loop-at
-offset_bounds-script-i-in-loop-at c = omega (
-  arith,
-  link-in (goal.at.offset_bounds-script-i-in-loop-at
-      c).In-loop-at,
-  c.requires.need.ready.few-links,
-)
-
-pub bounds-script-i-in-loop-at : goal.bounds-script-i-in-loop-at
-bounds-script-i-in-loop-at c = omega (arith, words-in (goal.at.bounds-script-i-in-loop-at c).In-loop-at)
 
 pub strike_named-requires : goal.strike_named-requires
 strike_named-requires c =
@@ -121,14 +88,6 @@ strike_named-requires c =
           c.requires.need.room;
     }
 
-pub offset_bounds-next-i : goal.offset_bounds-next-i
-offset_bounds-next-i c =
-    omega (arith, link-in (goal.at.offset_bounds-next-i c).In-loop-at, c.requires.need.ready.few-links)
-
-pub bounds-next-i : goal.bounds-next-i
-bounds-next-i c =
-    omega (arith, link-in (goal.at.bounds-next-i c).In-loop-at, c.requires.arrivals.links-in)
-
 pub loop-at-smaller : goal.loop-at-smaller
 loop-at-smaller c =
     walk-less c.loop-at.invariant c.loop-at-test.true (next-is c)
@@ -143,9 +102,6 @@ loop-at-preserved c =
     (kind-is (goal.at.loop-at-preserved c).After-wide-from) (ap (λ (x : ℕ). x * c.args.walk.now.shapes) (from_is
     (goal.at.loop-at-preserved c).After-wide-from)) (rw c.requires.need.places.half at
     c.strike_named.ensures))
-
-pub shape_of-grid : goal.shape_of-grid
-shape_of-grid c = swept-grid c.loop-at.invariant.swept
 
 pub returns : goal.returns
 returns c = arriving-swept (walk-done c.loop-at.invariant (omega (arith, c.loop-at-test.false)))

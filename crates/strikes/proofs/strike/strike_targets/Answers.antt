@@ -50,34 +50,6 @@ card-pairs a =
 pub loop-i-init : goal.loop-i-init
 loop-i-init c = (omega arith, c.requires.rising, leaving-none)
 
-pub overflow_mul-kind : goal.overflow_mul-kind
-overflow_mul-kind c = omega (arith, link-in c, c.requires.need.ready.few-links)
-
-pub overflow_add-kind : goal.overflow_add-kind
-overflow_add-kind c = omega (arith, link-in c, c.requires.need.ready.few-links)
-
-pub offset_bounds-script-i : goal.offset_bounds-script-i
-offset_bounds-script-i c = omega (arith, link-in c, c.requires.need.ready.few-links)
-
-pub bounds-script-i : goal.bounds-script-i
-bounds-script-i c = omega (arith, words-in (goal.at.bounds-script-i c).In-loop-i)
-
-pub overflow_mul-i : goal.overflow_mul-i
-overflow_mul-i c = omega (arith, link-in (goal.at.overflow_mul-i c).In-loop-i, c.requires.need.ready.few-links)
-
-pub overflow_add-i : goal.overflow_add-i
-overflow_add-i c = omega (arith, link-in (goal.at.overflow_add-i c).In-loop-i, c.requires.need.ready.few-links)
-
-pub offset_bounds-script-i-in-loop-i : goal.offset_bounds-script-i-in-loop-i
-offset_bounds-script-i-in-loop-i c = omega (
-  arith,
-  link-in (goal.at.offset_bounds-script-i-in-loop-i c).In-loop-i,
-  c.requires.need.ready.few-links,
-)
-
-pub bounds-script-i-in-loop-i : goal.bounds-script-i-in-loop-i
-bounds-script-i-in-loop-i c = omega (arith, words-in (goal.at.bounds-script-i-in-loop-i c).In-loop-i)
-
 pub strike_named-requires : goal.strike_named-requires
 strike_named-requires c =
     let ready = c.requires.need.ready in
@@ -119,9 +91,6 @@ loop-i-preserved c =
           (goal.at.loop-i-preserved c).After-wide-to)) (rw c.requires.need.places.half at
           c.strike_named.ensures)),
     )
-
-pub shape_of-grid : goal.shape_of-grid
-shape_of-grid c = swept-grid c.loop-i.invariant.2
 
 pub returns : goal.returns
 returns c =
