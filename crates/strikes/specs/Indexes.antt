@@ -62,4 +62,5 @@ pub record WayIndex (names : List ℕ) (shapes : ℕ) (way : Way) (index : NameI
 -- The indexes of a table: of the outgoing names, and of the incoming ones unless there are none.
 pub record IndexedBy (names : List ℕ) (shapes : ℕ) (out : NameIndex) (back : Option (Bor NameIndex)) : Type 0 where
   pub outward : WayIndex names shapes outgoing out
-  pub inward : MatchOption back (OnlyOutgoing names shapes max_kinds) (λ index. WayIndex names shapes incoming index.now)
+  pub inward : MatchOption back (OnlyOutgoing names shapes max_kinds)
+      (λ index. WayIndex names shapes incoming index.now)

@@ -4,8 +4,6 @@ use mathlib.Core.Path.{◌≡◌, ap, ◌∙◌}
 use Prim.Native.Nat.{ℕ, ◌*◌}
 use native.Mathlib.Omega.{arith}
 use lib.ListN.{length, get_or}
-use Rattle.typing.proofs.Boards.{pairs-bound}
-use Rattle.closure.proofs.Marks.{filled}
 use Rattle.closure.proofs.Closures.{closes}
 use Rattle.closure.proofs.close.Goals as goal
 use Rattle.closure.proofs.close.Goals.{After-mark_bookings, Start}
@@ -17,32 +15,6 @@ marked-full : (m : After-mark_bookings) → length m.mark_bookings.new.grid ≡ 
     m.args.walk.now.shapes
 marked-full m =
     m.mark_bookings.ensures.1 ∙ m.fill.auto.grid ∙ grid-full (goal.at.After-mark_bookings m).Start
-
-pub mark_bookings-requires : goal.mark_bookings-requires
-mark_bookings-requires c =
-    record {
-      sized = c.requires.sized;
-      full = c.fill.auto.grid ∙ c.requires.full;
-      few-cards = omega (arith, c.requires.all-cards, c.requires.links.ready.few-cards);
-      few-shapes = c.requires.links.ready.few-shapes;
-      booked-in = c.requires.booked-in;
-      ones = filled c.fill.new.grid (length c.args.grid.now) 1 c.fill.ensures;
-    }
-
-pub list_off-requires : goal.list_off-requires
-list_off-requires c = omega (
-  arith,
-  marked-full (goal.at.list_off-requires c).After-mark_bookings,
-  pairs-bound c.requires.links.ready,
-)
-
-pub flood-requires : goal.flood-requires
-flood-requires c =
-    record {
-      links = c.requires.links;
-      full = marked-full (goal.at.flood-requires c).After-mark_bookings;
-      listed = c.list_off.ensures;
-    }
 
 pub returns : goal.returns
 returns c =

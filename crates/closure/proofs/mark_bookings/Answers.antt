@@ -1,64 +1,21 @@
 -- `closure::mark_bookings` turns the pairs of a desk's bookings off. The invariant: those of the first `i` bookings are
 -- off, and no others. Assumes nothing.
 use mathlib.Core.Path.{◌∙◌, ◌≡◌, ap, refl, subst}
-use mathlib.Core.Logic.{⊎_elim}
 use Prim.Native.Nat.{◌*◌, ◌+◌, ◌<◌, ℕ}
 use native.Mathlib.Omega.{arith}
 use lib.ListN.{length, set, length-set}
 use Rattle.words.proofs.Places.{place_in}
 use Rattle.bookings.specs.Bookings.{desk_at, card_at, shape_at}
 use Rattle.closure.specs.Closing.{Marked}
-use Rattle.bookings.proofs.Accepted.{words-in}
 use Rattle.closure.proofs.Marks.{marked_more, marked_other, marked-none}
 use Rattle.closure.proofs.mark_bookings.Goals as goal
+use Rattle.closure.proofs.mark_bookings.Goals.{then-desk_at-desk, else-desk_at-desk}
 use Rattle.closure.proofs.mark_bookings.Goals.{After-desk_at, After-pair_place}
-
--- the place that is turned off is that of the booking's pair
-place_here : (a : After-pair_place) → let i = a.loop-i.i in
-    a.pair_place.result
-    ≡ card_at a.args.bookings.now i * a.args.shapes + shape_at a.args.bookings.now i
-place_here a =
-    a.pair_place.ensures
-    ∙ ap (λ (n : ℕ). n * a.args.shapes + a.shape_at-shape.result.0) a.card_at-card.ensures
-    ∙ ap (λ (t : ℕ). card_at a.args.bookings.now a.loop-i.i * a.args.shapes + t) a.shape_at-shape.ensures
-
--- and on the board
-place-low : (a : After-pair_place) → a.pair_place.result < length a.loop-i.grid
-place-low a =
-    let i = a.loop-i.i in
-    let bookings = a.args.bookings.now in
-    let (card, shape) = a.requires.booked-in i (omega arith) in
-    omega (
-      arith,
-      place_here a,
-      place_in a.args.cards a.args.shapes (card_at bookings i) (shape_at bookings i) card shape,
-      a.loop-i.invariant.0,
-      a.requires.full,
-    )
 
 pub loop-i-init : goal.loop-i-init
 loop-i-init c =
     let bookings = c.args.bookings.now in
     (refl, marked-none bookings c.args.desk c.args.shapes c.args.grid.now c.requires.ones)
-
-pub desk_at-requires : goal.desk_at-requires
-desk_at-requires c =
-    words-in c.requires.sized (omega arith)
-
-pub card_at-card-requires : goal.card_at-card-requires
-card_at-card-requires c =
-    words-in c.requires.sized (omega arith)
-
-pub shape_at-shape-requires : goal.shape_at-shape-requires
-shape_at-shape-requires c =
-    words-in c.requires.sized (omega arith)
-
-pub pair_place-requires : goal.pair_place-requires
-pair_place-requires c =
-    c.requires.few-shapes
-
-pub bounds-grid-pair_place : goal.bounds-grid-pair_place
-bounds-grid-pair_place c = place-low c
 
 -- what a booking of the desk leaves
 marked-here : (a : After-desk_at) (place : ℕ) → desk_at a.args.bookings.now a.loop-i.i ≡ a.args.desk
@@ -86,19 +43,20 @@ pub loop-i-preserved : goal.loop-i-preserved
 loop-i-preserved c =
     let a = (goal.at.loop-i-preserved c).After-desk_at in
     let bookings = c.args.bookings.now in
-    ⊎_elim
-    (λ w.
-    let ours : desk_at bookings c.loop-i.i ≡ c.args.desk = omega (arith, c.desk_at.ensures, w.if-desk_at-desk.true) in
-    let is = w.pair_place.ensures
-    ∙ ap (λ (n : ℕ). n * c.args.shapes + w.shape_at-shape.result.0) w.card_at-card.ensures
-    ∙ ap (λ (t : ℕ). card_at bookings c.loop-i.i * c.args.shapes + t) w.shape_at-shape.ensures in
-    let (long, marked) = marked-here a w.pair_place.result ours is in
-    rw w.grid-is (long, marked))
-    (λ w. rw w.grid-is (
-      c.loop-i.invariant.0,
-      marked_other c.loop-i.invariant.1 (λ e. absurd (omega (arith, e, c.desk_at.ensures, w.if-desk_at-desk.false))),
-    ))
-    c.if-desk_at-desk.branch-raw
+    elim c.if-desk_at-desk.branch [
+      | then-desk_at-desk w ↦
+          let ours : desk_at bookings c.loop-i.i ≡ c.args.desk = omega
+          (arith, c.desk_at.ensures, w.if-desk_at-desk.true) in
+          let is = w.pair_place.ensures
+          ∙ ap (λ (n : ℕ). n * c.args.shapes + w.shape_at-shape.result.0) w.card_at-card.ensures
+          ∙ ap (λ (t : ℕ). card_at bookings c.loop-i.i * c.args.shapes + t) w.shape_at-shape.ensures in
+          let (long, marked) = marked-here a w.pair_place.result ours is in
+          rw w.grid-is (long, marked)
+      | else-desk_at-desk w ↦ rw w.grid-is (
+        c.loop-i.invariant.0,
+        marked_other c.loop-i.invariant.1 (λ e. absurd (omega (arith, e, c.desk_at.ensures, w.if-desk_at-desk.false))),
+      )
+    ]
 
 pub returns : goal.returns
 returns c =

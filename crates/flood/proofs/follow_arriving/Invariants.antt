@@ -10,7 +10,8 @@ use Rattle.flood.proofs.follow_arriving.Given as goal
 
 abbrev pub invariant-loop-at : goal.invariant-loop-at
 invariant-loop-at l =
-    Walking (to_at l.walk.script.now) l.m (get_or l.walk.script.now 1 0) (LedGood incoming l.walk.script.now l.row l.walk.shapes)
+    Walking (to_at l.walk.script.now) l.m (get_or l.walk.script.now 1 0)
+    (LedGood incoming l.walk.script.now l.row l.walk.shapes)
     (work l.initial.grid l.initial.queue) (work l.grid l.queue) l.at
 
 abbrev pub decreases-loop-at : goal.decreases-loop-at

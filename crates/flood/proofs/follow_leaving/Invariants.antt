@@ -10,7 +10,8 @@ use Rattle.flood.proofs.follow_leaving.Given as goal
 abbrev pub invariant-loop-i : goal.invariant-loop-i
 invariant-loop-i l =
     (l.lo ≤ l.i) × (l.i ≤ l.hi)
-    × Swept (Leaving (LedGood outgoing l.walk.script.now l.row l.walk.shapes) l.lo l.i) (work l.initial.grid l.initial.queue) (work l.grid l.queue)
+    × Swept (Leaving (LedGood outgoing l.walk.script.now l.row l.walk.shapes) l.lo l.i)
+    (work l.initial.grid l.initial.queue) (work l.grid l.queue)
 
 abbrev pub decreases-loop-i : goal.decreases-loop-i
 decreases-loop-i l = l.hi - l.i

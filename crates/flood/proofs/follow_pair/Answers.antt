@@ -47,7 +47,8 @@ row_in s = omega (arith, shape_is s, s.requires.links.ready.table)
 low : (h : After-wide-hi) → h.wide-lo.result ≡ get_or h.args.walk.now.starts.now (h.args.q / h.args.walk.now.shapes) 0
 low h = h.wide-lo.ensures.same ∙ ap (λ (x : ℕ). get_or h.args.walk.now.starts.now x 0) h.requires.card
 
-high : (h : After-wide-hi) → h.wide-hi.result ≡ get_or h.args.walk.now.starts.now (h.args.q / h.args.walk.now.shapes + 1) 0
+high : (h : After-wide-hi) → h.wide-hi.result ≡ get_or h.args.walk.now.starts.now
+    (h.args.q / h.args.walk.now.shapes + 1) 0
 high h = h.wide-hi.ensures.same ∙ ap (λ (x : ℕ). get_or h.args.walk.now.starts.now (x + 1) 0) h.requires.card
 
 -- the two halves of the row
@@ -124,6 +125,7 @@ returns-then-walk c =
 pub returns-else-walk : goal.returns-else-walk
 returns-else-walk c =
     followed-out c.requires.links.ready c.requires.links.leaving (pair_is (goal.at.returns-else-walk c).Start) (low
-    (goal.at.returns-else-walk c).After-wide-hi) (high (goal.at.returns-else-walk c).After-wide-hi) (out-half (goal.at.returns-else-walk
+    (goal.at.returns-else-walk c).After-wide-hi) (high (goal.at.returns-else-walk c).After-wide-hi)
+    (out-half (goal.at.returns-else-walk
     c).Start _ (base-is (goal.at.returns-else-walk c).Start))
     (c.requires.links.ways c.if-walk.false) c.follow_leaving.ensures

@@ -1,6 +1,6 @@
 -- `rounds::strike_rounds` strikes as the rounds of "Largest" do, level by level.
 -- Assumes nothing.
-use mathlib.Core.Path.{subst, sym, ◌∙◌}
+use mathlib.Core.Path.{subst}
 use Prim.Native.Nat.{ℕ, ◌<◌, ◌*◌}
 use native.Mathlib.Omega.{arith}
 use lib.ListN.{get_or}
@@ -21,10 +21,6 @@ read-in : (a : After-at-q) → a.at-q.result < get_or a.args.walk.now.script.now
 read-in a =
     omega (arith, a.at-q.ensures, rounds-head a.loop-head.invariant.0 a.loop-head-test.true)
 
-pub reciprocal-factor-requires : goal.reciprocal-factor-requires
-reciprocal-factor-requires c =
-    (c.requires.by.ready.one-shape, c.requires.by.ready.few-shapes)
-
 pub loop-head-init : goal.loop-head-init
 loop-head-init c = (
   rounds-start c.requires.by.ready c.requires.full (omega arith) c.requires.listed,
@@ -36,10 +32,6 @@ at_head-requires c = rounds-few c.loop-head.invariant.0
 
 pub at-q-requires : goal.at-q-requires
 at-q-requires c = omega (arith, c.loop-head-test.true, (rounds-tail c.loop-head.invariant.0).1)
-
-pub overflow_add-head : goal.overflow_add-head
-overflow_add-head c =
-    omega (arith, c.loop-head-test.true, (rounds-tail c.loop-head.invariant.0).1)
 
 pub source_card-m-requires : goal.source_card-m-requires
 source_card-m-requires c =
@@ -58,9 +50,6 @@ strike_needing-requires c =
       room = rounds-room r;
     }
 
-pub overflow_add-head-in-loop-head : goal.overflow_add-head-in-loop-head
-overflow_add-head-in-loop-head c = omega (arith, c.loop-head-test.true, (rounds-tail c.loop-head.invariant.0).1)
-
 pub loop-head-smaller : goal.loop-head-smaller
 loop-head-smaller c = omega (arith, c.loop-head-test.true, (rounds-tail c.loop-head.invariant.0).0)
 
@@ -78,9 +67,6 @@ loop-head-preserved c =
 
 pub close_round-requires : goal.close_round-requires
 close_round-requires c = rounds-few c.loop-head.invariant.0
-
-pub shape_of-grid : goal.shape_of-grid
-shape_of-grid c = let r = c.loop-head.invariant.0 in r.search.full ∙ sym r.lent
 
 pub returns : goal.returns
 returns c = rounds-done c.loop-head.invariant.0 c.loop-head-test.false c.close_round.ensures

@@ -12,7 +12,7 @@ use Rattle.words.specs.Chain.{Chained}
 use Rattle.words.proofs.Chains.{chained-none, chained_more, chained-skip}
 use Rattle.strikes.specs.declared.index.NameIndex.{NameIndex}
 use Rattle.strikes.specs.Indexes.{entry_key, half_entry, name_keys}
-use Rattle.strikes.proofs.Names.{half_place, half_in, half-bound, key-none, key_of, key-own}
+use Rattle.strikes.proofs.Names.{half_place, half-bound, key-none, key_of, key-own}
 use Rattle.strikes.proofs.index.index_names.Invariants.{IndexedTo}
 use Rattle.strikes.proofs.index.index_names.Goals as goal
 use Rattle.strikes.proofs.index.index_names.Goals.{After-byte-entry, After-entry_place, After-name_key-key}
@@ -33,18 +33,6 @@ loop-p-init c =
       zeros = λ i _ l. zero-at i l;
     })
 
--- the place that a turn reads is in the table
-place_here : (e : After-entry_place)
-    → e.entry_place.result < length e.args.names.now
-place_here e =
-    omega (
-      arith,
-      e.entry_place.ensures,
-      half_in e.args.names.now e.args.index.now.start e.loop-p.p e.args.shapes e.requires.half
-          e.loop-p-test.true,
-      e.requires.table.rows,
-    )
-
 -- its entry
 entry-is : (a : After-byte-entry) → a.byte-entry.result ≡ half_entry a.args.names.now a.args.index.now.start a.loop-p.p
 entry-is a =
@@ -63,16 +51,6 @@ entry-low a =
           a.loop-p-test.true,
     )
 
-key-low : (k : After-name_key-key)
-    → k.name_key-key.result < name_keys
-key-low k =
-    omega (
-      arith,
-      k.name_key-key.ensures,
-      entry-low (goal.at.After-name_key-key k).After-byte-entry,
-      shape-in max_kinds (omega arith) k.loop-p.p,
-    )
-
 -- and the place has one in the chains' links
 place-low : (a : After-byte-entry) → a.loop-p.p < name_keys
 place-low a = omega (arith, a.loop-p-test.true, a.requires.table.few-shapes)
@@ -80,7 +58,8 @@ place-low a = omega (arith, a.loop-p-test.true, a.requires.table.few-shapes)
 -- after a turn: the state that the next one starts from
 abbrev After : After-byte-entry → List ℕ → List ℕ → Type 0
 After a first next =
-    IndexedTo a.args.names.now a.args.index.now.start (record a.loop-p.index { first = first; next = next }) (a.loop-p.p + 1)
+    IndexedTo a.args.names.now a.args.index.now.start (record a.loop-p.index { first = first; next = next })
+    (a.loop-p.p + 1)
 
 -- the place names a shape, and is chained
 one_more : (k : After-byte-entry) (key : ℕ) → 0 < k.byte-entry.result

@@ -15,7 +15,8 @@ use Rattle.strikes.proofs.strike.strike_named.Goals as goal
 use Rattle.strikes.proofs.strike.strike_named.Goals.{After-name_key-key, After-wide-at-in-loop-at, In-loop-at}
 
 -- the pair that a turn strikes is on the board
-pair-in : (c : In-loop-at) → (c.args.card * c.args.walk.now.shapes) + (c.loop-at.at - 1) / max_kinds < length c.args.grid.now
+pair-in : (c : In-loop-at) → (c.args.card * c.args.walk.now.shapes) + (c.loop-at.at - 1) / max_kinds < length
+    c.args.grid.now
 pair-in c =
     omega (
       arith,
@@ -49,7 +50,8 @@ strike_one-requires c =
     record {
       few-places = omega (arith, same, c.requires.few-places);
       on-board = omega (arith, pair-in (goal.at.strike_one-requires c).In-loop-at, same);
-      room = swept-room c.loop-at.invariant.swept (λ p g. row_in c.args.walk.now.shapes (c.args.card * c.args.walk.now.shapes) c.requires.pairs g)
+      room = swept-room c.loop-at.invariant.swept (λ p g. row_in c.args.walk.now.shapes
+          (c.args.card * c.args.walk.now.shapes) c.requires.pairs g)
           c.requires.room;
     }
 
@@ -62,7 +64,8 @@ loop-at-preserved c =
     let w = work c.loop-at.grid c.loop-at.queue in
     let p = (c.args.card * c.args.walk.now.shapes) + (c.loop-at.at - 1) / max_kinds in
     walk-next c.loop-at.invariant c.loop-at-test.true (next-is c)
-    (subst (λ (v : Work). Swept (RowGood (c.args.card * c.args.walk.now.shapes) (c.loop-at.at - 1)) w v) (sym c.strike_one.ensures)
+    (subst (λ (v : Work). Swept (RowGood (c.args.card * c.args.walk.now.shapes) (c.loop-at.at - 1)) w v)
+    (sym c.strike_one.ensures)
     (swept-strike w p (omega (
       arith,
       pair-in (goal.at.loop-at-preserved c).In-loop-at,
@@ -72,7 +75,8 @@ loop-at-preserved c =
 
 pub returns : goal.returns
 returns c =
-    named-exact c.args.walk.now.names.now c.args.index.now.start c.args.walk.now.shapes c.args.kind.0 (c.args.card * c.args.walk.now.shapes)
+    named-exact c.args.walk.now.names.now c.args.index.now.start c.args.walk.now.shapes c.args.kind.0
+    (c.args.card * c.args.walk.now.shapes)
     c.args.u.0 c.requires.table c.requires.half c.requires.kind-in c.requires.shape-in
     c.name_key-key.ensures
     (walk-done c.loop-at.invariant (omega (arith, c.loop-at-test.false)))

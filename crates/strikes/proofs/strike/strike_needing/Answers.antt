@@ -1,15 +1,14 @@
 -- `strikes::strike_needing` strikes what needs a pair: by the links to its card, and by those from it. Assumes nothing.
 use mathlib.Core.Path.{◌≡◌, ap, ◌∙◌}
-use Prim.Native.Nat.{ℕ, ◌<◌, ◌≤◌, ◌+◌, ◌-◌, ◌*◌, ◌/◌, ◌%◌}
+use Prim.Native.Nat.{ℕ, ◌<◌, ◌+◌, ◌-◌, ◌*◌, ◌/◌, ◌%◌}
 use native.Mathlib.Omega.{arith}
 use lib.ListN.{length, get_or}
 use Rattle.words.proofs.Places.{card-in, shape-in}
 use Rattle.bags.specs.Label.{outgoing}
 use Rattle.board.proofs.Worklist.{swept-grid, swept-room}
-use Rattle.typing.proofs.Boards.{pairs-bound}
 use Rattle.walks.specs.Walks.{Arriving}
 use Rattle.strikes.specs.Strikes.{NeedGood}
-use Rattle.walks.proofs.Cards.{card-low, shape-left}
+use Rattle.walks.proofs.Cards.{shape-left}
 use Rattle.strikes.proofs.Needing.{need-in-grid}
 use Rattle.walks.proofs.Needs.{range-rising, range-in, arrivals-at}
 use Rattle.strikes.proofs.Striking.{sources-same, targets-same, struck-both, struck-sources}
@@ -29,9 +28,6 @@ shape_is s = shape-in s.args.walk.now.shapes s.requires.by.ready.one-shape s.arg
 given-in : (s : Start) → s.args.m < get_or s.args.walk.now.script.now 0 0
 given-in s = omega (arith, card-is s, s.requires.card)
 
-given-room : (s : Start) → s.args.m * s.args.walk.now.shapes ≤ s.args.q
-given-room s = card-low s.args.walk.now.shapes s.args.q s.requires.by.ready.one-shape s.requires.card
-
 left_is : (s : Start) → s.args.q - s.args.m * s.args.walk.now.shapes ≡ s.args.q % s.args.walk.now.shapes
 left_is s = shape-left s.args.walk.now.shapes s.args.q s.requires.by.ready.one-shape s.requires.card
 
@@ -40,7 +36,8 @@ low : (h : After-wide-hi) → h.wide-lo.result ≡ get_or h.args.walk.now.starts
 low h =
     h.wide-lo.ensures.same ∙ ap (λ (x : ℕ). get_or h.args.walk.now.starts.now x 0) h.requires.card
 
-high : (h : After-wide-hi) → h.wide-hi.result ≡ get_or h.args.walk.now.starts.now (h.args.q / h.args.walk.now.shapes + 1) 0
+high : (h : After-wide-hi) → h.wide-hi.result ≡ get_or h.args.walk.now.starts.now
+    (h.args.q / h.args.walk.now.shapes + 1) 0
 high h =
     h.wide-hi.ensures.same ∙ ap (λ (x : ℕ). get_or h.args.walk.now.starts.now (x + 1) 0) h.requires.card
 
@@ -111,5 +108,6 @@ returns-in-Some c =
 
 pub returns-in_default : goal.returns-in_default
 returns-in_default c =
-    struck-sources c.requires.by.ready c.args.q (rw c.in_default.is at c.requires.by.places.inward) (sources-same c.requires.by.ready c.args.q c.requires.card
+    struck-sources c.requires.by.ready c.args.q (rw c.in_default.is at c.requires.by.places.inward)
+    (sources-same c.requires.by.ready c.args.q c.requires.card
     (left_is (goal.at.returns-in_default c).Start) c.strike_sources.ensures)

@@ -23,11 +23,6 @@ use Rattle.strikes.proofs.strike.strike_sources.Goals.{After-wide-at-in-loop-at,
 link-in : (c : In-loop-at) → c.loop-at.at - 1 < get_or c.args.walk.now.script.now 1 0
 link-in c = walk-in c.loop-at.invariant c.loop-at-test.true
 
--- its words stand in the script
-words-in : (c : In-loop-at)
-    → 5 + 3 * (c.loop-at.at - 1) ≤ length c.args.walk.now.script.now
-words-in c = omega (arith, link-in c, c.requires.need.ready.words)
-
 -- the card that it starts at and its kind, as they are read
 from_is : (a : After-wide-from) → a.wide-from.result ≡ from_at a.args.walk.now.script.now (a.loop-at.at - 1)
 from_is a =
@@ -38,7 +33,8 @@ kind-is : (a : After-wide-from) → get_or a.args.walk.now.script.now (3 + 3 * (
 kind-is a = kind-word a.args.walk.now.script.now (a.loop-at.at - 1)
 
 -- all pairs of the card are on the board
-card-pairs : (a : After-wide-from) → a.wide-from.result * a.args.walk.now.shapes + a.args.walk.now.shapes ≤ length a.args.grid.now
+card-pairs : (a : After-wide-from) → a.wide-from.result * a.args.walk.now.shapes + a.args.walk.now.shapes ≤ length
+    a.args.grid.now
 card-pairs a =
     let cards = get_or a.args.walk.now.script.now 0 0 in
     let is-card = a.requires.need.ready.near-in outgoing (a.loop-at.at - 1) (link-in (goal.at.After-wide-from
@@ -46,7 +42,8 @@ card-pairs a =
     omega (
       arith,
       a.requires.need.full,
-      card-room cards a.args.walk.now.shapes a.wide-from.result (subst (λ (x : ℕ). x < cards) (sym (from_is a)) is-card),
+      card-room cards a.args.walk.now.shapes a.wide-from.result
+          (subst (λ (x : ℕ). x < cards) (sym (from_is a)) is-card),
     )
 
 -- the next link of the chain

@@ -10,7 +10,8 @@ use Rattle.strikes.proofs.strike.strike_sources.Given as goal
 
 abbrev pub invariant-loop-at : goal.invariant-loop-at
 invariant-loop-at l =
-    Walking (to_at l.walk.script.now) l.m (get_or l.walk.script.now 1 0) (NeedGood outgoing l.walk.script.now l.walk.names.now l.walk.shapes l.u.0)
+    Walking (to_at l.walk.script.now) l.m (get_or l.walk.script.now 1 0)
+    (NeedGood outgoing l.walk.script.now l.walk.names.now l.walk.shapes l.u.0)
     (work l.initial.grid l.initial.queue) (work l.grid l.queue) l.at
 
 abbrev pub decreases-loop-at : goal.decreases-loop-at

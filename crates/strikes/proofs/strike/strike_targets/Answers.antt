@@ -23,13 +23,9 @@ use Rattle.strikes.proofs.strike.strike_targets.Goals.{After-wide-to, In-loop-i}
 link-in : (c : In-loop-i) → c.loop-i.i < get_or c.args.walk.now.script.now 1 0
 link-in c = omega (arith, c.loop-i-test.true, c.requires.links-in)
 
--- its words stand in the script, and their places are small
-words-in : (c : In-loop-i)
-    → 5 + 3 * c.loop-i.i ≤ length c.args.walk.now.script.now
-words-in c = omega (arith, link-in c, c.requires.need.ready.words)
-
 -- its kind and the card that it leads to, as they are read
-kind-is : (c : In-loop-i) → get_or c.args.walk.now.script.now (3 + 3 * c.loop-i.i) 0 ≡ kind_at c.args.walk.now.script.now c.loop-i.i
+kind-is : (c : In-loop-i) → get_or c.args.walk.now.script.now (3 + 3 * c.loop-i.i) 0 ≡ kind_at
+    c.args.walk.now.script.now c.loop-i.i
 kind-is c = kind-word c.args.walk.now.script.now c.loop-i.i
 
 to_is : (a : After-wide-to) → a.wide-to.result ≡ to_at a.args.walk.now.script.now a.loop-i.i
@@ -37,7 +33,8 @@ to_is a =
     a.wide-to.ensures.same ∙ to_word a.args.walk.now.script.now a.loop-i.i
 
 -- all pairs of that card are on the board
-card-pairs : (a : After-wide-to) → a.wide-to.result * a.args.walk.now.shapes + a.args.walk.now.shapes ≤ length a.args.grid.now
+card-pairs : (a : After-wide-to) → a.wide-to.result * a.args.walk.now.shapes + a.args.walk.now.shapes ≤ length
+    a.args.grid.now
 card-pairs a =
     let cards = get_or a.args.walk.now.script.now 0 0 in
     let is-card = a.requires.need.ready.near-in incoming a.loop-i.i (link-in (goal.at.After-wide-to a).In-loop-i) in
@@ -86,7 +83,8 @@ loop-i-preserved c =
       omega (arith, c.loop-i-test.true),
       leaving-more c.loop-i.invariant.0 c.loop-i.invariant.2
           (subst₂ (λ (k base : ℕ).
-          Swept (NamedGood c.args.walk.now.names.now c.args.walk.now.shapes (first_label incoming + k) base c.args.u.0) w v)
+          Swept (NamedGood c.args.walk.now.names.now c.args.walk.now.shapes (first_label incoming + k) base
+          c.args.u.0) w v)
           (kind-is (goal.at.loop-i-preserved c).In-loop-i) (ap (λ (x : ℕ). x * c.args.walk.now.shapes) (to_is
           (goal.at.loop-i-preserved c).After-wide-to)) (rw c.requires.need.places.half at
           c.strike_named.ensures)),
@@ -94,7 +92,8 @@ loop-i-preserved c =
 
 pub returns : goal.returns
 returns c =
-    let Good = NeedGood incoming c.args.walk.now.script.now c.args.walk.now.names.now c.args.walk.now.shapes c.args.u.0 in
+    let Good = NeedGood incoming c.args.walk.now.script.now c.args.walk.now.names.now c.args.walk.now.shapes
+    c.args.u.0 in
     let before = work c.args.grid.now c.args.queue.now in
     let after = work c.loop-i.grid c.loop-i.queue in
     let all-links : c.loop-i.i ≡ c.args.hi = omega (arith, c.loop-i-test.false, c.loop-i.invariant.1) in

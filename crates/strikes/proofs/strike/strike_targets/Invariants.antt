@@ -10,7 +10,8 @@ use Rattle.strikes.proofs.strike.strike_targets.Given as goal
 abbrev pub invariant-loop-i : goal.invariant-loop-i
 invariant-loop-i l =
     (l.lo ≤ l.i) × (l.i ≤ l.hi)
-    × Swept (Leaving (NeedGood incoming l.walk.script.now l.walk.names.now l.walk.shapes l.u.0) l.lo l.i) (work l.initial.grid
+    × Swept (Leaving (NeedGood incoming l.walk.script.now l.walk.names.now l.walk.shapes l.u.0) l.lo l.i)
+    (work l.initial.grid
     l.initial.queue) (work l.grid l.queue)
 
 abbrev pub decreases-loop-i : goal.decreases-loop-i
