@@ -13,7 +13,7 @@ ghost use Rattle.flood.specs.Follows.{LedCardAsked, FloodAsked, Followed};
 
 use board::{Queue, strike_one};
 use walks::{Walk, guessed_card, reciprocal, scaled_card};
-use words::{MAX_KINDS, MAX_LABELS, byte, wide};
+use words::{Chain, MAX_KINDS, MAX_LABELS, byte, wide};
 
 // Strikes the pair of the card at `base` that an entry names, if it names one.
 fn strike_entry(entry: u8, base: usize, grid: &mut [u8], queue: &mut Queue)
@@ -40,8 +40,7 @@ fn follow_leaving(walk: &Walk, row: &[u8], lo: usize, hi: usize, grid: &mut [u8]
     }
 }
 
-// Strikes what the links to card m lead back to, by the entries that a row has for their kinds. The loop follows a
-// chain: each link has the number of the one before.
+// Strikes what the links to card m lead back to, by the entries that a row has for their kinds.
 fn follow_arriving(walk: &Walk, row: &[u8], m: usize, grid: &mut [u8], queue: &mut Queue)
     requires { ArrivingAsked walk.now.script.now walk.now.first.now walk.now.next.now row.now walk.now.shapes m
         (work grid.old queue.old) }
@@ -49,14 +48,10 @@ fn follow_arriving(walk: &Walk, row: &[u8], m: usize, grid: &mut [u8], queue: &m
         (work grid.old queue.old) (work grid.new queue.new) }
 {
     let script = walk.script;
-    let next = walk.next;
-    let mut at = wide(walk.first[m]);
-    while 0 < at {
-        let i = at - 1;
+    for i in Chain::new(walk.first[m], walk.next) {
         let from = wide(script[2 + 3 * i]);
         let kind = wide(script[3 + 3 * i]);
         strike_entry(row[kind], from * walk.shapes, grid, queue);
-        at = wide(next[i]);
     }
 }
 

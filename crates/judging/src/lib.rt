@@ -13,7 +13,7 @@ ghost use Rattle.judging.specs.Judging.{Failing, PairAsked, HeldAsked, Missing};
 
 use bookings::{card_at, desk_at, shape_at};
 use walks::{Walk, pair_place};
-use words::{MAX_KINDS, MAX_LABELS, byte, wide};
+use words::{Chain, MAX_KINDS, MAX_LABELS, byte, wide};
 
 // A grid and what it is judged by: the links and the names of what a search goes by, and which pairs' counts fit.
 #[derive(Clone, Copy)]
@@ -57,14 +57,10 @@ impl<'a> Judged<'a> {
         ensures { (result ≡ true) ↔ HasAll (on self.now.grid.now)
             (Arriving self.now.walk.script.now m (LinkGood arriving self.now row.now)) }
     {
-        let mut at = wide(self.walk.first[m]);
-        // A chain: each turn reads where the next link stands.
-        while 0 < at {
-            let i = at - 1;
+        for i in Chain::new(self.walk.first[m], self.walk.next) {
             if !self.link_had(row, i, wide(self.walk.script[2 + 3 * i])) {
                 return false;
             }
-            at = wide(self.walk.next[i]);
         }
         true
     }

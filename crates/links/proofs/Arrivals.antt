@@ -1,4 +1,5 @@
 -- Counting the links to a card along their chain.
+-- arrivals-fall    the chain goes down
 -- CountedAlong     what is counted when it stands at a link
 -- arriving-start   at the chain's head nothing is counted yet
 -- arriving-next    one link more is counted
@@ -16,10 +17,15 @@ use lib.Seq.{get_or-set_same, get_or-set_other}
 use Rattle.words.proofs.Bools.{eq-or-ne}
 use Rattle.bags.specs.Label.{incoming}
 use Rattle.script.specs.Link.{kind_at, to_at}
-use Rattle.words.specs.Chain.{last_at, Chained, Stepped}
+use Rattle.words.specs.Chain.{last_at, Chained, Falling, Stepped}
+use Rattle.links.specs.Index.{ArrivalsOf}
 use Rattle.links.specs.Counts.{way_count}
-use Rattle.words.proofs.Chains.{last-here, last-other, Along, along-start, along-key, along-last, along-next}
+use Rattle.words.proofs.Chains.{last-here, last-other, chain-falls, Along, along-start, along-key, along-last, along-next}
 use Rattle.links.proofs.Counts.{way-count-same, way-count-kind, way-count-past, way-count-bound}
+
+pub arrivals-fall : {script first next : List ℕ} {links : ℕ} (card : ℕ) → ArrivalsOf script first next (card + 1) links
+    → Falling (get_or first card 0) next
+arrivals-fall card a = chain-falls a.chained (omega (arith, a.cards-in)) a.links-in
 
 -- Counting stands before link at - 1 of the chain, or at its end if `at` is 0: the links counted and those below `at`
 -- are all.

@@ -10,10 +10,9 @@ ghost use Rattle.strikes.specs.Strikes.{NeedingAsked};
 use crate::index::{NameIndex, name_key};
 use board::{Queue, strike_one};
 use walks::Walk;
-use words::{Kind, MAX_KINDS, Shape, wide};
+use words::{Chain, Kind, MAX_KINDS, Shape, wide};
 
-// Strikes the pairs of a card whose shape names u for a kind of the index's half. The loop follows a chain: each place
-// has the number of the one before.
+// Strikes the pairs of a card whose shape names u for a kind of the index's half.
 fn strike_named(
     walk: &Walk,
     index: &NameIndex,
@@ -31,16 +30,12 @@ fn strike_named(
 {
     let base = card * walk.shapes;
     let key = name_key(kind, u);
-    let mut at = wide(index.first[key]);
-    while 0 < at {
-        let p = at - 1;
+    for p in Chain::new(index.first[key], &index.next) {
         strike_one(grid, queue, base + p / MAX_KINDS);
-        at = wide(index.next[p]);
     }
 }
 
-// Strikes the pairs at the start of a link to card m that need the shape u there, by the outgoing names. The loop
-// follows a chain: each link has the number of the one before.
+// Strikes the pairs at the start of a link to card m that need the shape u there, by the outgoing names.
 fn strike_sources(
     walk: &Walk,
     index: &NameIndex,
@@ -55,14 +50,10 @@ fn strike_sources(
         (work grid.old queue.old) (work grid.new queue.new) }
 {
     let script = walk.script;
-    let next = walk.next;
-    let mut at = wide(walk.first[m]);
-    while 0 < at {
-        let i = at - 1;
+    for i in Chain::new(walk.first[m], walk.next) {
         let from = wide(script[2 + 3 * i]);
         let kind = Kind(script[3 + 3 * i]);
         strike_named(walk, index, kind, from, u, grid, queue);
-        at = wide(next[i]);
     }
 }
 

@@ -6,24 +6,23 @@
 --   later-skip, later-split, later-arriving     between numbers of the chain, one number more, all links to a card
 --   Walking             what a walk has swept when it stands at a number
 --   walk_start          it starts at the chain's head
---   walk-in, walk-key   the number at which it stands is one of the chain
---   walk-less           the next number is lower
 --   walk-next           one number's places more
 --   walk-done           at the chain's end all are swept; arriving-swept: so are the links to a card
 --   Testing             what a walk has tested when it stands at a number
---   test-start, test-next, test-done, test_in, test-less   the same of a walk that tests a set
+--   test-start, test-next, test-done, test-one   the same of a walk that tests a set
 -- Assumes nothing.
-use mathlib.Core.Path.{◌≡◌, refl, sym, ap, ◌∙◌, subst}
+use mathlib.Core.Path.{◌≡◌, refl, sym, ◌∙◌, subst}
 use mathlib.Core.Logic.{◌⊎◌, inl, inr, ⊎_elim}
 use mathlib.Core.List.{List}
 use mathlib.Core.Bool.{Bool, false}
-use Prim.Native.Nat.{ℕ, suc, ◌+◌, ◌-◌, ◌≤◌, ◌<◌}
+use Prim.Native.Nat.{ℕ, suc, ◌+◌, ◌≤◌, ◌<◌}
 use native.Mathlib.Nat.{eq-or-lt_of_le}
 use native.Mathlib.Omega.{arith}
+use native.Mathlib.Numerals.{add-one}
 use lib.ListN.{length, get_or}
 use Rattle.script.specs.Link.{to_at}
-use Rattle.words.specs.Chain.{last_at}
-use Rattle.words.proofs.Chains.{last-le, last-is, last_none}
+use Rattle.words.specs.Chain.{last_at, Chained, Stepped}
+use Rattle.words.proofs.Chains.{last-le, last_none, Along, along-start, along-in, along-key, along-last, along-next}
 use Rattle.board.specs.Grid.{on}
 use Rattle.board.specs.Work.{Work, strike_one, stay, then, Swept}
 use Rattle.words.proofs.Bools.{le-or-lt}
@@ -89,10 +88,8 @@ module _ (key : ℕ → ℕ) (m n : ℕ) (Good : ℕ → ℕ → Type 0) where
     pub good : Good number p
 
   -- The walk from w to v stands before the number at - 1, or at the chain's end if `at` is 0.
-  pub record Walking (w v : Work) (at : ℕ) : Type 0 where
-    pub before : ℕ
-    pub last : at ≡ last_at key m before
-    pub bound : at ≤ n
+  pub record Walking (w v : Work) (at : ℕ) (next : List ℕ) : Type 0 where
+    pub chain : Along key m n at next
     pub swept : Swept (Later at) w v
 
 module _ {key : ℕ → ℕ} {m n : ℕ} {Good : ℕ → ℕ → Type 0} where
@@ -143,48 +140,35 @@ module _ {key : ℕ → ℕ} {m n : ℕ} {Good : ℕ → ℕ → Type 0} where
   later-none : (q : ℕ) → Later key m n Good n q → ⊥
   later-none q g = omega (arith, g.low, g.below)
 
-  pub walk_start : {w : Work} {at : ℕ} → at ≡ last_at key m n → Walking key m n Good w w at
-  walk_start {w} {at} e = record {
-    before = n;
-    last = e;
-    bound = omega (arith, e, last-le key m n);
-    swept = subst (λ (x : ℕ). Swept (Later key m n Good x) w w) (sym e)
+  pub walk_start : {w : Work} {first next : List ℕ} → Chained key first next n → m < length first
+      → Walking key m n Good w w (get_or first m 0) next
+  walk_start {w} s h = record {
+    chain = along-start s h;
+    swept = subst (λ (x : ℕ). Swept (Later key m n Good x) w w) (sym (s.heads m h))
         (swept_same (later-wider n) (later-skip n) (swept_none later-none));
   }
 
-  module _ {w v : Work} {at : ℕ} (s : Walking key m n Good w v at) where
+  module _ {w v : Work} {at : ℕ} {next : List ℕ} (s : Walking key m n Good w v at next) where
     pub walk-done : at ≡ 0 → Swept (Later key m n Good 0) w v
     walk-done e = subst (λ (x : ℕ). Swept (Later key m n Good x) w v) e s.swept
 
-    module _ (h : 0 < at) where
-      pub walk-in : at - 1 < n
-      walk-in = omega (arith, s.bound)
-
-      one_on : at ≡ suc (at - 1)
-      one_on = omega arith
-
-      walk-key : key (at - 1) ≡ m
-      walk-key = last-is key m s.before (at - 1) (sym s.last ∙ one_on)
-
-      module _ {next : ℕ} (e : next ≡ last_at key (key (at - 1)) (at - 1)) where
-        next_last : next ≡ last_at key m (at - 1)
-        next_last = e ∙ ap (λ (x : ℕ). last_at key x (at - 1)) walk-key
-
-        pub walk-less : next < at
-        walk-less = omega (arith, next_last, last-le key m (at - 1))
-
-        pub walk-next : {x : Work} → Swept (Good (at - 1)) v x → Walking key m n Good w x next
-        walk-next {x} g = record {
-          before = at - 1;
-          last = next_last;
-          bound = omega (arith, walk-less, s.bound);
-          swept = subst (λ (y : ℕ). Swept (Later key m n Good y) w x) (sym next_last)
-              (swept_same (later-wider (at - 1)) (later-skip (at - 1))
-              (swept-append (later_more (at - 1))
-              (λ q h. record { number = at - 1; low = omega arith; below = walk-in; has_key = walk-key; good = h })
-              (later-split (at - 1))
-              (subst (λ (y : ℕ). Swept (Later key m n Good y) w v) one_on s.swept) g));
-        }
+    pub walk-next : {i later : ℕ} {left : List ℕ} → Stepped at next i later left → {x : Work} → Swept (Good i) v x
+        → Walking key m n Good w x later left
+    walk-next {i} t {x} g = record {
+      chain = along-next s.chain t;
+      swept = subst (λ (y : ℕ). Swept (Later key m n Good y) w x) (sym (along-last s.chain t))
+          (swept_same (later-wider i) (later-skip i)
+          (swept-append (later_more i)
+          (λ q h. record {
+            number = i;
+            low = omega arith;
+            below = along-in s.chain t;
+            has_key = along-key s.chain t;
+            good = h;
+          })
+          (later-split i)
+          (subst (λ (y : ℕ). Swept (Later key m n Good y) w v) (t.stood ∙ add-one i) s.swept) g));
+    }
 
 -- The links to a card are those of its chain.
 module _ {script : List ℕ} {m : ℕ} {Good : ℕ → ℕ → Type 0} where
@@ -207,55 +191,38 @@ module _ {script : List ℕ} {m : ℕ} {Good : ℕ → ℕ → Type 0} where
 -- ---- walks that test a set
 module _ (key : ℕ → ℕ) (m n : ℕ) (Good : ℕ → ℕ → Type 0) (X : ℕ → Bool) where
   -- The walk stands before the number at - 1, or at the chain's end if `at` is 0; the set has all that it has passed.
-  pub record Testing (at : ℕ) : Type 0 where
-    pub before : ℕ
-    pub last : at ≡ last_at key m before
-    pub bound : at ≤ n
+  pub record Testing (at : ℕ) (next : List ℕ) : Type 0 where
+    pub chain : Along key m n at next
     pub had : HasAll X (Later key m n Good at)
 
 module _ {key : ℕ → ℕ} {m n : ℕ} {Good : ℕ → ℕ → Type 0} {X : ℕ → Bool} where
-  pub test-start : {at : ℕ} → at ≡ last_at key m n → Testing key m n Good X at
-  test-start {at} e = record {
-    before = n;
-    last = e;
-    bound = omega (arith, e, last-le key m n);
-    had = λ q g. absurd (later-none q (later-skip n q (subst (λ (x : ℕ). Later key m n Good x q) e g)));
+  pub test-start : {first next : List ℕ} → Chained key first next n → m < length first
+      → Testing key m n Good X (get_or first m 0) next
+  test-start s h = record {
+    chain = along-start s h;
+    had = λ q g. absurd (later-none q (later-skip n q (subst (λ (x : ℕ). Later key m n Good x q) (s.heads m h) g)));
   }
 
-  module _ {at : ℕ} (s : Testing key m n Good X at) (h : 0 < at) where
-    pub test_in : at - 1 < n
-    test_in = omega (arith, s.bound)
+  pub test-next : {at : ℕ} {next : List ℕ} → Testing key m n Good X at next → {i later : ℕ} {left : List ℕ}
+      → Stepped at next i later left → HasAll X (Good i) → Testing key m n Good X later left
+  test-next {at} s {i} t g = record {
+    chain = along-next s.chain t;
+    had = λ q k.
+        ⊎_elim
+        (λ l. s.had q (subst (λ (x : ℕ). Later key m n Good x q) (sym (t.stood ∙ add-one i)) l))
+        (g q)
+        (later-split i q (later-skip i q (subst (λ (x : ℕ). Later key m n Good x q) (along-last s.chain t) k)));
+  }
 
-    test-key : key (at - 1) ≡ m
-    test-key = last-is key m s.before (at - 1) (sym s.last ∙ omega arith)
-
-    module _ {next : ℕ} (e : next ≡ last_at key (key (at - 1)) (at - 1)) where
-      test-last : next ≡ last_at key m (at - 1)
-      test-last = e ∙ ap (λ (x : ℕ). last_at key x (at - 1)) test-key
-
-      pub test-less : next < at
-      test-less = omega (arith, test-last, last-le key m (at - 1))
-
-      pub test-next : HasAll X (Good (at - 1)) → Testing key m n Good X next
-      test-next g = record {
-        before = at - 1;
-        last = test-last;
-        bound = omega (arith, test-less, s.bound);
-        had = λ q k.
-            let one_on : suc (at - 1) ≡ at = omega arith in
-            ⊎_elim
-            (λ l. s.had q (subst (λ (x : ℕ). Later key m n Good x q) one_on l))
-            (g q)
-            (later-split (at - 1) q (later-skip (at - 1) q (subst (λ (x : ℕ). Later key m n Good x q) test-last k)));
-      }
-
-module _ {script : List ℕ} {m : ℕ} {Good : ℕ → ℕ → Type 0} {X : ℕ → Bool} {at : ℕ}
-    (s : Testing (to_at script) m (get_or script 1 0) Good X at) where
+module _ {script : List ℕ} {m : ℕ} {Good : ℕ → ℕ → Type 0} {X : ℕ → Bool} {at : ℕ} {next : List ℕ}
+    (s : Testing (to_at script) m (get_or script 1 0) Good X at next) where
   -- at the end the set has what all links to the card make good
   pub test-done : at ≡ 0 → HasAll X (Arriving script m Good)
   test-done e q g = s.had q (subst (λ (x : ℕ). Later (to_at script) m (get_or script 1 0) Good x q) (sym e)
       (arriving-later q g))
 
   -- and where it has, it has what the link at which the walk stands makes good
-  pub test-one : 0 < at → HasAll X (Arriving script m Good) → HasAll X (Good (at - 1))
-  test-one h a q g = a q (record { link = at - 1; below = test_in s h; leads = test-key s h; good = g })
+  pub test-one : {i later : ℕ} {left : List ℕ} → Stepped at next i later left → HasAll X (Arriving script m Good)
+      → HasAll X (Good i)
+  test-one {i} t a q g =
+      a q (record { link = i; below = along-in s.chain t; leads = along-key s.chain t; good = g })

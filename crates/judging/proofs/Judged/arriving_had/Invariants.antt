@@ -8,10 +8,8 @@ use Rattle.walks.proofs.Walks.{Testing}
 use Rattle.judging.specs.Judging.{LinkGood}
 use Rattle.judging.proofs.Judged.arriving_had.Given as goal
 
-abbrev pub invariant-loop-at : goal.invariant-loop-at
-invariant-loop-at l =
+abbrev pub invariant-loop-i : goal.invariant-loop-i
+invariant-loop-i l =
     let script = l.self.walk.script.now in
-    Testing (to_at script) l.m (get_or script 1 0) (LinkGood incoming l.self l.row) (on l.self.grid.now) l.at
-
-abbrev pub decreases-loop-at : goal.decreases-loop-at
-decreases-loop-at l = l.at
+    Testing (to_at script) l.m (get_or script 1 0) (LinkGood incoming l.self l.row) (on l.self.grid.now)
+    l.i-iterator.at l.i-iterator.next.now

@@ -5,8 +5,8 @@ use mathlib.Core.Path.{◌≡◌, refl}
 use native.Mathlib.Omega.{arith}
 use lib.ListN.{length, length-set}
 use Rattle.script.specs.Link.{kind_at}
-use Rattle.words.proofs.Chains.{chain-falls, along-in}
-use Rattle.links.proofs.Arrivals.{arriving-start, arriving-next, arriving-done, arriving-small}
+use Rattle.words.proofs.Chains.{along-in}
+use Rattle.links.proofs.Arrivals.{arrivals-fall, arriving-start, arriving-next, arriving-done, arriving-small}
 use Rattle.links.proofs.count.count_arriving.Goals as goal
 use Rattle.links.proofs.count.count_arriving.Goals.{After-from-kind}
 
@@ -21,8 +21,7 @@ kind-in a =
     omega (arith, kind-is a, below, a.loop-i.invariant.0)
 
 pub new-i-items-requires : goal.new-i-items-requires
-new-i-items-requires c =
-    chain-falls c.requires.arrivals.chained (omega (arith, c.requires.arrivals.cards-in)) c.requires.arrivals.links-in
+new-i-items-requires c = arrivals-fall _ c.requires.arrivals
 
 pub loop-i-init : goal.loop-i-init
 loop-i-init c = (

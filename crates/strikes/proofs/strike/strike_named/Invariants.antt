@@ -7,10 +7,7 @@ use Rattle.strikes.proofs.Names.{RowGood}
 use Rattle.walks.proofs.Walks.{Walking}
 use Rattle.strikes.proofs.strike.strike_named.Given as goal
 
-abbrev pub invariant-loop-at : goal.invariant-loop-at
-invariant-loop-at l =
+abbrev pub invariant-loop-p : goal.invariant-loop-p
+invariant-loop-p l =
     Walking (entry_key l.walk.names.now l.index.start) l.key (l.walk.shapes * max_kinds) (RowGood l.base)
-    (work l.initial.grid l.initial.queue) (work l.grid l.queue) l.at
-
-abbrev pub decreases-loop-at : goal.decreases-loop-at
-decreases-loop-at l = l.at
+    (work l.initial.grid l.initial.queue) (work l.grid l.queue) l.p-iterator.at l.p-iterator.next.now

@@ -8,12 +8,8 @@ use Rattle.strikes.specs.Strikes.{NeedGood}
 use Rattle.walks.proofs.Walks.{Walking}
 use Rattle.strikes.proofs.strike.strike_sources.Given as goal
 
-abbrev pub invariant-loop-at : goal.invariant-loop-at
-invariant-loop-at l =
+abbrev pub invariant-loop-i : goal.invariant-loop-i
+invariant-loop-i l =
     Walking (to_at l.walk.script.now) l.m (get_or l.walk.script.now 1 0)
     (NeedGood outgoing l.walk.script.now l.walk.names.now l.walk.shapes l.u.0)
-    (work l.initial.grid l.initial.queue) (work l.grid l.queue) l.at
-
-abbrev pub decreases-loop-at : goal.decreases-loop-at
-decreases-loop-at l =
-    l.at
+    (work l.initial.grid l.initial.queue) (work l.grid l.queue) l.i-iterator.at l.i-iterator.next.now
