@@ -2,8 +2,7 @@
 // reading fills the table of names.
 #![tactic(auto)]
 
-ghost use Rattle.std.specs.Prelude.{◌≡◌, ◌+◌, ◌<◌, length, replicate};
-ghost use Rattle.words.specs.Sizes.{table_size};
+ghost use Rattle.std.specs.Prelude.{◌≡◌, ◌+◌, ◌<◌, length};
 ghost use Rattle.words.specs.Reading.{accepted};
 ghost use Rattle.words.specs.Refused.{read_as};
 ghost use Rattle.template.specs.Answer.{template_said};
@@ -87,9 +86,8 @@ fn all_shapes(words: &[u16], sizes: Sizes, names: &mut [u8]) -> Result<usize, Re
     Ok(reader.at)
 }
 
-// Reads a template and fills the table of names, which is all 0 before.
-pub fn read_names(template: &[u16], names: &mut [u8]) -> Result<Sizes, Refusal>
-    requires { names.old ≡ replicate table_size 0 }
+// Reads a template and fills the table of names, whatever it held.
+pub fn read_names(template: &[u16], names: &mut [u8; TABLE_SIZE]) -> Result<Sizes, Refusal>
     ensures answer { template_said result ≡ template_says template.now }
     ensures table { (t : Template) → read_template template.now ≡ accepted t
         → Tabled t.parts names.new }
@@ -106,6 +104,7 @@ pub fn read_names(template: &[u16], names: &mut [u8]) -> Result<Sizes, Refusal>
         return Err(Refusal(Fault::ShapeCount, 1));
     }
     let sizes = Sizes { kinds, shapes };
+    *names = [0; TABLE_SIZE];
     all_shapes(template, sizes, names)?;
     Ok(sizes)
 }
