@@ -1,13 +1,12 @@
 // What a call is lent, read: a template, a script and a booking list, and then a desk and a grid.
 #![tactic(auto)]
 
-ghost use Rattle.std.specs.Prelude.{◌≡◌, ◌*◌, replicate};
-ghost use Rattle.words.specs.Sizes.{table_size};
+ghost use Rattle.std.specs.Prelude.{◌≡◌, ◌*◌};
 ghost use Rattle.lent.specs.Readings.{BookedAs, LentAs};
 
 use bookings::read_bookings;
 use sheet::{Extent, ReadSheet, read_sheet};
-use words::{Fault, Refusal};
+use words::{Fault, Refusal, TABLE_SIZE};
 
 // A sheet that is read, and a booking list that is read for it, of so many bookings.
 #[derive(Clone, Copy)]
@@ -24,15 +23,14 @@ pub fn grid_size(e: Extent) -> usize
     (e.cards as usize) * (e.shapes as usize)
 }
 
-// Reads a template, a script and a booking list, and fills the table of names, which is all 0 before: the counts of the
+// Reads a template, a script and a booking list, and fills the table of names, whatever it held: the counts of the
 // sheet and of the bookings.
 pub fn read_booked(
     template: &[u16],
     script: &[u16],
     bookings: &[u16],
-    names: &mut [u8],
+    names: &mut [u8; TABLE_SIZE],
 ) -> Result<(Extent, u16), Refusal>
-    requires { names.old ≡ replicate table_size 0 }
     ensures { BookedAs template.now script.now names.new
         bookings.now result }
 {
@@ -48,9 +46,8 @@ pub fn read_lent(
     bookings: &[u16],
     desk: u16,
     grid: &[u8],
-    names: &mut [u8],
+    names: &mut [u8; TABLE_SIZE],
 ) -> Result<(Extent, u16), Refusal>
-    requires { names.old ≡ replicate table_size 0 }
     ensures { LentAs template.now script.now names.new
         bookings.now desk grid.now result }
 {

@@ -1,13 +1,12 @@
 // A template and a script that are read together.
 #![tactic(auto)]
 
-ghost use Rattle.std.specs.Prelude.{ℕ, ◌<◌, ◌≡◌, false, length, get_or, replicate};
-ghost use Rattle.words.specs.Sizes.{table_size};
+ghost use Rattle.std.specs.Prelude.{ℕ, ◌<◌, ◌≡◌, false, length, get_or};
 ghost use Rattle.sheet.specs.Opened.{OnlyOutgoing, WaysAsked, ReadAs};
 
 use script::read_with_kinds;
 use template::read_names;
-use words::{MAX_KINDS, MAX_LABELS, Refusal};
+use words::{MAX_KINDS, MAX_LABELS, Refusal, TABLE_SIZE};
 
 // The counts of a template and a script that are read, and whether some shape names an incoming kind.
 #[derive(Clone, Copy)]
@@ -49,9 +48,12 @@ fn names_incoming(names: &[u8], kinds: usize, shapes: usize) -> bool
     false
 }
 
-// Reads a template and a script, and fills the table of names, which is all 0 before.
-pub fn read_sheet(template: &[u16], script: &[u16], names: &mut [u8]) -> Result<Extent, Refusal>
-    requires { names.old ≡ replicate table_size 0 }
+// Reads a template and a script, and fills the table of names, whatever it held.
+pub fn read_sheet(
+    template: &[u16],
+    script: &[u16],
+    names: &mut [u8; TABLE_SIZE],
+) -> Result<Extent, Refusal>
     ensures { ReadAs template.now script.now names.new result }
 {
     let sizes = read_names(template, names)?;

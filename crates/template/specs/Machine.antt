@@ -1,13 +1,16 @@
 -- What the functions that read shapes, and fill the table of names, go by; no part of a promise.
 -- next_of                          what the code answers for a shape, or for all shapes
+-- moved_to                         what a reader answers that has moved on
 -- ShapeReadAsked, ShapeAnswer     what the readers of a shape ask; what they answer and leave in its row
 -- entry_at, Tabled                 an entry of the table of names; the table has the shapes that each shape names
 -- ShapesReadAsked, ShapesAnswer   what the reader of all shapes asks; what it answers and leaves in the table
 -- Assumes nothing.
-use Rattle.std.specs.Prelude.{ℕ, ◌+◌, ◌*◌, ◌≤◌, ◌<◌, ◌≡◌, List, length, get_or, replicate}
+use Rattle.std.specs.Prelude.{ℕ, ◌+◌, ◌*◌, ◌≤◌, ◌<◌, ◌≡◌, List, length, get_or, replicate, Result}
 use Rattle.words.specs.Limits.{max_kinds, max_labels, max_shapes}
 use Rattle.words.specs.Sizes.{table_size}
 use Rattle.words.specs.Reading.{Reading, accepted, mapped}
+use Rattle.words.specs.Refused.{read_as}
+use Rattle.words.specs.declared.refusal.Refusal.{Refusal}
 use Rattle.bags.specs.Part.{Part}
 use Rattle.bags.specs.Named.{named}
 use Rattle.parts.specs.declared.Sizes.{Sizes}
@@ -17,6 +20,10 @@ use Rattle.parts.specs.Reading.{no_names}
 -- What the code answers for a shape, or for all shapes: the next place, and no more of what was read.
 abbrev pub next_of : {A : Type 0} → Reading (Placed A) → Reading ℕ
 next_of reading = mapped (λ read. read.next) reading
+
+-- What a reader answers that has moved to a place, or found a refusal.
+abbrev pub moved_to : ℕ → Result (Unit {0}) Refusal → Reading ℕ
+moved_to at result = mapped (λ done. at) (read_as result)
 
 -- The counts are within their limits, and the row names nothing.
 pub record ShapeReadAsked (sizes : Sizes) (row : List ℕ) : Type 0 where

@@ -2,26 +2,18 @@
 // reading fills the table of names.
 #![tactic(auto)]
 
-ghost use Rattle.std.specs.Prelude.{◌≡◌, ◌+◌, ◌<◌, length, replicate};
-ghost use Rattle.words.specs.Sizes.{table_size};
+ghost use Rattle.std.specs.Prelude.{◌≡◌, ◌+◌, ◌<◌, length};
 ghost use Rattle.words.specs.Reading.{accepted};
 ghost use Rattle.words.specs.Refused.{read_as};
 ghost use Rattle.template.specs.Answer.{template_said};
 ghost use Rattle.template.specs.Template.{open_at, part_at, read_shape, read_shapes, Template, read_template};
 ghost use Rattle.template.specs.Template.{template_says};
-ghost use Rattle.template.specs.Machine.{ShapeReadAsked, ShapeAnswer, Tabled, ShapesReadAsked, ShapesAnswer};
+ghost use Rattle.template.specs.Machine.{ShapeReadAsked, ShapeAnswer, Tabled, ShapesReadAsked, ShapesAnswer, moved_to};
 
 use parts::{Sizes, part};
 use words::{
     Fault, MAX_DEPTH, MAX_KINDS, MAX_LABELS, MAX_SHAPES, MAX_TEMPLATE, Refusal, TABLE_SIZE,
 };
-
-// A template's words and the next place to read.
-#[derive(Clone, Copy)]
-struct Reader<'a> {
-    words: &'a [u16],
-    at: usize,
-}
 
 // Whether the shape whose count of words stands at `at` is open: the word after the count is 18.
 pub fn open_at(words: &[u16], at: usize) -> bool
@@ -39,45 +31,43 @@ pub fn part_at(words: &[u16], at: usize) -> usize
     if open_at(words, at) { at + 2 } else { at + 1 }
 }
 
-// The shape whose count of words stands at `at`. The row then has the shape that it names for each label.
-fn shape_at(words: &[u16], at: usize, sizes: Sizes, row: &mut [u8]) -> Result<usize, Refusal>
-    requires { ShapeReadAsked sizes row.old }
-    ensures { ShapeAnswer (read_shape sizes words.now at) (read_as result) row.new }
-{
-    if words.len() <= at {
-        return Err(Refusal(Fault::MissingWord, words.len()));
-    }
-    let count = usize::from(words[at]);
-    let start = at + 1;
-    if words.len() - start < count {
-        return Err(Refusal(Fault::MissingWord, words.len()));
-    }
-    if count == 0 {
-        return Err(Refusal(Fault::MissingWord, start));
-    }
-    let end = start + count;
-    let first = part_at(words, at);
-    let next = part(words, first, end, sizes, MAX_DEPTH, row)?;
-    if next < end {
-        return Err(Refusal(Fault::WordsLeft, next));
-    }
-    Ok(end)
+// A template's words and the next place to read.
+#[derive(Drop)]
+struct Reader<'a> {
+    words: &'a [u16],
+    at: usize,
 }
 
-// The shape at a reader's place. The reader is taken apart.
-fn read_shape(reader: Reader, sizes: Sizes, row: &mut [u8]) -> Result<usize, Refusal>
-    requires { ShapeReadAsked sizes row.old }
-    ensures { ShapeAnswer (read_shape sizes reader.entry.words.now reader.entry.at) (read_as result) row.new }
-{
-    shape_at(reader.words, reader.at, sizes, row)
-}
-
-// Makes the reader for the shape at `at`: who calls this one needs no reader.
-fn shape_from(words: &[u16], at: usize, sizes: Sizes, row: &mut [u8]) -> Result<usize, Refusal>
-    requires { ShapeReadAsked sizes row.old }
-    ensures { ShapeAnswer (read_shape sizes words.now at) (read_as result) row.new }
-{
-    read_shape(Reader { words, at }, sizes, row)
+impl Reader<'_> {
+    // Reads the shape at its place, and moves on behind it. The row then has the shape that it names for each label.
+    fn shape(&mut self, sizes: Sizes, row: &mut [u8]) -> Result<(), Refusal>
+        requires { ShapeReadAsked sizes row.old }
+        ensures stays { self.new.words ≡ self.old.words }
+        ensures reads { ShapeAnswer (read_shape sizes self.old.words.now self.old.at) (moved_to self.new.at result)
+            row.new }
+    {
+        let words = self.words;
+        let at = self.at;
+        if words.len() <= at {
+            return Err(Refusal(Fault::MissingWord, words.len()));
+        }
+        let count = usize::from(words[at]);
+        let start = at + 1;
+        if words.len() - start < count {
+            return Err(Refusal(Fault::MissingWord, words.len()));
+        }
+        if count == 0 {
+            return Err(Refusal(Fault::MissingWord, start));
+        }
+        let end = start + count;
+        let first = part_at(words, at);
+        let next = part(words, first, end, sizes, MAX_DEPTH, row)?;
+        if next < end {
+            return Err(Refusal(Fault::WordsLeft, next));
+        }
+        self.at = end;
+        Ok(())
+    }
 }
 
 // All shapes, and then the template's end. A table that is all 0 gets a row for each shape.
@@ -85,20 +75,19 @@ fn all_shapes(words: &[u16], sizes: Sizes, names: &mut [u8]) -> Result<usize, Re
     requires { ShapesReadAsked sizes names.old }
     ensures { ShapesAnswer (read_shapes sizes words.now sizes.shapes 2) (read_as result) names.new }
 {
-    let mut at = 2;
+    let mut reader = Reader { words, at: 2 };
     for t in 0..usize::from(sizes.shapes) {
         let base = t * MAX_LABELS;
-        at = shape_from(words, at, sizes, &mut names[base..base + MAX_LABELS])?;
+        reader.shape(sizes, &mut names[base..base + MAX_LABELS])?;
     }
-    if at < words.len() {
-        return Err(Refusal(Fault::WordsLeft, at));
+    if reader.at < words.len() {
+        return Err(Refusal(Fault::WordsLeft, reader.at));
     }
-    Ok(at)
+    Ok(reader.at)
 }
 
-// Reads a template and fills the table of names, which is all 0 before.
-pub fn read_names(template: &[u16], names: &mut [u8]) -> Result<Sizes, Refusal>
-    requires { names.old ≡ replicate table_size 0 }
+// Reads a template and fills the table of names, whatever it held.
+pub fn read_names(template: &[u16], names: &mut [u8; TABLE_SIZE]) -> Result<Sizes, Refusal>
     ensures answer { template_said result ≡ template_says template.now }
     ensures table { (t : Template) → read_template template.now ≡ accepted t
         → Tabled t.parts names.new }
@@ -115,6 +104,7 @@ pub fn read_names(template: &[u16], names: &mut [u8]) -> Result<Sizes, Refusal>
         return Err(Refusal(Fault::ShapeCount, 1));
     }
     let sizes = Sizes { kinds, shapes };
+    *names = [0; TABLE_SIZE];
     all_shapes(template, sizes, names)?;
     Ok(sizes)
 }

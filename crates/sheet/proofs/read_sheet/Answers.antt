@@ -1,8 +1,7 @@
 -- `sheet::read_sheet` meets its contract: a law of proofs/Openings and proofs/Ways for each answer. Assumes nothing.
-use lib.ListN.{length, length-replicate}
+use lib.ListN.{length}
 use mathlib.Core.List.{[], ◌∷◌}
 use mathlib.Core.Path.{◌≡◌, sym, ap, ◌∙◌}
-use Prim.Native.Nat.{ℕ}
 use Rattle.std.proofs.lemmas.Result.{err_from_is_err_and}
 use Rattle.words.specs.Said.{values}
 use Rattle.words.specs.Sizes.{table_size}
@@ -11,6 +10,7 @@ use Rattle.template.specs.Template.{template_says}
 use Rattle.script.specs.Answer.{script_said}
 use Rattle.sheet.proofs.Openings.{sheet-opened, sheet-template, sheet-script}
 use Rattle.sheet.proofs.Ways.{ways-asked, all-outgoing}
+use borrow.Author.Rules.{rules}
 use Rattle.sheet.proofs.read_sheet.Goals as goal
 use Rattle.sheet.proofs.read_sheet.Goals.{After-read_with_kinds}
 
@@ -21,7 +21,7 @@ said w = sym (ap template_said w.in_ok-sizes.was) ∙ w.read_names.ensures.answe
 
 -- The table is as long as before.
 full : (w : After-read_with_kinds) → length w.read_names.new.names ≡ table_size
-full w = w.read_names.auto.names ∙ ap length w.requires ∙ length-replicate {A = ℕ} table_size 0
+full w = search rules
 
 pub names_incoming-incoming-requires : goal.names_incoming-incoming-requires
 names_incoming-incoming-requires c =
