@@ -4,7 +4,7 @@ ghost use Rattle.words.specs.Sizes.{max_grid};
 ghost use Rattle.board.specs.Work.{work, strike_one, Strikable, pushed};
 ghost use Rattle.board.specs.Listing.{Listed};
 
-use words::{MAX_GRID, wide};
+use words::MAX_GRID;
 
 #[derive(Drop)]
 pub struct Queue {
@@ -38,7 +38,7 @@ impl Queue {
         requires { i < max_grid }
         ensures { result ≡ get_or self.now.places i 0 }
     {
-        wide(self.places[i])
+        usize::from(self.places[i])
     }
 }
 

@@ -16,7 +16,6 @@ use answers::{
 };
 use sections::{MOST_BYTES, MOST_WORDS, next_word, read_bytes, read_word, read_words};
 use std::io::Read;
-use words::wide;
 
 // No more cases are answered.
 const MOST_CASES: u32 = 1000000;
@@ -82,7 +81,7 @@ fn tidied(rt: &impl Print, input: &mut impl Read) -> Option<bool> {
     let script = read_words(input, &mut second)?;
     let mut third = [0u16; MOST_WORDS];
     let stored = read_words(input, &mut third)?;
-    let size = wide(read_word(input)?);
+    let size = usize::from(read_word(input)?);
     let mut buffer = [7u16; BUFFER_ROOM];
     Some(tell_tidied(rt, template, script, stored, &mut buffer[..size]))
 }

@@ -8,7 +8,7 @@ use board::{Queue, fill, first_missing, flip, list_off};
 use bookings::{card_at, desk_at, shape_at};
 use flood::flood;
 use walks::{Walk, pair_place};
-use words::{Card, Shape, wide};
+use words::{Card, Shape};
 
 // Turns the pairs of a desk's bookings off in a grid that has every pair.
 fn mark_bookings(
@@ -23,7 +23,7 @@ fn mark_bookings(
     ensures { Marked bookings.now desk shapes count grid.new
         × (length grid.new ≡ length grid.old) }
 {
-    for i in 0..wide(count) {
+    for i in 0..usize::from(count) {
         if desk_at(bookings, i) == desk {
             let card = card_at(bookings, i);
             let shape = shape_at(bookings, i);

@@ -20,7 +20,7 @@ use sheet::{Extent, ReadSheet, some_named};
 use template::{open_at, part_at};
 use trees::{core_fits, core_place};
 use twins::find_twins;
-use words::{MAX_CARDS, MAX_KINDS, MAX_LABELS, wide};
+use words::{MAX_CARDS, MAX_KINDS, MAX_LABELS};
 
 // How a shape is tested: whether it is open, and where its part and the part's core start; if the core is flat, how
 // many of its links must be there.
@@ -46,7 +46,7 @@ fn plan_shape(template: &[u16], at: usize, places: &mut [u16]) -> Plan
     requires { PlanAsked template.now at places.old }
     ensures { PlanOf template.now at places.new result }
 {
-    let end = at + 1 + wide(template[at]);
+    let end = at + 1 + usize::from(template[at]);
     let opened = open_at(template, at);
     let start = part_at(template, at);
     let core = core_place(template, start, end);
@@ -66,7 +66,7 @@ fn all_named(row: &[u8], links: &[u16]) -> bool
         KindsUnder links.now kinds → result ≡ others_zero kinds p (kinds_in links.now) }
 {
     for i in 0..links.len() / 3 {
-        if row[wide(links[3 * i + 1])] == 0 {
+        if row[usize::from(links[3 * i + 1])] == 0 {
             return false;
         }
     }
@@ -102,7 +102,7 @@ fn looks_back(row: &[u8], e: Extent) -> bool
     ensures { WaysSeen row.now e result }
 {
     if e.incoming {
-        let stop = MAX_KINDS + wide(e.kinds);
+        let stop = MAX_KINDS + usize::from(e.kinds);
         return some_named(&row[MAX_KINDS..stop]);
     }
     false
@@ -123,7 +123,7 @@ fn pair_fits(sheet: &ReadSheet, links: &CardLinks, shape: &ShapeTest, back: bool
         sheet.script,
         first,
         next,
-        wide(sheet.extent.links),
+        usize::from(sheet.extent.links),
         n,
         &mut arriving,
     );
@@ -154,10 +154,10 @@ fn fit_shape(
         places: &places,
         plan,
     };
-    let cards = wide(sheet.extent.cards);
-    let shapes = wide(sheet.extent.shapes);
+    let cards = usize::from(sheet.extent.cards);
+    let shapes = usize::from(sheet.extent.shapes);
     for n in 0..cards {
-        let twin = wide(twins[n]);
+        let twin = usize::from(twins[n]);
         if twin < n && !back {
             grid[n * shapes + t] = grid[twin * shapes + t];
         } else {
@@ -176,13 +176,13 @@ pub fn fit_grid(sheet: &ReadSheet, links: &CardLinks, grid: &mut [u8])
     find_twins(
         sheet.script,
         links.starts,
-        wide(sheet.extent.cards),
+        usize::from(sheet.extent.cards),
         &mut twins,
     );
-    let shapes = wide(sheet.extent.shapes);
+    let shapes = usize::from(sheet.extent.shapes);
     let mut at = 2;
     for t in 0..shapes {
         fit_shape(sheet, links, &twins, t, at, grid);
-        at += 1 + wide(sheet.template[at]);
+        at += 1 + usize::from(sheet.template[at]);
     }
 }

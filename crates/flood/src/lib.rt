@@ -13,14 +13,14 @@ ghost use Rattle.flood.specs.Follows.{LedCardAsked, FloodAsked, Followed};
 
 use board::{Queue, strike_one};
 use walks::{Walk, guessed_card, reciprocal, scaled_card};
-use words::{Chain, MAX_KINDS, MAX_LABELS, byte, wide};
+use words::{Chain, MAX_KINDS, MAX_LABELS};
 
 // Strikes the pair of the card at `base` that an entry names, if it names one.
 fn strike_entry(entry: u8, base: usize, grid: &mut [u8], queue: &mut Queue)
     requires { LedAsked entry base (work grid.old queue.old) }
     ensures { Swept (EntryGood entry base) (work grid.old queue.old) (work grid.new queue.new) }
 {
-    let number = byte(entry);
+    let number = usize::from(entry);
     if number != 0 {
         strike_one(grid, queue, base + (number - 1));
     }
@@ -34,8 +34,8 @@ fn follow_leaving(walk: &Walk, row: &[u8], lo: usize, hi: usize, grid: &mut [u8]
 {
     let script = walk.script;
     for i in lo..hi {
-        let kind = wide(script[3 + 3 * i]);
-        let to = wide(script[4 + 3 * i]);
+        let kind = usize::from(script[3 + 3 * i]);
+        let to = usize::from(script[4 + 3 * i]);
         strike_entry(row[kind], to * walk.shapes, grid, queue);
     }
 }
@@ -49,8 +49,8 @@ fn follow_arriving(walk: &Walk, row: &[u8], m: usize, grid: &mut [u8], queue: &m
 {
     let script = walk.script;
     for i in Chain::new(walk.first[m], walk.next) {
-        let from = wide(script[2 + 3 * i]);
-        let kind = wide(script[3 + 3 * i]);
+        let from = usize::from(script[2 + 3 * i]);
+        let kind = usize::from(script[3 + 3 * i]);
         strike_entry(row[kind], from * walk.shapes, grid, queue);
     }
 }
@@ -63,8 +63,8 @@ fn led_card(walk: &Walk, factor: usize, alone: bool, last: usize, q: usize) -> u
     ensures { result ≡ q / walk.now.shapes }
 {
     if alone {
-        let end = wide(walk.starts[last + 1]);
-        return guessed_card(q, walk.shapes, wide(walk.script[1 + 3 * end]));
+        let end = usize::from(walk.starts[last + 1]);
+        return guessed_card(q, walk.shapes, usize::from(walk.script[1 + 3 * end]));
     }
     scaled_card(q, factor)
 }
@@ -78,8 +78,8 @@ fn follow_pair(walk: &Walk, n: usize, q: usize, grid: &mut [u8], queue: &mut Que
 {
     let base = (q - n * walk.shapes) * MAX_LABELS;
     let half = base + MAX_KINDS;
-    let lo = wide(walk.starts[n]);
-    let hi = wide(walk.starts[n + 1]);
+    let lo = usize::from(walk.starts[n]);
+    let hi = usize::from(walk.starts[n + 1]);
     follow_leaving(walk, &walk.names[base..half], lo, hi, grid, queue);
     if walk.incoming {
         let row = &walk.names[half..half + MAX_KINDS];

@@ -13,7 +13,7 @@ ghost use Rattle.judging.specs.Judging.{Failing, PairAsked, HeldAsked, Missing};
 
 use bookings::{card_at, desk_at, shape_at};
 use walks::{Walk, pair_place};
-use words::{Chain, MAX_KINDS, MAX_LABELS, byte, wide};
+use words::{Chain, MAX_KINDS, MAX_LABELS};
 
 // A grid and what it is judged by: the links and the names of what a search goes by, and which pairs' counts fit.
 #[derive(Clone, Copy)]
@@ -31,10 +31,10 @@ impl<'a> Judged<'a> {
         ensures { (way : Way) → card ≡ far_at way self.now.walk.script.now i
             → (result ≡ true) ↔ HasAll (on self.now.grid.now) (LinkGood way self.now row.now i) }
     {
-        let kind = wide(self.walk.script[3 + 3 * i]);
+        let kind = usize::from(self.walk.script[3 + 3 * i]);
         match row[kind].checked_sub(1) {
             None => true,
-            Some(shape) => self.grid[card * self.walk.shapes + byte(shape)] == 1,
+            Some(shape) => self.grid[card * self.walk.shapes + usize::from(shape)] == 1,
         }
     }
 
@@ -44,7 +44,7 @@ impl<'a> Judged<'a> {
         ensures { (result ≡ true) ↔ HasAll (on self.now.grid.now) (Leaving (LinkGood outgoing self.now row.now) lo hi) }
     {
         for i in lo..hi {
-            if !self.link_had(row, i, wide(self.walk.script[4 + 3 * i])) {
+            if !self.link_had(row, i, usize::from(self.walk.script[4 + 3 * i])) {
                 return false;
             }
         }
@@ -58,7 +58,7 @@ impl<'a> Judged<'a> {
             (Arriving self.now.walk.script.now m (LinkGood arriving self.now row.now)) }
     {
         for i in Chain::new(self.walk.first[m], self.walk.next) {
-            if !self.link_had(row, i, wide(self.walk.script[2 + 3 * i])) {
+            if !self.link_had(row, i, usize::from(self.walk.script[2 + 3 * i])) {
                 return false;
             }
         }
@@ -77,8 +77,8 @@ impl<'a> Judged<'a> {
         let n = place / self.walk.shapes;
         let base = place % self.walk.shapes * MAX_LABELS;
         let half = base + MAX_KINDS;
-        let lo = wide(self.walk.starts[n]);
-        let hi = wide(self.walk.starts[n + 1]);
+        let lo = usize::from(self.walk.starts[n]);
+        let hi = usize::from(self.walk.starts[n + 1]);
         if !self.leaving_had(&self.walk.names[base..half], lo, hi) {
             return false;
         }
@@ -127,5 +127,6 @@ pub fn first_unheld(
     requires { HeldAsked bookings.now count shapes grid.now }
     ensures { FirstFound (Missing bookings.now desk shapes grid.now) count result }
 {
-    (0..wide(count)).find(|i| desk_at(bookings, *i) == desk && !is_held(bookings, *i, shapes, grid))
+    (0..usize::from(count)).find(|i| desk_at(bookings, *i) == desk
+        && !is_held(bookings, *i, shapes, grid))
 }

@@ -9,7 +9,7 @@ use board::{Queue, list_off};
 use strikes::{NameIndex, index_names, strike_needing};
 use tally::Tally;
 use walks::{Walk, guessed_card, reciprocal, scaled_card};
-use words::{MAX_KINDS, wide};
+use words::MAX_KINDS;
 
 // The card of the pair at place q, the next one. A pair that is alone in the queue was struck by the pair before, of
 // card `last`: the last link to that card is likely to start at its card.
@@ -18,9 +18,9 @@ fn source_card(walk: &Walk, factor: usize, alone: bool, last: usize, q: usize) -
     ensures { result ≡ q / walk.now.shapes }
 {
     if alone {
-        let at = wide(walk.first[last]);
+        let at = usize::from(walk.first[last]);
         if 0 < at {
-            return guessed_card(q, walk.shapes, wide(walk.script[3 * at - 1]));
+            return guessed_card(q, walk.shapes, usize::from(walk.script[3 * at - 1]));
         }
     }
     scaled_card(q, factor)

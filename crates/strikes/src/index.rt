@@ -4,7 +4,7 @@ ghost use Rattle.std.specs.Prelude.{◌≡◌, ◌+◌, ◌*◌, ◌≤◌};
 ghost use Rattle.words.specs.Limits.{max_kinds, max_labels, max_shapes};
 ghost use Rattle.strikes.specs.Indexes.{IndexOf, NamesAsked, no_names};
 
-use words::{Kind, MAX_KINDS, MAX_LABELS, MAX_SHAPES, Shape, byte};
+use words::{Kind, MAX_KINDS, MAX_LABELS, MAX_SHAPES, Shape};
 
 // Places of one half of a table of names: a row of kinds for each shape.
 const HALF_TABLE: usize = MAX_SHAPES * MAX_KINDS;
@@ -55,7 +55,7 @@ pub fn index_names(names: &[u8], shapes: usize, index: &mut NameIndex)
     for p in 0..shapes * MAX_KINDS {
         let shape = Shape((p / MAX_KINDS) as u16);
         let kind = Kind((p % MAX_KINDS) as u16);
-        let entry = byte(names[entry_place(shape, start, kind)]);
+        let entry = usize::from(names[entry_place(shape, start, kind)]);
         if 0 < entry {
             let key = name_key(kind, Shape((entry - 1) as u16));
             index.next[p] = index.first[key];

@@ -10,7 +10,7 @@ ghost use Rattle.strikes.specs.Strikes.{NeedingAsked};
 use crate::index::{NameIndex, name_key};
 use board::{Queue, strike_one};
 use walks::Walk;
-use words::{Chain, Kind, MAX_KINDS, Shape, wide};
+use words::{Chain, Kind, MAX_KINDS, Shape};
 
 // Strikes the pairs of a card whose shape names u for a kind of the index's half.
 fn strike_named(
@@ -51,7 +51,7 @@ fn strike_sources(
 {
     let script = walk.script;
     for i in Chain::new(walk.first[m], walk.next) {
-        let from = wide(script[2 + 3 * i]);
+        let from = usize::from(script[2 + 3 * i]);
         let kind = Kind(script[3 + 3 * i]);
         strike_named(walk, index, kind, from, u, grid, queue);
     }
@@ -75,7 +75,7 @@ fn strike_targets(
     let script = walk.script;
     for i in lo..hi {
         let kind = Kind(script[3 + 3 * i]);
-        let to = wide(script[4 + 3 * i]);
+        let to = usize::from(script[4 + 3 * i]);
         strike_named(walk, index, kind, to, u, grid, queue);
     }
 }
@@ -98,8 +98,8 @@ pub fn strike_needing(
     let u = Shape((q - m * walk.shapes) as u16);
     strike_sources(walk, outgoing, m, u, grid, queue);
     if let Some(index) = incoming {
-        let lo = wide(walk.starts[m]);
-        let hi = wide(walk.starts[m + 1]);
+        let lo = usize::from(walk.starts[m]);
+        let hi = usize::from(walk.starts[m + 1]);
         strike_targets(walk, index, lo, hi, u, grid, queue);
     }
 }

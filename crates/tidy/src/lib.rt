@@ -6,7 +6,7 @@ ghost use Rattle.typing.specs.Tidy.{TidySays};
 
 use sheet::read_sheet;
 use stored::{read_stored, tidy};
-use words::{Fault, Refusal, TABLE_SIZE, wide};
+use words::{Fault, Refusal, TABLE_SIZE};
 
 // Tidy: the number of words, and the list without its repeats at the buffer's start; or what is refused.
 pub fn tidy_bookings(
@@ -21,7 +21,7 @@ pub fn tidy_bookings(
     let mut names = [0u8; TABLE_SIZE];
     let e = read_sheet(template, script, &mut names)?;
     let count = read_stored(e.cards, e.shapes, bookings)?;
-    if out.len() != 1 + 3 * wide(count) {
+    if out.len() != 1 + 3 * usize::from(count) {
         return Err(Refusal(Fault::BufferLength, 0));
     }
     Ok(tidy(bookings, count, out))

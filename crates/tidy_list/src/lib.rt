@@ -14,7 +14,7 @@ ghost use Rattle.tidy_list.specs.Steps.{list_room, BufferFor, Tidying, SectionsL
 use input::{Sections, find_sections};
 use text::{Writer, put_refused};
 use tidy::tidy_bookings;
-use words::{Fault, MAX_BOOKINGS, MAX_INPUT, Refusal, wide};
+use words::{Fault, MAX_BOOKINGS, MAX_INPUT, Refusal};
 
 // Words of the longest list, and bytes that are enough for it or a refusal, as specs/Steps has them.
 const LIST_WORDS: usize = 1 + 3 * MAX_BOOKINGS;
@@ -29,7 +29,7 @@ fn buffer_size(bookings: &[u16]) -> usize
     ensures { BufferFor bookings.now result }
 {
     match bookings.first() {
-        Some(count) if wide(*count) <= MAX_BOOKINGS => 1 + 3 * wide(*count),
+        Some(count) if usize::from(*count) <= MAX_BOOKINGS => 1 + 3 * usize::from(*count),
         _ => 1,
     }
 }

@@ -1,13 +1,10 @@
-// The format's limits, the numbers of cards, kinds and shapes, and words and bytes as sizes: what every crate starts
-// with.
+// The format's limits, and the numbers of cards, kinds and shapes: what every crate starts with.
 //   chain     the numbers of a chain, each of which leads to the one before it
 //   refusal   what an operation refuses its input for
 #![tactic(auto)]
 
 mod chain;
 mod refusal;
-
-ghost use Rattle.words.specs.Bounded.{Bounded};
 
 pub use chain::Chain;
 pub use refusal::{Fault, Refusal};
@@ -54,17 +51,3 @@ pub struct Kind(pub u16);
 // The number of a shape: it counts the template's shapes from 0.
 #[derive(Clone, Copy)]
 pub struct Shape(pub u16);
-
-// A word as a size.
-pub fn wide(x: u16) -> usize
-    ensures { Bounded 65536 x result }
-{
-    x as usize
-}
-
-// A byte as a size.
-pub fn byte(x: u8) -> usize
-    ensures { Bounded 256 x result }
-{
-    x as usize
-}

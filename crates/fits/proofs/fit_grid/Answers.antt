@@ -13,7 +13,7 @@ use Rattle.fits.proofs.fit_grid.Goals.{In-loop-t}
 
 -- The loop's shape is one of the template's.
 below : (c : In-loop-t) → c.loop-t.t < c.args.sheet.now.extent.shapes
-below c = omega (arith, c.wide-shapes.ensures.same)
+below c = omega (arith, c.from-shapes.ensures)
 
 -- Where its words lie, and its row.
 shape_of : (c : In-loop-t) →
@@ -25,7 +25,7 @@ shape_of c =
 pub find_twins-requires : goal.find_twins-requires
 find_twins-requires c =
     let asked = c.requires in
-    twins-asked _ _ _ c.args.sheet.now.extent asked.known.opened asked.standing.leaving _ c.wide.ensures.same _ refl
+    twins-asked _ _ _ c.args.sheet.now.extent asked.known.opened asked.standing.leaving _ c.from.ensures _ refl
 
 pub loop-t-init : goal.loop-t-init
 loop-t-init c = shapes-start _ _ c.args.sheet.now.extent _ c.requires.size
@@ -37,7 +37,7 @@ fit_shape-requires c =
       known = asked.known;
       standing = asked.standing;
       alike = twins-found _ _ _ c.args.sheet.now.extent asked.known.opened asked.standing.leaving _
-          c.wide.ensures.same _ c.find_twins.ensures.each;
+          c.from.ensures _ c.find_twins.ensures.each;
       below = below (goal.at.fit_shape-requires c).In-loop-t;
       place = c.loop-t.invariant.place;
       size = c.loop-t.invariant.size;
@@ -55,5 +55,5 @@ overflow_add-at-in-loop-t c = let i = shape_of (goal.at.overflow_add-at-in-loop-
 pub loop-t-preserved : goal.loop-t-preserved
 loop-t-preserved c =
     shapes-next _ _ c.args.sheet.now.extent _ _ _ _ c.loop-t.invariant (below (goal.at.loop-t-preserved c).In-loop-t)
-    c.wide-in-loop-t.ensures.same _
+    c.from-in-loop-t.ensures _
     c.fit_shape.ensures

@@ -13,7 +13,7 @@ use Rattle.fits.proofs.Twins.{twin-byte}
 use Rattle.fits.proofs.Cells.{cards-next}
 use borrow.Author.Rules.{rules}
 use Rattle.fits.proofs.fit_shape.Goals as goal
-use Rattle.fits.proofs.fit_shape.Goals.{Start, After-wide-twin, In-loop-n, then-twin-n+then-not-back, else-twin-n}
+use Rattle.fits.proofs.fit_shape.Goals.{Start, After-from-twin, In-loop-n, then-twin-n+then-not-back, else-twin-n}
 
 -- The shape's row lies in the table of names, and has the names of its part.
 row : (s : Start) → s.args.t * max_labels + max_labels ≤ length s.args.sheet.now.names.now
@@ -25,14 +25,14 @@ named s = row_named _ _ _ s.args.sheet.now.extent s.requires.known _ s.requires.
 
 -- The card that the loop comes to is one of the script's.
 below : (c : In-loop-n) → c.loop-n.n < c.args.sheet.now.extent.cards
-below c = omega (arith, c.wide-cards.ensures.same)
+below c = omega (arith, c.from-cards.ensures)
 
 -- The card's twin.
-twin : (a : After-wide-twin) →
-    TwinOf a.args.sheet.now.script.now a.args.sheet.now.extent.links a.loop-n.n a.wide-twin.result
+twin : (a : After-from-twin) →
+    TwinOf a.args.sheet.now.script.now a.args.sheet.now.extent.links a.loop-n.n a.from-twin.result
 twin a =
-    subst (TwinOf a.args.sheet.now.script.now a.args.sheet.now.extent.links a.loop-n.n) (sym a.wide-twin.ensures.same)
-    (a.requires.alike.each _ (below (goal.at.After-wide-twin a).In-loop-n))
+    subst (TwinOf a.args.sheet.now.script.now a.args.sheet.now.extent.links a.loop-n.n) (sym a.from-twin.ensures)
+    (a.requires.alike.each _ (below (goal.at.After-from-twin a).In-loop-n))
 
 pub overflow_mul-base : goal.overflow_mul-base
 overflow_mul-base c = let inside = row (goal.at.overflow_mul-base c).Start in search rules
@@ -60,15 +60,15 @@ pair_fits-fit-requires c = record {
 
 pub loop-n-preserved : goal.loop-n-preserved
 loop-n-preserved c =
-    let place = ap (λ (x : ℕ). c.loop-n.n * x + c.args.t) c.wide-shapes.ensures.same in
+    let place = ap (λ (x : ℕ). c.loop-n.n * x + c.args.t) c.from-shapes.ensures in
     let here = below (goal.at.loop-n-preserved c).In-loop-n in
     elim c.if-twin-n.branch [
       | then-twin-n+then-not-back w ↦ rw w.grid-is (cards-next _ _ c.args.sheet.now.extent _ _ _ _ _ _ c.loop-n.invariant here
           c.requires.below place
           (λ parts r.
-          ap (λ (x : ℕ). get_or c.loop-n.grid (c.wide-twin.result * x + c.args.t) 0) c.wide-shapes.ensures.same
+          ap (λ (x : ℕ). get_or c.loop-n.grid (c.from-twin.result * x + c.args.t) 0) c.from-shapes.ensures
           ∙ c.loop-n.invariant.each parts r _ w.if-twin-n.true
-          ∙ twin-byte _ _ c.args.sheet.now.extent c.requires.known.opened _ _ (twin (goal.at.loop-n-preserved c).After-wide-twin) _ _ _
+          ∙ twin-byte _ _ c.args.sheet.now.extent c.requires.known.opened _ _ (twin (goal.at.loop-n-preserved c).After-from-twin) _ _ _
           (named (goal.at.loop-n-preserved c).Start) _ c.looks_back-back.ensures w.if-not-back.true parts r))
       | else-twin-n w ↦ rw w.grid-is (cards-next _ _ c.args.sheet.now.extent _ _ _ _ _ _ c.loop-n.invariant here
           c.requires.below place

@@ -12,8 +12,8 @@ returns-then-e c =
     record {
       yes = λ y. c.if-e.true;
       no = λ o k l.
-          let full = mid_len max_kinds (max_kinds + c.wide-stop.result) c.args.row.now
+          let full = mid_len max_kinds (max_kinds + c.from-stop.result) c.args.row.now
           (omega (arith, c.requires.full, c.requires.few)) in
-          sym (row-part c.args.row.now max_kinds (max_kinds + c.wide-stop.result - max_kinds) k (omega arith))
+          sym (row-part c.args.row.now max_kinds (max_kinds + c.from-stop.result - max_kinds) k (omega arith))
           ∙ c.some_named.ensures o k (omega (arith, full));
     }

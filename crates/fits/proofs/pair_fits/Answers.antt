@@ -80,7 +80,7 @@ returns-then-not-back c =
 pub count_arriving-requires : goal.count_arriving-requires
 count_arriving-requires c =
     back-asked _ _ _ c.args.sheet.now.extent _ _ c.requires.opened.script-read c.requires.named.asked.few
-    (c.requires.standing.arriving (c.requires.seen.yes (grind arith))) c.requires.below c.wide.ensures.same
+    (c.requires.standing.arriving (c.requires.seen.yes (grind arith))) c.requires.below c.from.ensures
 
 -- The counts of the links to the card.
 listed : (a : After-count_arriving) → let s = a.args in
@@ -88,7 +88,7 @@ listed : (a : After-count_arriving) → let s = a.args in
 listed a =
     listed-all _ _ _ (grind arith) a.count_arriving.ensures.size
     (λ k l. a.count_arriving.ensures.exact k (omega (arith, l))
-    ∙ ap (way_count incoming a.args.sheet.now.script.now a.args.n k) a.wide.ensures.same)
+    ∙ ap (way_count incoming a.args.sheet.now.script.now a.args.n k) a.from.ensures)
 
 pub card_fits-requires-2 : goal.card_fits-requires-2
 card_fits-requires-2 c =

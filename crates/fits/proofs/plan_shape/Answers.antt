@@ -18,17 +18,17 @@ shape_of : (s : Start) → ShapeIn s.args.template.now s.args.at
 shape_of s = shape-in _ s.requires.whole s.requires.read s.requires.shape s.requires.below _ s.requires.place
 
 abbrev end : After-part_at-start → ℕ
-end a = a.args.at + 1 + a.wide.result
+end a = a.args.at + 1 + a.from.result
 
 end-in : (a : After-part_at-start) → end a ≤ length a.args.template.now
-end-in a = omega (arith, (shape_of (goal.at.After-part_at-start a).Start).stop, a.wide.ensures.same)
+end-in a = omega (arith, (shape_of (goal.at.After-part_at-start a).Start).stop, a.from.ensures)
 
 -- The part stands there.
 part-core : (a : After-part_at-start) → Core a.args.template.now max_depth a.part_at-start.result (end a)
 part-core a =
     let words = a.args.template.now in
     let same : a.args.at + 1 + get_or words a.args.at 0 ≡ end a =
-    omega (arith, a.wide.ensures.same) in
+    omega (arith, a.from.ensures) in
     subst (λ (n : ℕ). Core words max_depth n (end a)) (sym a.part_at-start.ensures)
     (subst (Core words max_depth (part_at words a.args.at)) same
     (shape-core _ a.requires.whole a.requires.read a.requires.shape a.requires.below _ a.requires.place))

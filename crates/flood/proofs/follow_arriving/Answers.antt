@@ -14,7 +14,7 @@ use Rattle.walks.specs.Entries.{EntryGood, LedGood}
 use Rattle.walks.proofs.Needs.{from-word, kind-word}
 use Rattle.walks.proofs.Walks.{walk_start, walk-next, walk-done, arriving-swept}
 use Rattle.flood.proofs.follow_arriving.Goals as goal
-use Rattle.flood.proofs.follow_arriving.Goals.{After-wide-from, After-wide-kind, In-Some}
+use Rattle.flood.proofs.follow_arriving.Goals.{After-from-from, After-from-kind, In-Some}
 use Rattle.flood.proofs.follow_arriving.Goals.{Start}
 
 -- what a link makes good
@@ -26,21 +26,21 @@ link-in : (c : In-Some) → c.in-Some.i < get_or c.args.walk.now.script.now 1 0
 link-in c = along-in c.loop-i.invariant.chain c.in-Some.ensures.steps.1
 
 -- the card that it starts at and its kind, as they are read
-from_is : (a : After-wide-from) → a.wide-from.result ≡ from_at a.args.walk.now.script.now a.in-Some.i
+from_is : (a : After-from-from) → a.from-from.result ≡ from_at a.args.walk.now.script.now a.in-Some.i
 from_is a =
-    a.wide-from.ensures.same ∙ from-word a.args.walk.now.script.now a.in-Some.i
+    a.from-from.ensures ∙ from-word a.args.walk.now.script.now a.in-Some.i
 
-kind-is : (a : After-wide-kind) → a.wide-kind.result ≡ kind_at a.args.walk.now.script.now a.in-Some.i
+kind-is : (a : After-from-kind) → a.from-kind.result ≡ kind_at a.args.walk.now.script.now a.in-Some.i
 kind-is a =
-    a.wide-kind.ensures.same ∙ kind-word a.args.walk.now.script.now a.in-Some.i
+    a.from-kind.ensures ∙ kind-word a.args.walk.now.script.now a.in-Some.i
 
 -- so what the entry read names is what the link leads back to
-led : (a : After-wide-kind) → (p : ℕ) → EntryGood (get_or a.args.row.now a.wide-kind.result 0) (a.wide-from.result
+led : (a : After-from-kind) → (p : ℕ) → EntryGood (get_or a.args.row.now a.from-kind.result 0) (a.from-from.result
     * a.args.walk.now.shapes) p
-    → Good (goal.at.After-wide-kind a).Start a.in-Some.i p
+    → Good (goal.at.After-from-kind a).Start a.in-Some.i p
 led a p g =
     subst₂ (λ (k base : ℕ). EntryGood (get_or a.args.row.now k 0) base p) (kind-is a)
-    (ap (λ (x : ℕ). x * a.args.walk.now.shapes) (from_is (goal.at.After-wide-kind a).After-wide-from)) g
+    (ap (λ (x : ℕ). x * a.args.walk.now.shapes) (from_is (goal.at.After-from-kind a).After-from-from)) g
 
 pub new-i-items-requires : goal.new-i-items-requires
 new-i-items-requires c = arrivals-fall _ c.requires.arrivals
@@ -54,7 +54,7 @@ pub bounds-row-kind : goal.bounds-row-kind
 bounds-row-kind c =
     omega (
       arith,
-      kind-is (goal.at.bounds-row-kind c).After-wide-kind,
+      kind-is (goal.at.bounds-row-kind c).After-from-kind,
       c.requires.row_in.kinds c.in-Some.i
           (link-in (goal.at.bounds-row-kind c).In-Some),
     )
@@ -64,7 +64,7 @@ overflow_mul-from c =
     let base = c.requires.row_in.cards c.in-Some.i (link-in (goal.at.overflow_mul-from c).In-Some) in
     omega (
       arith,
-      ap (λ (x : ℕ). x * c.args.walk.now.shapes) (from_is (goal.at.overflow_mul-from c).After-wide-from),
+      ap (λ (x : ℕ). x * c.args.walk.now.shapes) (from_is (goal.at.overflow_mul-from c).After-from-from),
       base,
       c.requires.row_in.few-places,
     )
@@ -78,7 +78,7 @@ strike_entry-requires c =
       on-board = λ p g. omega (
         arith,
         row.led c.in-Some.i p (link-in (goal.at.strike_entry-requires
-            c).In-Some) (led (goal.at.strike_entry-requires c).After-wide-kind p g),
+            c).In-Some) (led (goal.at.strike_entry-requires c).After-from-kind p g),
         swept-grid so_far,
       );
       room = swept-room so_far (λ p g. row.led g.number p g.below g.good) c.requires.room;
@@ -90,8 +90,8 @@ loop-i-preserved c =
     let v = work c.strike_entry.new.grid c.strike_entry.new.queue in
     walk-next c.loop-i.invariant c.in-Some.ensures.steps.1
     (subst₂ (λ (k base : ℕ). Swept (EntryGood (get_or c.args.row.now k 0) base) w v) (kind-is
-    (goal.at.loop-i-preserved c).After-wide-kind)
-    (ap (λ (x : ℕ). x * c.args.walk.now.shapes) (from_is (goal.at.loop-i-preserved c).After-wide-from))
+    (goal.at.loop-i-preserved c).After-from-kind)
+    (ap (λ (x : ℕ). x * c.args.walk.now.shapes) (from_is (goal.at.loop-i-preserved c).After-from-from))
     c.strike_entry.ensures)
 
 pub returns : goal.returns

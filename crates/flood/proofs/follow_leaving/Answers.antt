@@ -13,7 +13,7 @@ use Rattle.walks.specs.Entries.{EntryGood, LedGood}
 use Rattle.walks.proofs.Needs.{kind-word, to_word}
 use Rattle.walks.proofs.Walks.{leaving-none, leaving-more}
 use Rattle.flood.proofs.follow_leaving.Goals as goal
-use Rattle.flood.proofs.follow_leaving.Goals.{After-wide-kind, After-wide-to, At-loop-i, In-loop-i, Start}
+use Rattle.flood.proofs.follow_leaving.Goals.{After-from-kind, After-from-to, At-loop-i, In-loop-i, Start}
 
 -- what a link makes good
 abbrev Good : Start → ℕ → ℕ → Type 0
@@ -24,21 +24,21 @@ link-in : (c : In-loop-i) → c.loop-i.i < get_or c.args.walk.now.script.now 1 0
 link-in c = omega (arith, c.loop-i-test.true, c.requires.links-in)
 
 -- its kind and the card that it leads to, as they are read
-kind-is : (a : After-wide-kind) → a.wide-kind.result ≡ kind_at a.args.walk.now.script.now a.loop-i.i
+kind-is : (a : After-from-kind) → a.from-kind.result ≡ kind_at a.args.walk.now.script.now a.loop-i.i
 kind-is a =
-    a.wide-kind.ensures.same ∙ kind-word a.args.walk.now.script.now a.loop-i.i
+    a.from-kind.ensures ∙ kind-word a.args.walk.now.script.now a.loop-i.i
 
-to_is : (a : After-wide-to) → a.wide-to.result ≡ to_at a.args.walk.now.script.now a.loop-i.i
+to_is : (a : After-from-to) → a.from-to.result ≡ to_at a.args.walk.now.script.now a.loop-i.i
 to_is a =
-    a.wide-to.ensures.same ∙ to_word a.args.walk.now.script.now a.loop-i.i
+    a.from-to.ensures ∙ to_word a.args.walk.now.script.now a.loop-i.i
 
 -- so what the entry read names is what the link leads to
-led : (a : After-wide-to) → (p : ℕ) → EntryGood (get_or a.args.row.now a.wide-kind.result 0) (a.wide-to.result *
+led : (a : After-from-to) → (p : ℕ) → EntryGood (get_or a.args.row.now a.from-kind.result 0) (a.from-to.result *
     a.args.walk.now.shapes) p
-    → Good (goal.at.After-wide-to a).Start a.loop-i.i p
+    → Good (goal.at.After-from-to a).Start a.loop-i.i p
 led a p g =
-    subst₂ (λ (k base : ℕ). EntryGood (get_or a.args.row.now k 0) base p) (kind-is (goal.at.After-wide-to
-    a).After-wide-kind)
+    subst₂ (λ (k base : ℕ). EntryGood (get_or a.args.row.now k 0) base p) (kind-is (goal.at.After-from-to
+    a).After-from-kind)
     (ap (λ (x : ℕ). x * a.args.walk.now.shapes) (to_is a)) g
 
 -- what links below hi make good is on the board
@@ -54,7 +54,7 @@ pub bounds-row-kind : goal.bounds-row-kind
 bounds-row-kind c =
     omega (
       arith,
-      kind-is (goal.at.bounds-row-kind c).After-wide-kind,
+      kind-is (goal.at.bounds-row-kind c).After-from-kind,
       c.requires.row_in.kinds c.loop-i.i (link-in
           (goal.at.bounds-row-kind c).In-loop-i),
     )
@@ -64,7 +64,7 @@ overflow_mul-to c =
     let base = c.requires.row_in.cards c.loop-i.i (link-in (goal.at.overflow_mul-to c).In-loop-i) in
     omega (
       arith,
-      ap (λ (x : ℕ). x * c.args.walk.now.shapes) (to_is (goal.at.overflow_mul-to c).After-wide-to),
+      ap (λ (x : ℕ). x * c.args.walk.now.shapes) (to_is (goal.at.overflow_mul-to c).After-from-to),
       base,
       c.requires.row_in.few-places,
     )
@@ -78,7 +78,7 @@ strike_entry-requires c =
       on-board = λ p g. omega (
         arith,
         row.led c.loop-i.i p (link-in (goal.at.strike_entry-requires
-            c).In-loop-i) (led (goal.at.strike_entry-requires c).After-wide-to p g),
+            c).In-loop-i) (led (goal.at.strike_entry-requires c).After-from-to p g),
         swept-grid so_far,
       );
       room = swept-room so_far (good-in (goal.at.strike_entry-requires c).At-loop-i c.loop-i.i
@@ -93,8 +93,8 @@ loop-i-preserved c =
       omega (arith, c.loop-i-test.true),
       leaving-more c.loop-i.invariant.0 c.loop-i.invariant.2
           (subst₂ (λ (k base : ℕ). Swept (EntryGood (get_or c.args.row.now k 0) base) w v) (kind-is
-          (goal.at.loop-i-preserved c).After-wide-kind)
-          (ap (λ (x : ℕ). x * c.args.walk.now.shapes) (to_is (goal.at.loop-i-preserved c).After-wide-to))
+          (goal.at.loop-i-preserved c).After-from-kind)
+          (ap (λ (x : ℕ). x * c.args.walk.now.shapes) (to_is (goal.at.loop-i-preserved c).After-from-to))
           c.strike_entry.ensures),
     )
 

@@ -15,7 +15,7 @@ use Rattle.walks.proofs.Walks.{arriving-same}
 use Rattle.walks.proofs.Needs.{Half, half-row, row-asked, range-rising, range-in, arrivals-at}
 use Rattle.walks.proofs.Following.{followed-out, followed-both}
 use Rattle.flood.proofs.follow_pair.Goals as goal
-use Rattle.flood.proofs.follow_pair.Goals.{After-follow_leaving, After-wide-hi, Start}
+use Rattle.flood.proofs.follow_pair.Goals.{After-follow_leaving, After-from-hi, Start}
 
 -- the pair is one of the sheet, so its card and shape are the sheet's, and the shape's row is in the table
 pair_is : (s : Start) → s.args.q < get_or s.args.walk.now.script.now 0 0 * s.args.walk.now.shapes
@@ -44,12 +44,12 @@ row_in : (s : Start) → s.args.q % s.args.walk.now.shapes * max_labels + max_la
 row_in s = omega (arith, shape_is s, s.requires.links.ready.table)
 
 -- where the card's links start and end
-low : (h : After-wide-hi) → h.wide-lo.result ≡ get_or h.args.walk.now.starts.now (h.args.q / h.args.walk.now.shapes) 0
-low h = h.wide-lo.ensures.same ∙ ap (λ (x : ℕ). get_or h.args.walk.now.starts.now x 0) h.requires.card
+low : (h : After-from-hi) → h.from-lo.result ≡ get_or h.args.walk.now.starts.now (h.args.q / h.args.walk.now.shapes) 0
+low h = h.from-lo.ensures ∙ ap (λ (x : ℕ). get_or h.args.walk.now.starts.now x 0) h.requires.card
 
-high : (h : After-wide-hi) → h.wide-hi.result ≡ get_or h.args.walk.now.starts.now
+high : (h : After-from-hi) → h.from-hi.result ≡ get_or h.args.walk.now.starts.now
     (h.args.q / h.args.walk.now.shapes + 1) 0
-high h = h.wide-hi.ensures.same ∙ ap (λ (x : ℕ). get_or h.args.walk.now.starts.now (x + 1) 0) h.requires.card
+high h = h.from-hi.ensures ∙ ap (λ (x : ℕ). get_or h.args.walk.now.starts.now (x + 1) 0) h.requires.card
 
 -- the two halves of the row
 out-half : (s : Start) (base : ℕ) → base ≡ s.args.q % s.args.walk.now.shapes * max_labels
@@ -70,7 +70,7 @@ back-half s base e =
 out-in : (a : After-follow_leaving) → let base = (a.args.q - a.args.n * a.args.walk.now.shapes) * max_labels in
     let row = take (base + max_kinds - base) (drop base a.args.walk.now.names.now) in
     (p : ℕ) → Leaving (LedGood outgoing a.args.walk.now.script.now row a.args.walk.now.shapes)
-    a.wide-lo.result a.wide-hi.result p → p < length a.args.grid.now
+    a.from-lo.result a.from-hi.result p → p < length a.args.grid.now
 out-in a p g =
     let links = a.requires.links in
     (row-asked links.ready (shape_is (goal.at.After-follow_leaving a).Start) (out-half
@@ -80,8 +80,8 @@ out-in a p g =
       arith,
       g.high,
       range-in links.leaving (card-is (goal.at.After-follow_leaving a).Start) (low
-          (goal.at.After-follow_leaving a).After-wide-hi) (high (goal.at.After-follow_leaving
-          a).After-wide-hi),
+          (goal.at.After-follow_leaving a).After-from-hi) (high (goal.at.After-follow_leaving
+          a).After-from-hi),
     )) g.good
 
 pub follow_leaving-requires : goal.follow_leaving-requires
@@ -92,11 +92,11 @@ follow_leaving-requires c =
           (goal.at.follow_leaving-requires c).Start _ (base-is (goal.at.follow_leaving-requires c).Start))
           c.requires.full;
       rising = range-rising links.leaving (card-is (goal.at.follow_leaving-requires c).Start) (low
-          (goal.at.follow_leaving-requires c).After-wide-hi) (high (goal.at.follow_leaving-requires
-          c).After-wide-hi);
+          (goal.at.follow_leaving-requires c).After-from-hi) (high (goal.at.follow_leaving-requires
+          c).After-from-hi);
       links-in = range-in links.leaving (card-is (goal.at.follow_leaving-requires c).Start) (low
-          (goal.at.follow_leaving-requires c).After-wide-hi) (high (goal.at.follow_leaving-requires
-          c).After-wide-hi);
+          (goal.at.follow_leaving-requires c).After-from-hi) (high (goal.at.follow_leaving-requires
+          c).After-from-hi);
       room = c.requires.room;
     }
 
@@ -116,7 +116,7 @@ follow_arriving-requires c =
 pub returns-then-walk : goal.returns-then-walk
 returns-then-walk c =
     followed-both c.requires.links.ready c.requires.links.leaving (pair_is (goal.at.returns-then-walk c).Start)
-    (low (goal.at.returns-then-walk c).After-wide-hi) (high (goal.at.returns-then-walk c).After-wide-hi)
+    (low (goal.at.returns-then-walk c).After-from-hi) (high (goal.at.returns-then-walk c).After-from-hi)
     (out-half (goal.at.returns-then-walk c).Start _ (base-is (goal.at.returns-then-walk c).Start))
     (back-half (goal.at.returns-then-walk c).Start _ (ap (λ (x : ℕ). x + max_kinds) (base-is
     (goal.at.returns-then-walk c).Start))) c.follow_leaving.ensures
@@ -125,7 +125,7 @@ returns-then-walk c =
 pub returns-else-walk : goal.returns-else-walk
 returns-else-walk c =
     followed-out c.requires.links.ready c.requires.links.leaving (pair_is (goal.at.returns-else-walk c).Start) (low
-    (goal.at.returns-else-walk c).After-wide-hi) (high (goal.at.returns-else-walk c).After-wide-hi)
+    (goal.at.returns-else-walk c).After-from-hi) (high (goal.at.returns-else-walk c).After-from-hi)
     (out-half (goal.at.returns-else-walk
     c).Start _ (base-is (goal.at.returns-else-walk c).Start))
     (c.requires.links.ways c.if-walk.false) c.follow_leaving.ensures

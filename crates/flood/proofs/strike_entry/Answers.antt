@@ -12,9 +12,9 @@ use Rattle.flood.proofs.strike_entry.Goals as goal
 use Rattle.flood.proofs.strike_entry.Goals.{Then-number-ne0}
 
 -- the pair that is struck is on the board
-place_in : (c : Then-number-ne0) → c.args.base + (c.byte-number.result - 1) < length c.args.grid.now
+place_in : (c : Then-number-ne0) → c.args.base + (c.from-number.result - 1) < length c.args.grid.now
 place_in c =
-    c.requires.on-board _ (one-named c.byte-number.ensures.same c.if-number-ne0.true)
+    c.requires.on-board _ (one-named c.from-number.ensures c.if-number-ne0.true)
 
 pub overflow_add-base : goal.overflow_add-base
 overflow_add-base c =
@@ -30,13 +30,13 @@ strike_one-requires c =
     }
 
 pub returns-else-number-ne0 : goal.returns-else-number-ne0
-returns-else-number-ne0 c = swept_none (none_named c.byte-number.ensures.same c.if-number-ne0.false)
+returns-else-number-ne0 c = swept_none (none_named c.from-number.ensures c.if-number-ne0.false)
 
 pub returns-then-number-ne0 : goal.returns-then-number-ne0
 returns-then-number-ne0 c =
-    let is = c.byte-number.ensures.same in
+    let is = c.from-number.ensures in
     let w = work c.args.grid.now c.args.queue.now in
-    let p = c.args.base + (c.byte-number.result - 1) in
+    let p = c.args.base + (c.from-number.result - 1) in
     let Good = EntryGood c.args.entry c.args.base in
     subst (λ (v : Work). Swept Good w v) (sym c.strike_one.ensures)
     (swept_same (λ q at. subst Good (sym at) (one-named is c.if-number-ne0.true)) (only-named is

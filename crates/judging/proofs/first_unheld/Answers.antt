@@ -12,7 +12,7 @@ pub returns : goal.returns
 returns c =
     let a = c.args in
     let Fault = Missing a.bookings.now a.desk a.shapes a.grid.now in
-    subst (λ (end : ℕ). FirstFound Fault end c.find.result) c.wide.ensures.same
-    (first-found Fault c.wide.result c.find.result
+    subst (λ (end : ℕ). FirstFound Fault end c.find.result) c.from.ensures
+    (first-found Fault c.from.result c.find.result
     (first_from_Range _ _ _ c.find.result Fault (λ i. Fault i → ⊥) c.find.ensures.ran
     (λ x q k. search rules) (λ x q k. search rules)))

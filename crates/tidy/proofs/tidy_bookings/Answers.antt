@@ -24,10 +24,10 @@ returns-in_err-count c =
     let p = err_from_is_err_and c.from_residual-in_err-count.result c.from_residual-in_err-count.ensures.1 in
     rw (p.1, p.2) (tidy-refused c.in_ok-e.ensures _ _ (sym c.in_err-count.ensures))
 
-pub returns-then-out-wide : goal.returns-then-out-wide
-returns-then-out-wide c =
-    let read = (goal.at.returns-then-out-wide c).In_ok-count in
-    tidy-size c.in_ok-e.ensures _ (stored read) _ (λ e. omega (arith, e, c.wide.ensures.same, counted read))
+pub returns-then-out-from : goal.returns-then-out-from
+returns-then-out-from c =
+    let read = (goal.at.returns-then-out-from c).In_ok-count in
+    tidy-size c.in_ok-e.ensures _ (stored read) _ (λ e. omega (arith, e, c.from.ensures, counted read))
 
 pub tidy-requires : goal.tidy-requires
 tidy-requires c =
@@ -40,11 +40,11 @@ tidy-requires c =
         (stored-each _ _ _ _ (stored read) i l).0,
         (opened c.in_ok-e.ensures).links.cards-bound,
       );
-      room = omega (arith, c.wide.ensures.same);
+      room = omega (arith, c.from.ensures);
     }
 
 pub returns : goal.returns
 returns c =
     let read = (goal.at.returns c).In_ok-count in
-    tidy-done c.in_ok-e.ensures _ (stored read) _ _ _ (omega (arith, c.wide.ensures.same, counted read))
+    tidy-done c.in_ok-e.ensures _ (stored read) _ _ _ (omega (arith, c.from.ensures, counted read))
     c.tidy.ensures

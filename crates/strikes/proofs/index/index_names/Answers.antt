@@ -15,7 +15,7 @@ use Rattle.strikes.specs.Indexes.{entry_key, half_entry, name_keys}
 use Rattle.strikes.proofs.Names.{half_place, half-bound, key-none, key_of, key-own}
 use Rattle.strikes.proofs.index.index_names.Invariants.{IndexedTo}
 use Rattle.strikes.proofs.index.index_names.Goals as goal
-use Rattle.strikes.proofs.index.index_names.Goals.{After-byte-entry, After-entry_place, After-name_key-key}
+use Rattle.strikes.proofs.index.index_names.Goals.{After-from-entry, After-entry_place, After-name_key-key}
 use Rattle.strikes.proofs.index.index_names.Goals.{then-entry-gt0, else-entry-gt0}
 
 -- what the index begins with: all of its words are 0
@@ -34,15 +34,15 @@ loop-p-init c =
     })
 
 -- its entry
-entry-is : (a : After-byte-entry) → a.byte-entry.result ≡ half_entry a.args.names.now a.args.index.now.start a.loop-p.p
+entry-is : (a : After-from-entry) → a.from-entry.result ≡ half_entry a.args.names.now a.args.index.now.start a.loop-p.p
 entry-is a =
     let names = a.args.names.now in
-    a.byte-entry.ensures.same
+    a.from-entry.ensures
     ∙ ap (λ (x : ℕ). get_or names x 0) a.entry_place.ensures
     ∙ half_place names a.args.index.now.start a.loop-p.p
 
 -- an entry is a shape plus one at most, so its key has a head
-entry-low : (a : After-byte-entry) → a.byte-entry.result ≤ max_shapes
+entry-low : (a : After-from-entry) → a.from-entry.result ≤ max_shapes
 entry-low a =
     omega (
       arith,
@@ -52,18 +52,18 @@ entry-low a =
     )
 
 -- and the place has one in the chains' links
-place-low : (a : After-byte-entry) → a.loop-p.p < name_keys
+place-low : (a : After-from-entry) → a.loop-p.p < name_keys
 place-low a = omega (arith, a.loop-p-test.true, a.requires.table.few-shapes)
 
 -- after a turn: the state that the next one starts from
-abbrev After : After-byte-entry → List ℕ → List ℕ → Type 0
+abbrev After : After-from-entry → List ℕ → List ℕ → Type 0
 After a first next =
     IndexedTo a.args.names.now a.args.index.now.start (record a.loop-p.index { first = first; next = next })
     (a.loop-p.p + 1)
 
 -- the place names a shape, and is chained
-one_more : (k : After-byte-entry) (key : ℕ) → 0 < k.byte-entry.result
-    → key ≡ k.loop-p.p % max_kinds * max_shapes + (k.byte-entry.result - 1)
+one_more : (k : After-from-entry) (key : ℕ) → 0 < k.from-entry.result
+    → key ≡ k.loop-p.p % max_kinds * max_shapes + (k.from-entry.result - 1)
     → After k (set k.loop-p.index.first key (k.loop-p.p + 1))
     (set k.loop-p.index.next k.loop-p.p (get_or k.loop-p.index.first key 0))
 one_more k key some named =
@@ -92,7 +92,7 @@ one_more k key some named =
     }
 
 -- it names none, and is passed over
-none_here : (a : After-byte-entry) → a.byte-entry.result ≤ 0 → After a a.loop-p.index.first a.loop-p.index.next
+none_here : (a : After-from-entry) → a.from-entry.result ≤ 0 → After a a.loop-p.index.first a.loop-p.index.next
 none_here a none =
     let names = a.args.names.now in
     let start = a.args.index.now.start in
@@ -113,7 +113,7 @@ none_here a none =
 
 pub loop-p-preserved : goal.loop-p-preserved
 loop-p-preserved c =
-    let b = (goal.at.loop-p-preserved c).After-byte-entry in
+    let b = (goal.at.loop-p-preserved c).After-from-entry in
     elim c.if-entry-gt0.branch [
       | then-entry-gt0 w ↦ rw w.index-is (one_more b w.name_key-key.result w.if-entry-gt0.true w.name_key-key.ensures)
       | else-entry-gt0 w ↦ rw w.index-is (none_here b w.if-entry-gt0.false)

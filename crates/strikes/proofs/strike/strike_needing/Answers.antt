@@ -13,7 +13,7 @@ use Rattle.strikes.proofs.Needing.{need-in-grid}
 use Rattle.walks.proofs.Needs.{range-rising, range-in, arrivals-at}
 use Rattle.strikes.proofs.Striking.{sources-same, targets-same, struck-both, struck-sources}
 use Rattle.strikes.proofs.strike.strike_needing.Goals as goal
-use Rattle.strikes.proofs.strike.strike_needing.Goals.{After-wide-hi, Start}
+use Rattle.strikes.proofs.strike.strike_needing.Goals.{After-from-hi, Start}
 
 -- the pair's card and shape are the sheet's
 card-is : (s : Start) → s.args.q / s.args.walk.now.shapes < get_or s.args.walk.now.script.now 0 0
@@ -32,14 +32,14 @@ left_is : (s : Start) → s.args.q - s.args.m * s.args.walk.now.shapes ≡ s.arg
 left_is s = shape-left s.args.walk.now.shapes s.args.q s.requires.by.ready.one-shape s.requires.card
 
 -- where the card's links start and end
-low : (h : After-wide-hi) → h.wide-lo.result ≡ get_or h.args.walk.now.starts.now (h.args.q / h.args.walk.now.shapes) 0
+low : (h : After-from-hi) → h.from-lo.result ≡ get_or h.args.walk.now.starts.now (h.args.q / h.args.walk.now.shapes) 0
 low h =
-    h.wide-lo.ensures.same ∙ ap (λ (x : ℕ). get_or h.args.walk.now.starts.now x 0) h.requires.card
+    h.from-lo.ensures ∙ ap (λ (x : ℕ). get_or h.args.walk.now.starts.now x 0) h.requires.card
 
-high : (h : After-wide-hi) → h.wide-hi.result ≡ get_or h.args.walk.now.starts.now
+high : (h : After-from-hi) → h.from-hi.result ≡ get_or h.args.walk.now.starts.now
     (h.args.q / h.args.walk.now.shapes + 1) 0
 high h =
-    h.wide-hi.ensures.same ∙ ap (λ (x : ℕ). get_or h.args.walk.now.starts.now (x + 1) 0) h.requires.card
+    h.from-hi.ensures ∙ ap (λ (x : ℕ). get_or h.args.walk.now.starts.now (x + 1) 0) h.requires.card
 
 -- what is struck by the links to the card is on the board
 sources-in : (s : Start) (p : ℕ) → Arriving s.args.walk.now.script.now s.args.m
@@ -89,9 +89,9 @@ strike_targets-requires c =
         room = swept-room struck (sources-in (goal.at.strike_targets-requires c).Start) c.requires.room;
       };
       rising = range-rising by.leaving (card-is (goal.at.strike_targets-requires c).Start) (low
-          (goal.at.strike_targets-requires c).After-wide-hi) (high (goal.at.strike_targets-requires c).After-wide-hi);
+          (goal.at.strike_targets-requires c).After-from-hi) (high (goal.at.strike_targets-requires c).After-from-hi);
       links-in = range-in by.leaving (card-is (goal.at.strike_targets-requires c).Start) (low
-          (goal.at.strike_targets-requires c).After-wide-hi) (high (goal.at.strike_targets-requires c).After-wide-hi);
+          (goal.at.strike_targets-requires c).After-from-hi) (high (goal.at.strike_targets-requires c).After-from-hi);
     }
 
 pub returns-in-Some : goal.returns-in-Some
@@ -99,11 +99,11 @@ returns-in-Some c =
     let ready = c.requires.by.ready in
     let st = c.requires.by.leaving in
     struck-both ready c.args.q st (card-is (goal.at.returns-in-Some c).Start) (low (goal.at.returns-in-Some
-    c).After-wide-hi) (high (goal.at.returns-in-Some c).After-wide-hi)
+    c).After-from-hi) (high (goal.at.returns-in-Some c).After-from-hi)
     (sources-same ready c.args.q c.requires.card (left_is (goal.at.returns-in-Some c).Start)
     c.strike_sources.ensures)
     (targets-same ready c.args.q st (card-is (goal.at.returns-in-Some c).Start) (low (goal.at.returns-in-Some
-    c).After-wide-hi) (high (goal.at.returns-in-Some c).After-wide-hi) (left_is (goal.at.returns-in-Some c).Start)
+    c).After-from-hi) (high (goal.at.returns-in-Some c).After-from-hi) (left_is (goal.at.returns-in-Some c).Start)
     c.strike_targets.ensures)
 
 pub returns-in_default : goal.returns-in_default

@@ -18,32 +18,32 @@ use Rattle.walks.proofs.Needs.{from-word, kind-word, kind-in}
 use Rattle.strikes.proofs.Needing.{need-in-grid}
 use Rattle.walks.proofs.Walks.{walk_start, walk-next, walk-done, arriving-swept}
 use Rattle.strikes.proofs.strike.strike_sources.Goals as goal
-use Rattle.strikes.proofs.strike.strike_sources.Goals.{After-wide-from, In-Some}
+use Rattle.strikes.proofs.strike.strike_sources.Goals.{After-from-from, In-Some}
 
 -- the link that a turn looks at
 link-in : (c : In-Some) → c.in-Some.i < get_or c.args.walk.now.script.now 1 0
 link-in c = along-in c.loop-i.invariant.chain c.in-Some.ensures.steps.1
 
 -- the card that it starts at and its kind, as they are read
-from_is : (a : After-wide-from) → a.wide-from.result ≡ from_at a.args.walk.now.script.now a.in-Some.i
+from_is : (a : After-from-from) → a.from-from.result ≡ from_at a.args.walk.now.script.now a.in-Some.i
 from_is a =
-    a.wide-from.ensures.same ∙ from-word a.args.walk.now.script.now a.in-Some.i
+    a.from-from.ensures ∙ from-word a.args.walk.now.script.now a.in-Some.i
 
-kind-is : (a : After-wide-from) → get_or a.args.walk.now.script.now (3 + 3 * a.in-Some.i) 0
+kind-is : (a : After-from-from) → get_or a.args.walk.now.script.now (3 + 3 * a.in-Some.i) 0
     ≡ kind_at a.args.walk.now.script.now a.in-Some.i
 kind-is a = kind-word a.args.walk.now.script.now a.in-Some.i
 
 -- all pairs of the card are on the board
-card-pairs : (a : After-wide-from) → a.wide-from.result * a.args.walk.now.shapes + a.args.walk.now.shapes ≤ length
+card-pairs : (a : After-from-from) → a.from-from.result * a.args.walk.now.shapes + a.args.walk.now.shapes ≤ length
     a.args.grid.now
 card-pairs a =
     let cards = get_or a.args.walk.now.script.now 0 0 in
-    let is-card = a.requires.need.ready.near-in outgoing a.in-Some.i (link-in (goal.at.After-wide-from
+    let is-card = a.requires.need.ready.near-in outgoing a.in-Some.i (link-in (goal.at.After-from-from
     a).In-Some) in
     omega (
       arith,
       a.requires.need.full,
-      card-room cards a.args.walk.now.shapes a.wide-from.result
+      card-room cards a.args.walk.now.shapes a.from-from.result
           (subst (λ (x : ℕ). x < cards) (sym (from_is a)) is-card),
     )
 
@@ -65,13 +65,13 @@ strike_named-requires c =
       half = omega (arith, c.requires.need.places.half);
       kind-in = omega (
         arith,
-        kind-is (goal.at.strike_named-requires c).After-wide-from,
+        kind-is (goal.at.strike_named-requires c).After-from-from,
         kind-in ready
             c.in-Some.i (link-in (goal.at.strike_named-requires c).In-Some),
       );
       shape-in = omega (arith, c.requires.need.shape-in, ready.few-shapes);
       few-places = omega (arith, same, c.requires.need.full, pairs-bound ready);
-      pairs = omega (arith, card-pairs (goal.at.strike_named-requires c).After-wide-from, same);
+      pairs = omega (arith, card-pairs (goal.at.strike_named-requires c).After-from-from, same);
       room = swept-room c.loop-i.invariant.swept (λ p g. omega (
         arith,
         need-in-grid ready outgoing c.args.u.0 g.number p g.below g.good,
@@ -87,8 +87,8 @@ loop-i-preserved c =
     walk-next c.loop-i.invariant c.in-Some.ensures.steps.1
     (subst₂ (λ (k base : ℕ).
     Swept (NamedGood c.args.walk.now.names.now c.args.walk.now.shapes (first_label outgoing + k) base c.args.u.0) w v)
-    (kind-is (goal.at.loop-i-preserved c).After-wide-from) (ap (λ (x : ℕ). x * c.args.walk.now.shapes) (from_is
-    (goal.at.loop-i-preserved c).After-wide-from)) (rw c.requires.need.places.half at
+    (kind-is (goal.at.loop-i-preserved c).After-from-from) (ap (λ (x : ℕ). x * c.args.walk.now.shapes) (from_is
+    (goal.at.loop-i-preserved c).After-from-from)) (rw c.requires.need.places.half at
     c.strike_named.ensures))
 
 pub returns : goal.returns

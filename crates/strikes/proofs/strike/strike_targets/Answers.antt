@@ -17,7 +17,7 @@ use Rattle.walks.proofs.Needs.{kind-word, to_word, kind-in}
 use Rattle.strikes.proofs.Needing.{need-in-grid}
 use Rattle.walks.proofs.Walks.{leaving-none, leaving-more}
 use Rattle.strikes.proofs.strike.strike_targets.Goals as goal
-use Rattle.strikes.proofs.strike.strike_targets.Goals.{After-wide-to, In-loop-i}
+use Rattle.strikes.proofs.strike.strike_targets.Goals.{After-from-to, In-loop-i}
 
 -- the link that a turn looks at is one of the script's
 link-in : (c : In-loop-i) → c.loop-i.i < get_or c.args.walk.now.script.now 1 0
@@ -28,20 +28,20 @@ kind-is : (c : In-loop-i) → get_or c.args.walk.now.script.now (3 + 3 * c.loop-
     c.args.walk.now.script.now c.loop-i.i
 kind-is c = kind-word c.args.walk.now.script.now c.loop-i.i
 
-to_is : (a : After-wide-to) → a.wide-to.result ≡ to_at a.args.walk.now.script.now a.loop-i.i
+to_is : (a : After-from-to) → a.from-to.result ≡ to_at a.args.walk.now.script.now a.loop-i.i
 to_is a =
-    a.wide-to.ensures.same ∙ to_word a.args.walk.now.script.now a.loop-i.i
+    a.from-to.ensures ∙ to_word a.args.walk.now.script.now a.loop-i.i
 
 -- all pairs of that card are on the board
-card-pairs : (a : After-wide-to) → a.wide-to.result * a.args.walk.now.shapes + a.args.walk.now.shapes ≤ length
+card-pairs : (a : After-from-to) → a.from-to.result * a.args.walk.now.shapes + a.args.walk.now.shapes ≤ length
     a.args.grid.now
 card-pairs a =
     let cards = get_or a.args.walk.now.script.now 0 0 in
-    let is-card = a.requires.need.ready.near-in incoming a.loop-i.i (link-in (goal.at.After-wide-to a).In-loop-i) in
+    let is-card = a.requires.need.ready.near-in incoming a.loop-i.i (link-in (goal.at.After-from-to a).In-loop-i) in
     omega (
       arith,
       a.requires.need.full,
-      card-room cards a.args.walk.now.shapes a.wide-to.result (subst (λ (x : ℕ). x < cards) (sym (to_is a)) is-card),
+      card-room cards a.args.walk.now.shapes a.from-to.result (subst (λ (x : ℕ). x < cards) (sym (to_is a)) is-card),
     )
 
 pub loop-i-init : goal.loop-i-init
@@ -64,7 +64,7 @@ strike_named-requires c =
       );
       shape-in = omega (arith, c.requires.need.shape-in, ready.few-shapes);
       few-places = omega (arith, same, c.requires.need.full, pairs-bound ready);
-      pairs = omega (arith, card-pairs (goal.at.strike_named-requires c).After-wide-to, same);
+      pairs = omega (arith, card-pairs (goal.at.strike_named-requires c).After-from-to, same);
       room = swept-room c.loop-i.invariant.2
           (λ p g. omega (
             arith,
@@ -86,7 +86,7 @@ loop-i-preserved c =
           Swept (NamedGood c.args.walk.now.names.now c.args.walk.now.shapes (first_label incoming + k) base
           c.args.u.0) w v)
           (kind-is (goal.at.loop-i-preserved c).In-loop-i) (ap (λ (x : ℕ). x * c.args.walk.now.shapes) (to_is
-          (goal.at.loop-i-preserved c).After-wide-to)) (rw c.requires.need.places.half at
+          (goal.at.loop-i-preserved c).After-from-to)) (rw c.requires.need.places.half at
           c.strike_named.ensures)),
     )
 
