@@ -32,107 +32,94 @@ fn limits_ok(low: u16, high: u16) -> bool
     low <= MAX_COUNT && (high == NO_LIMIT || low <= high && high <= MAX_COUNT)
 }
 
-// The link of this kind whose code is at `at`, below `end`. Its shape is entered in the row, at its label: `first` is
-// where the labels of its way start.
-fn link(
-    words: &[u16],
-    at: usize,
-    end: usize,
-    sizes: Sizes,
-    row: &mut [u8],
-    first: usize,
-    kind: Kind,
-) -> Result<usize, Refusal>
-    requires { LinkReadAsked words.now at end sizes row.old first }
-    ensures { shown (read_as result) row.new
-        ≡ outcome (read_link words.now end sizes at row.old first kind.0) }
-{
-    if end - at < 4 {
-        return Err(Refusal(Fault::MissingWord, end));
-    }
-    if sizes.kinds <= kind.0 {
-        return Err(Refusal(Fault::UnknownKind, at));
-    }
-    let label = first + kind.0 as usize;
-    if row[label] != 0 {
-        return Err(Refusal(Fault::RepeatedKind, at));
-    }
-    let shape = Shape(words[at + 1]);
-    if sizes.shapes <= shape.0 {
-        return Err(Refusal(Fault::UnknownShape, at + 1));
-    }
-    if limits_ok(words[at + 2], words[at + 3]) {
-        row[label] = entry(shape);
-        Ok(at + 4)
-    } else {
-        Err(Refusal(Fault::LinkLimits, at + 2))
-    }
+// The words of a template up to the end of a shape, and the counts that the template starts with.
+#[derive(Clone, Copy)]
+pub struct ShapeWords<'a> {
+    pub words: &'a [u16],
+    pub end: usize,
+    pub sizes: Sizes,
 }
 
-// The part at `at`, where `left` levels of parts are still allowed.
-#[cycle(part_run)]
-pub fn part(
-    words: &[u16],
-    at: usize,
-    end: usize,
-    sizes: Sizes,
-    left: usize,
-    row: &mut [u8],
-) -> Result<usize, Refusal>
-    requires { PartReadAsked words.now end sizes row.old }
-    ensures { shown (read_as result) row.new
-        ≡ outcome (read_part left words.now end sizes at row.old) }
-{
-    if end <= at {
-        return Err(Refusal(Fault::MissingWord, end));
-    }
-    if left == 0 {
-        return Err(Refusal(Fault::Depth, at));
-    }
-    let code = words[at];
-    match code {
-        0 => Ok(at + 1),
-        1..=3 => part(words, at + 1, end, sizes, left - 1, row),
-        4..=15 => Err(Refusal(Fault::UnknownCode, at)),
-        16..=17 => {
-            if end - at < 2 {
-                return Err(Refusal(Fault::MissingWord, end));
-            }
-            let count = words[at + 1];
-            if count < MIN_GROUP {
-                return Err(Refusal(Fault::GroupSize, at + 1));
-            }
-            if MAX_GROUP < count {
-                return Err(Refusal(Fault::GroupSize, at + 1));
-            }
-            run(words, at + 2, end, sizes, left - 1, row, count)
+impl ShapeWords<'_> {
+    // The link of this kind whose code is at `at`, below the end. Its shape is entered in the row, at its label:
+    // `first` is where the labels of its way start.
+    fn link(&self, at: usize, row: &mut [u8], first: usize, kind: Kind) -> Result<usize, Refusal>
+        requires { LinkReadAsked self.now.words.now at self.now.end self.now.sizes row.old first }
+        ensures { shown (read_as result) row.new
+            ≡ outcome (read_link self.now.words.now self.now.end self.now.sizes at row.old first kind.0) }
+    {
+        if self.end - at < 4 {
+            return Err(Refusal(Fault::MissingWord, self.end));
         }
-        18 => Err(Refusal(Fault::OpenInside, at)),
-        19..=255 => Err(Refusal(Fault::UnknownCode, at)),
-        256..=319 => link(words, at, end, sizes, row, 0, Kind(code - 256)),
-        320..=383 => link(words, at, end, sizes, row, MAX_KINDS, Kind(code - 320)),
-        _ => Err(Refusal(Fault::UnknownCode, at)),
+        if self.sizes.kinds <= kind.0 {
+            return Err(Refusal(Fault::UnknownKind, at));
+        }
+        let label = first + kind.0 as usize;
+        if row[label] != 0 {
+            return Err(Refusal(Fault::RepeatedKind, at));
+        }
+        let shape = Shape(self.words[at + 1]);
+        if self.sizes.shapes <= shape.0 {
+            return Err(Refusal(Fault::UnknownShape, at + 1));
+        }
+        if limits_ok(self.words[at + 2], self.words[at + 3]) {
+            row[label] = entry(shape);
+            Ok(at + 4)
+        } else {
+            Err(Refusal(Fault::LinkLimits, at + 2))
+        }
     }
-}
 
-// `count` parts, one after the other.
-#[cycle(part_run)]
-fn run(
-    words: &[u16],
-    at: usize,
-    end: usize,
-    sizes: Sizes,
-    left: usize,
-    row: &mut [u8],
-    count: u16,
-) -> Result<usize, Refusal>
-    requires { PartReadAsked words.now end sizes row.old }
-    ensures { shown (read_as result) row.new
-        ≡ outcome (read_run (read_part left words.now end sizes) count at row.old) }
-{
-    let mut next = at;
-    for _ in 0..count {
-        next = part(words, next, end, sizes, left, row)?;
+    // The part at `at`, where `left` levels of parts are still allowed.
+    #[cycle(part_run)]
+    pub fn part(&self, at: usize, left: usize, row: &mut [u8]) -> Result<usize, Refusal>
+        requires { PartReadAsked self.now.words.now self.now.end self.now.sizes row.old }
+        ensures { shown (read_as result) row.new
+            ≡ outcome (read_part left self.now.words.now self.now.end self.now.sizes at row.old) }
+    {
+        if self.end <= at {
+            return Err(Refusal(Fault::MissingWord, self.end));
+        }
+        if left == 0 {
+            return Err(Refusal(Fault::Depth, at));
+        }
+        let code = self.words[at];
+        match code {
+            0 => Ok(at + 1),
+            1..=3 => self.part(at + 1, left - 1, row),
+            4..=15 => Err(Refusal(Fault::UnknownCode, at)),
+            16..=17 => {
+                if self.end - at < 2 {
+                    return Err(Refusal(Fault::MissingWord, self.end));
+                }
+                let count = self.words[at + 1];
+                if count < MIN_GROUP {
+                    return Err(Refusal(Fault::GroupSize, at + 1));
+                }
+                if MAX_GROUP < count {
+                    return Err(Refusal(Fault::GroupSize, at + 1));
+                }
+                self.run(at + 2, left - 1, row, count)
+            }
+            18 => Err(Refusal(Fault::OpenInside, at)),
+            19..=255 => Err(Refusal(Fault::UnknownCode, at)),
+            256..=319 => self.link(at, row, 0, Kind(code - 256)),
+            320..=383 => self.link(at, row, MAX_KINDS, Kind(code - 320)),
+            _ => Err(Refusal(Fault::UnknownCode, at)),
+        }
     }
-    Ok(next)
+
+    // `count` parts, one after the other.
+    #[cycle(part_run)]
+    fn run(&self, at: usize, left: usize, row: &mut [u8], count: u16) -> Result<usize, Refusal>
+        requires { PartReadAsked self.now.words.now self.now.end self.now.sizes row.old }
+        ensures { shown (read_as result) row.new
+            ≡ outcome (read_run (read_part left self.now.words.now self.now.end self.now.sizes) count at row.old) }
+    {
+        let mut next = at;
+        for _ in 0..count {
+            next = self.part(next, left, row)?;
+        }
+        Ok(next)
+    }
 }

@@ -10,7 +10,7 @@ ghost use Rattle.template.specs.Template.{open_at, part_at, read_shape, read_sha
 ghost use Rattle.template.specs.Template.{template_says};
 ghost use Rattle.template.specs.Machine.{ShapeReadAsked, ShapeAnswer, Tabled, ShapesReadAsked, ShapesAnswer, moved_to};
 
-use parts::{Sizes, part};
+use parts::{ShapeWords, Sizes};
 use words::{
     Fault, MAX_DEPTH, MAX_KINDS, MAX_LABELS, MAX_SHAPES, MAX_TEMPLATE, Refusal, TABLE_SIZE,
 };
@@ -61,7 +61,8 @@ impl Reader<'_> {
         }
         let end = start + count;
         let first = part_at(words, at);
-        let next = part(words, first, end, sizes, MAX_DEPTH, row)?;
+        let shape = ShapeWords { words, end, sizes };
+        let next = shape.part(first, MAX_DEPTH, row)?;
         if next < end {
             return Err(Refusal(Fault::WordsLeft, next));
         }

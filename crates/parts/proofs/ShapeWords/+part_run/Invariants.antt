@@ -3,15 +3,15 @@
 -- Assumes nothing.
 use Prim.Native.Nat.{◌+◌, ◌-◌, ◌*◌}
 use Rattle.parts.proofs.Remaining.{Remaining}
-use Rattle.parts.proofs.+part_run.Given as goal
+use Rattle.parts.proofs.ShapeWords.+part_run.Given as goal
 
 abbrev pub decreases-part : goal.decreases-part
-decreases-part l = 2 * (l.end - l.at)
+decreases-part l = 2 * (l.self.now.end - l.at)
 
 abbrev pub decreases-run : goal.decreases-run
-decreases-run l = 2 * (l.end - l.at) + 1
+decreases-run l = 2 * (l.self.now.end - l.at) + 1
 
 -- what holds before each turn of `run`
 abbrev pub invariant-run-loop : goal.invariant-run-loop
 invariant-run-loop l =
-    Remaining l.left l.words l.end l.sizes l.count l.at l.initial.row (l.count - l.counter) l.next l.row
+    Remaining l.left l.self.words.now l.self.end l.self.sizes l.count l.at l.initial.row (l.count - l.counter) l.next l.row
