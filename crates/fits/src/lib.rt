@@ -18,6 +18,7 @@ ghost use Rattle.fits.specs.Fitting.{PairReady, PairFits, ColumnFitted, Fitted};
 
 use evaluator::part_fits;
 use flat::{meet_card, survey_part};
+use joins::Amounts;
 use links::{count_arriving, leaving_links};
 use sheet::{Extent, some_named};
 use template::{open_at, part_at};
@@ -87,7 +88,14 @@ fn card_fits(
             None => false,
         },
         None => (plan.opened || all_named(row, links))
-            && part_fits(template, links, arriving, plan.start),
+            && part_fits(
+                template,
+                &Amounts {
+                    links,
+                    listed: arriving,
+                },
+                plan.start,
+            ),
     }
 }
 
