@@ -14,6 +14,7 @@ ghost use Rattle.counts.specs.Fit.{first_over, FitSays};
 ghost use Rattle.counts.specs.Machine.{OthersAsked, Testable, SpreadAsked, Spread, NamesRead};
 
 use evaluator::part_fits;
+use joins::Amounts;
 use parts::Sizes;
 use template::{open_at, read_names};
 use trees::word;
@@ -65,12 +66,15 @@ fn list_fits(words: &[u16], at: usize, row: &[u8], counts: &[u16], kinds: usize)
         (tree_at max_depth words.now (part_at words.now at)).value
         (count counts.now) }
 {
-    let none = &counts[0..0];
+    let amounts = Amounts {
+        links: &[],
+        listed: counts,
+    };
     if open_at(words, at) {
-        return part_fits(words, none, counts, at + 2);
+        return part_fits(words, &amounts, at + 2);
     }
     if others_zero(row, counts, kinds) {
-        return part_fits(words, none, counts, at + 1);
+        return part_fits(words, &amounts, at + 1);
     }
     false
 }

@@ -14,7 +14,7 @@ ghost use Rattle.joins.specs.Evaluation.{Evaluates};
 ghost use Rattle.evaluator.specs.Machine.{Evaluable, LinkEvaluable, Wrapped};
 
 use bags::{Span, TOP, has_one, link_span, wrap_span};
-use joins::{Eval, count_next, join, take_links, uncounted};
+use joins::{Amounts, Eval, join, take_links, uncounted};
 use trees::{Front, front_of, word};
 use words::MAX_DEPTH;
 
@@ -42,12 +42,12 @@ fn none(code: u16, next: usize) -> Eval
 }
 
 // The link of this label whose code is at `at`.
-fn link(words: &[u16], links: &[u16], listed: &[u16], at: usize, label: u16) -> Eval
-    requires { LinkEvaluable links.now listed.now at }
-    ensures { Evaluates (amount links.now listed.now) at
+fn link(words: &[u16], amounts: &Amounts, at: usize, label: u16) -> Eval
+    requires { LinkEvaluable amounts.now.links.now amounts.now.listed.now at }
+    ensures { Evaluates (amount amounts.now.links.now amounts.now.listed.now) at
         (link_at words.now at label) result }
 {
-    let count = count_next(links, listed, uncounted(), label).count;
+    let count = amounts.count_next(uncounted(), label).count;
     let span = link_span(count, word(words, at + 2), word(words, at + 3));
     Eval { next: at + 4, span }
 }
@@ -64,9 +64,9 @@ fn wrapped(front: Front, core: Eval) -> Eval
 
 // The part at `at`, where `left` levels of parts are still allowed: its wrappers, and by its code what they are around.
 #[cycle(part_run)]
-fn part(words: &[u16], links: &[u16], listed: &[u16], at: usize, left: usize) -> Eval
-    requires { Evaluable words.now links.now listed.now }
-    ensures { Evaluates (amount links.now listed.now) at
+fn part(words: &[u16], amounts: &Amounts, at: usize, left: usize) -> Eval
+    requires { Evaluable words.now amounts.now.links.now amounts.now.listed.now }
+    ensures { Evaluates (amount amounts.now.links.now amounts.now.listed.now) at
         (tree_at left words.now at) result }
 {
     let front = front_of(words, at, left);
@@ -79,36 +79,28 @@ fn part(words: &[u16], links: &[u16], listed: &[u16], at: usize, left: usize) ->
     match code {
         16..=17 => {
             let parts = word(words, core + 1);
-            let inner = run(words, links, listed, core + 2, levels - 1, parts, code);
+            let inner = run(words, amounts, core + 2, levels - 1, parts, code);
             wrapped(front, inner)
         }
-        256..=383 => wrapped(front, link(words, links, listed, core, code - 256)),
+        256..=383 => wrapped(front, link(words, amounts, core, code - 256)),
         _ => wrapped(front, nothing(core + 1)),
     }
 }
 
 // So many parts of a choice (16) or of all (17), one after the other. Links that stand side by side are taken together.
 #[cycle(part_run)]
-fn run(
-    words: &[u16],
-    links: &[u16],
-    listed: &[u16],
-    at: usize,
-    left: usize,
-    parts: u16,
-    code: u16,
-) -> Eval
-    requires { Evaluable words.now links.now listed.now }
-    ensures { Evaluates (amount links.now listed.now) at
+fn run(words: &[u16], amounts: &Amounts, at: usize, left: usize, parts: u16, code: u16) -> Eval
+    requires { Evaluable words.now amounts.now.links.now amounts.now.listed.now }
+    ensures { Evaluates (amount amounts.now.links.now amounts.now.listed.now) at
         (onto (gathered code) (trees_at (tree_at left words.now) parts at)) result }
 {
     let mut whole = none(code, at);
     let mut done = 0;
     // a cursor: each turn takes a part, or as many links as stand there
     while done < parts {
-        let some = take_links(words, links, listed, left, parts - done, code, whole);
+        let some = take_links(words, amounts, left, parts - done, code, whole);
         if some.count == 0 {
-            let first = part(words, links, listed, whole.next, left);
+            let first = part(words, amounts, whole.next, left);
             whole = join(code, whole, first);
             done += 1;
         } else {
@@ -120,11 +112,11 @@ fn run(
 }
 
 // Whether the counts of the labels of the part at `at` fit it.
-pub fn part_fits(words: &[u16], links: &[u16], listed: &[u16], at: usize) -> bool
-    requires { Evaluable words.now links.now listed.now }
+pub fn part_fits(words: &[u16], amounts: &Amounts, at: usize) -> bool
+    requires { Evaluable words.now amounts.now.links.now amounts.now.listed.now }
     ensures { result ≡ inside 1 (interval (tree_at max_depth words.now at).value
-        (amount links.now listed.now)) }
+        (amount amounts.now.links.now amounts.now.listed.now)) }
 {
-    let whole = part(words, links, listed, at, MAX_DEPTH);
+    let whole = part(words, amounts, at, MAX_DEPTH);
     has_one(whole.span)
 }

@@ -15,6 +15,7 @@ ghost use Rattle.fits.specs.Fitting.{PairReady, ShapeFits, ColumnFitted, GridFit
 
 use evaluator::part_fits;
 use flat::{meet_card, survey_part};
+use joins::Amounts;
 use links::{CardLinks, Chains, count_arriving, leaving_links};
 use sheet::{Extent, ReadSheet, some_named};
 use template::{open_at, part_at};
@@ -92,7 +93,14 @@ fn card_fits(template: &[u16], shape: &ShapeTest, links: &[u16], arriving: &[u16
             None => false,
         },
         None => (plan.opened || all_named(shape.row, links))
-            && part_fits(template, links, arriving, plan.start),
+            && part_fits(
+                template,
+                &Amounts {
+                    links,
+                    listed: arriving,
+                },
+                plan.start,
+            ),
     }
 }
 

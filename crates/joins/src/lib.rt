@@ -15,6 +15,13 @@ use links::{KindCount, count_on};
 use trees::word;
 use words::MAX_LABELS;
 
+// Where the counts of the labels come from: the links of a card, and a list with the counts of the last labels.
+#[derive(Clone, Copy)]
+pub struct Amounts<'a> {
+    pub links: &'a [u16],
+    pub listed: &'a [u16],
+}
+
 // What evaluating a part finds: the next place, and its interval.
 #[derive(Clone, Copy)]
 pub struct Eval {
@@ -40,21 +47,22 @@ pub fn uncounted() -> KindCount
     }
 }
 
-// Counts a label: the list has the counts of the last labels, and the kinds before them are counted off a card's links,
-// after a kind that was counted before.
-pub fn count_next(links: &[u16], listed: &[u16], before: KindCount, label: u16) -> KindCount
-    requires { CountAsked links.now listed.now before.kind before.next }
-    ensures { LabelCounted links.now listed.now label result.count result.kind result.next }
-{
-    let first = MAX_LABELS - listed.len();
-    let at = usize::from(label);
-    if at < first {
-        return count_on(links, before, label);
-    }
-    KindCount {
-        next: before.next,
-        kind: before.kind,
-        count: word(listed, at - first),
+impl<'a> Amounts<'a> {
+    // Counts a label, off the list if it has it, else off the links, after a kind that was counted before.
+    pub fn count_next(&self, before: KindCount, label: u16) -> KindCount
+        requires { CountAsked self.now.links.now self.now.listed.now before.kind before.next }
+        ensures { LabelCounted self.now.links.now self.now.listed.now label result.count result.kind result.next }
+    {
+        let first = MAX_LABELS - self.listed.len();
+        let at = usize::from(label);
+        if at < first {
+            return count_on(self.links, before, label);
+        }
+        KindCount {
+            next: before.next,
+            kind: before.kind,
+            count: word(self.listed, at - first),
+        }
     }
 }
 
@@ -102,18 +110,18 @@ fn is_link(words: &[u16], at: usize) -> bool
     at < words.len().saturating_sub(3) && (256..384).contains(&words[at])
 }
 
-// Takes the links that come next in a choice (16) or an all (17), so many parts at most, together with the parts before them.
+// Takes the links that come next in a choice (16) or an all (17), so many parts at most, together with the parts before
+// them.
 pub fn take_links(
     words: &[u16],
-    links: &[u16],
-    listed: &[u16],
+    amounts: &Amounts,
     left: usize,
     parts: u16,
     code: u16,
     before: Eval,
 ) -> Taken
-    requires { TakeAsked words.now links.now listed.now left code before }
-    ensures { TakesLinks (amount links.now listed.now) words.now left parts code
+    requires { TakeAsked words.now amounts.now.links.now amounts.now.listed.now left code before }
+    ensures { TakesLinks (amount amounts.now.links.now amounts.now.listed.now) words.now left parts code
         before result }
 {
     if left == 0 {
@@ -128,7 +136,7 @@ pub fn take_links(
         if !is_link(words, eval.next) {
             return Taken { eval, count };
         }
-        counted = count_next(links, listed, counted, words[eval.next] - 256);
+        counted = amounts.count_next(counted, words[eval.next] - 256);
         eval.span = join_link(words, eval.next, counted.count, code, eval.span);
         eval.next += 4;
     }

@@ -76,5 +76,5 @@ run-returns t c =
     let a = c.args in
     let all : c.loop-done.done ≡ a.parts = omega (arith, c.loop-done.invariant.few) in
     begins-all _ _ _ _ _ _ _
-    (subst (λ (n : ℕ). Begins (amount a.links.now a.listed.now) a.words.now a.left a.at a.code n
-    c.loop-done.whole) all c.loop-done.invariant.begun)
+    (subst (λ (n : ℕ). Begins (amount a.amounts.now.links.now a.amounts.now.listed.now) a.words.now a.left a.at a.code
+    n c.loop-done.whole) all c.loop-done.invariant.begun)

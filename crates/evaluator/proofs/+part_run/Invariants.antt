@@ -16,7 +16,7 @@ pub record RunBegun (words links listed : List ℕ) (at left parts code : ℕ) (
 
 abbrev pub invariant-run-loop-done : goal.invariant-run-loop-done
 invariant-run-loop-done l =
-    RunBegun l.words l.links l.listed l.at l.left l.parts l.code l.whole l.done
+    RunBegun l.words l.amounts.links.now l.amounts.listed.now l.at l.left l.parts l.code l.whole l.done
 
 abbrev pub decreases-run-loop-done : goal.decreases-run-loop-done
 decreases-run-loop-done l = l.parts - l.done

@@ -5,7 +5,7 @@ use lib.ListN.{length, get_or}
 use Rattle.words.specs.Limits.{max_labels}
 use native.Mathlib.Omega.{arith}
 use Rattle.links.proofs.Runs.{amount-counted, amount-listed}
-use Rattle.joins.proofs.count_next.Goals as goal
+use Rattle.joins.proofs.Amounts.count_next.Goals as goal
 
 pub returns-then-at-first : goal.returns-then-at-first
 returns-then-at-first c =
@@ -17,7 +17,7 @@ returns-then-at-first c =
 
 pub returns : goal.returns
 returns c =
-    let listed = c.args.listed.now in
+    let listed = c.args.self.now.listed.now in
     let place : c.from-at.result - (max_labels - length listed) ≡ c.args.label - (max_labels - length listed)
     = omega (arith, c.from-at.ensures) in
     record {
