@@ -7,7 +7,8 @@ use words::{Card, Chain, Shape};
 
 // Whether one of the first k bookings of the list is the desk's and of the card and the shape. Where none is, booking k
 // is chained with them: `first[n]` is one more than the last booking of card n, or 0, and `next[j]` one more than the
-// last before booking j of the same card, or 0.
+// last before booking j of the same card, or 0. The three words of a booking come apart: the list that they stand in is
+// lent too, and none is made of them.
 pub fn enter_booking(
     bookings: &[u16],
     k: usize,

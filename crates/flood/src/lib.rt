@@ -40,7 +40,8 @@ fn follow_leaving(walk: &Walk, row: &[u8], lo: usize, hi: usize, grid: &mut [u8]
     }
 }
 
-// Strikes what the links to card m lead back to, by the entries that a row has for their kinds.
+// Strikes what the links to card m lead back to, by the entries that a row has for their kinds. One function for this
+// and the one above would take a way, and tell a range from a chain by it.
 fn follow_arriving(walk: &Walk, row: &[u8], m: usize, grid: &mut [u8], queue: &mut Queue)
     requires { ArrivingAsked walk.now.script.now walk.now.first.now walk.now.next.now row.now walk.now.shapes m
         (work grid.old queue.old) }
@@ -96,6 +97,7 @@ pub fn flood(walk: &Walk, grid: &mut [u8], queue: &mut Queue)
     let factor = reciprocal(walk.shapes);
     let mut head = 0;
     let mut last = 0;
+    // the queue grows while it is gone along, so no range has its end
     while head < queue.len {
         let q = queue.at(head);
         let n = led_card(walk, factor, head + 1 == queue.len, last, q);

@@ -48,6 +48,7 @@ fn strike_rounds(
     };
     let mut head = 0;
     let mut last = 0;
+    // the queue grows while it is gone along, so no range has its end
     while head < queue.len {
         tally.at_head(head, queue.len);
         let q = queue.at(head);

@@ -12,7 +12,8 @@ use board::{Queue, strike_one};
 use walks::Walk;
 use words::{Chain, Kind, MAX_KINDS, Shape};
 
-// Strikes the pairs of a card whose shape names u for a kind of the index's half.
+// Strikes the pairs of a card whose shape names u for a kind of the index's half. Grid and queue are lent apart here and
+// below: in one struct each call would lend both again.
 fn strike_named(
     walk: &Walk,
     index: &NameIndex,
@@ -58,7 +59,7 @@ fn strike_sources(
 }
 
 // Strikes the pairs at the end of one of the links lo up to hi, all from one card, that need the shape u there: by the
-// incoming names.
+// incoming names. One function for this and the one above would take a way, and tell a range from a chain by it.
 fn strike_targets(
     walk: &Walk,
     index: &NameIndex,
