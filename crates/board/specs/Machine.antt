@@ -5,7 +5,23 @@
 --   FirstMissing  the lowest place that one grid has and another has not, or the end of the grid
 --   MissingFound  the place, if there is one
 -- Assumes nothing.
-use Rattle.std.specs.Prelude.{◌≡◌, ◌⊎◌, List, Bool, true, false, not, ℕ, ◌≤◌, ◌<◌, eqb, length, get_or, Option, MatchOption}
+use Rattle.std.specs.Prelude.{
+  ◌≡◌,
+  ◌⊎◌,
+  List,
+  Bool,
+  true,
+  false,
+  not,
+  ℕ,
+  ◌≤◌,
+  ◌<◌,
+  eqb,
+  length,
+  get_or,
+  Option,
+  MatchOption,
+}
 use Rattle.board.specs.Grid.{on, tally}
 
 -- Whether every place below a size passes a test: none fails.

@@ -8,7 +8,8 @@
 //   6 Judge a grid: a template, a script, bookings, a desk, the bytes of a grid
 //   7 Tidy bookings: a template, a script, a stored list, how many words the buffer has, which are all 7 before
 // The program ends where the input does, at any other tag, and at a section that is not whole or has no room. Each
-// function reads the sections of one operation, and answers whether its end was written; none, where they are not there.
+// function reads the sections of one operation, and answers whether its end was written; none, where they are not
+// there.
 #![tactic(auto)]
 
 use answers::{

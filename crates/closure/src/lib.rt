@@ -32,8 +32,8 @@ fn mark_bookings(
     }
 }
 
-// Writes the closure of a desk's bookings into the grid, whatever it held, and returns its number of pairs. The list and
-// its count come apart, since the struct that has both, with the sheet, is of a crate above.
+// Writes the closure of a desk's bookings into the grid, whatever it held, and returns its number of pairs. The list
+// and its count come apart, since the struct that has both, with the sheet, is of a crate above.
 pub fn close(
     walk: &Walk,
     bookings: &[u16],

@@ -208,7 +208,8 @@ fit-one-answer words shape counts x y p q =
     told-unique (fit_question words shape counts) x y (λ a r. answers-alike a a x y (λ f. f, λ f. f)) p q
 
 pub fit-answer-unique :
-    (words : List ℕ) (shape : ℕ) (counts : List ℕ) (a b : Result Bool Refusal) → FitSays words shape counts (fit_said a) →
+    (words : List ℕ) (shape : ℕ) (counts : List ℕ) (a b : Result Bool Refusal) → FitSays words shape counts (fit_said
+    a) →
     FitSays words shape counts (fit_said b) → a ≡ b
 fit-answer-unique words shape counts a b p q =
     fit-said-unique a b (fit-one-answer words shape counts (fit_said a) (fit_said b) p q)

@@ -61,7 +61,8 @@ others_same (suc kinds) p q v w n c =
     (ap₂ (λ (a b : Bool). a || b) (n kinds) (ap (λ (m : ℕ). eqb m 0) (c kinds (omega arith))))
 
 -- ---- a flat core
-module _ (words places : List ℕ) (plan : Plan) (needed : ℕ) (f : FlatPlan words places plan needed) (kinds : ℕ) (w : ℕ → ℕ) where
+module _ (words places : List ℕ) (plan : Plan) (needed : ℕ) (f : FlatPlan words places plan needed) (kinds : ℕ) (w : ℕ
+    → ℕ) where
   -- the core, and the whole part
   abbrev core : Part
   core = (tree_at f.left words plan.core).value

@@ -40,14 +40,15 @@ module _ {bytes : List ℕ} {at start : ℕ} (s : Section) (f : SectionFound byt
   found-words = rw (f.starts, f.counted, e) refl
 
 -- where the section after it starts
-module _ {bytes : List ℕ} {at next : ℕ} {s : Section} (f : SectionFound bytes at s) (n : next ≡ s.at + 2 * s.count) where
-  pub script-at : at ≡ 0 → next ≡ script_start bytes
-  unfolding script_start
-  script-at e = n ∙ found-end s f e
+module _ {bytes : List ℕ} {at next : ℕ} {s : Section} (f : SectionFound bytes at s) (n : next ≡ s.at + 2 * s.count)
+  where
+    pub script-at : at ≡ 0 → next ≡ script_start bytes
+    unfolding script_start
+    script-at e = n ∙ found-end s f e
 
-  pub bookings-at : at ≡ script_start bytes → next ≡ bookings_start bytes
-  unfolding bookings_start
-  bookings-at e = n ∙ found-end s f e
+    pub bookings-at : at ≡ script_start bytes → next ≡ bookings_start bytes
+    unfolding bookings_start
+    bookings-at e = n ∙ found-end s f e
 
 pub same-input : {a b c x y z : List ℕ} → a ≡ x → b ≡ y → c ≡ z
     → input_of a b c ≡ input_of x y z

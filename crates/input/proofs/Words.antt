@@ -22,7 +22,8 @@ module _ (bytes : List ℕ) where
   words-length at (suc n) =
       omega (arith, length-append (words_from bytes at n) (word_at bytes (at + 2 * n) ∷ []), words-length at n)
 
-  pub words-split : (at a k : ℕ) → words_from bytes at (a + k) ≡ words_from bytes at a ++ words_from bytes (at + 2 * a) k
+  pub words-split : (at a k : ℕ) → words_from bytes at (a + k) ≡ words_from bytes at a ++ words_from bytes (at + 2 *
+      a) k
   unfolding words_from
   words-split at a zero = let none : a + 0 ≡ a = omega arith in rw none (sym (append-nil (words_from bytes at a)))
   words-split at a (suc k) =

@@ -53,7 +53,11 @@ module _ (bytes : List ℕ) {end : ℕ} (ends : end ≡ input_end bytes) where
       pub grid-apart : (length bytes ≡ end + 4 + count → ⊥) → read_grid bytes files ≡ turned_down 60 0
       unfolding read_grid
       grid-apart apart = elim (cases_lt (length bytes) (end + 4 + count)) [
-        | inl short ↦ passes _ starts (refused 60 0 _ _ (lt-ltb (length bytes) (grid_end bytes) (omega (arith, ends, size_is))))
+        | inl short ↦ passes _ starts (refused 60 0 _ _ (lt-ltb (length bytes) (grid_end bytes) (omega (
+          arith,
+          ends,
+          size_is,
+        ))))
         | inr long ↦ passes _ starts (passes _ (le-ltb (length bytes) (grid_end bytes) (omega (arith, ends, size_is)))
             (refused 60 0 _ _ (lt-ltb (grid_end bytes) (length bytes) (omega (arith, ends, size_is, apart)))))
       ]

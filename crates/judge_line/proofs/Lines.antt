@@ -27,7 +27,8 @@ use Rattle.judge_line.specs.JudgeLine.{InputJudged, Judges}
 use Rattle.judge_line.specs.Steps.{LineWritten}
 
 -- A line, by what the judge answers.
-pub verdict-wrote : {before after : List ℕ} {next : ℕ} {said answer : Result (Result (Unit {0}) (Card × Shape)) Refusal} → said ≡ answer
+pub verdict-wrote : {before after : List ℕ} {next : ℕ} {said answer : Result (Result (Unit {0}) (Card × Shape))
+    Refusal} → said ≡ answer
     → Wrote before 0 (verdict_line (judge_said answer)) after next
     → Wrote before 0 (verdict_line (judge_said said)) after next
 verdict-wrote e w = rw e w
@@ -43,7 +44,8 @@ module _ {reading : Reading JudgeInput} {before after : List ℕ} {next : ℕ} w
         wrote = wrote-same (verdict-refused number place) w;
       }
 
-  pub line-judged : {desk : ℕ} {grid : List ℕ} (i : JudgeInput) (answer : Result (Result (Unit {0}) (Card × Shape)) Refusal) → reading ≡ accepted i
+  pub line-judged : {desk : ℕ} {grid : List ℕ} (i : JudgeInput) (answer : Result (Result (Unit {0}) (Card × Shape))
+      Refusal) → reading ≡ accepted i
       → desk ≡ i.desk → grid ≡ i.grid
       → JudgeSays i.files.template i.files.script i.files.bookings desk grid (judge_said answer)
       → Wrote before 0 (verdict_line (judge_said answer)) after next → LineWritten reading before after next

@@ -48,7 +48,8 @@ module _ (way : Way) (j : Judged) (row : List ℕ) (i : ℕ) {kind card : ℕ} (
     pub link-named : LinkGood way j row i (card * j.walk.shapes + shape)
     link-named = subst (LinkGood way j row i) (omega (arith, base-is, e)) (one-named entry-is (omega (arith, e)))
 
-    pub link-both : (on j.grid.now (card * j.walk.shapes + shape) ≡ true) ↔ HasAll (on j.grid.now) (LinkGood way j row i)
+    pub link-both : (on j.grid.now (card * j.walk.shapes + shape) ≡ true) ↔ HasAll (on j.grid.now) (LinkGood way j row
+        i)
     link-both =
         subst (λ (p : ℕ). (on j.grid.now p ≡ true) ↔ HasAll (on j.grid.now) (LinkGood way j row i))
         (omega (arith, base-is, e)) (had-named entry-is (on j.grid.now) (omega (arith, e)))
@@ -83,10 +84,12 @@ module _ {j : Judged} {p : ℕ} (asked : MetAsked j p) where
   back = half (p % j.walk.shapes * max_labels + max_kinds)
 
   out-half : Half j.walk.names.now (p % j.walk.shapes) outgoing out
-  out-half = half-row j.walk.names.now (p % j.walk.shapes) outgoing _ _ (omega arith) (omega arith) (omega (arith, row-here))
+  out-half = half-row j.walk.names.now (p % j.walk.shapes) outgoing _ _ (omega arith) (omega arith) (omega (arith,
+  row-here))
 
   back-half : Half j.walk.names.now (p % j.walk.shapes) incoming back
-  back-half = half-row j.walk.names.now (p % j.walk.shapes) incoming _ _ (omega arith) (omega arith) (omega (arith, row-here))
+  back-half = half-row j.walk.names.now (p % j.walk.shapes) incoming _ _ (omega arith) (omega arith) (omega (arith,
+  row-here))
 
   pub arriving-asked : j.walk.incoming ≡ true → ArrivingTested j back (p / j.walk.shapes)
   arriving-asked some = record {
@@ -110,7 +113,8 @@ module _ {j : Judged} {p : ℕ} (asked : MetAsked j p) where
 
     -- its counts fit, so it is met exactly if the grid has what it needs
     module _ (fit : on j.fitting.now p ≡ true) where
-      met-by-needs : {r : Bool} → (r ≡ true) ↔ HasAll (on j.grid.now) (Needs j.walk.script.now j.walk.names.now j.walk.shapes p)
+      met-by-needs : {r : Bool} → (r ≡ true) ↔ HasAll (on j.grid.now) (Needs j.walk.script.now j.walk.names.now
+      j.walk.shapes p)
           → r ≡ met j p
       met-by-needs exact =
           let lawful = board-lawful ready j.fitting.now in
@@ -133,7 +137,8 @@ module _ {j : Judged} {p : ℕ} (asked : MetAsked j p) where
             met-by-needs (λ _. only.0 (exact.0 all), λ _. refl)
 
         pub met-both : r ≡ true → {b : Bool}
-            → (b ≡ true) ↔ HasAll (on j.grid.now) (Arriving j.walk.script.now (p / j.walk.shapes) (LinkGood incoming j back))
+            → (b ≡ true) ↔ HasAll (on j.grid.now) (Arriving j.walk.script.now (p / j.walk.shapes) (LinkGood incoming j
+            back))
             → b ≡ met j p
         met-both all other =
             let both = had-both ready asked.lent.links.leaving pair-in low high out-half back-half in

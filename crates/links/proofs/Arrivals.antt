@@ -20,7 +20,16 @@ use Rattle.script.specs.Link.{kind_at, to_at}
 use Rattle.words.specs.Chain.{last_at, Chained, Falling, Stepped}
 use Rattle.links.specs.Index.{ArrivalsOf}
 use Rattle.links.specs.Counts.{way_count}
-use Rattle.words.proofs.Chains.{last-here, last-other, chain-falls, Along, along-start, along-key, along-last, along-next}
+use Rattle.words.proofs.Chains.{
+  last-here,
+  last-other,
+  chain-falls,
+  Along,
+  along-start,
+  along-key,
+  along-last,
+  along-next,
+}
 use Rattle.links.proofs.Counts.{way-count-same, way-count-kind, way-count-past, way-count-bound}
 
 pub arrivals-fall : {script first next : List ℕ} {links : ℕ} (card : ℕ) → ArrivalsOf script first next (card + 1) links

@@ -68,7 +68,8 @@ module _ (kinds cards : ℕ) (script : List ℕ) (n i : ℕ) (done : Reading Scr
         ) refl
 
 -- The links from link i on, where some are left: what the code's test of link i makes of them.
-module _ (kinds cards : ℕ) (script : List ℕ) (count i : ℕ) (done : Reading ScriptCounts) (test : Result (Unit {0}) Refusal)
+module _ (kinds cards : ℕ) (script : List ℕ) (count i : ℕ) (done : Reading ScriptCounts) (test : Result (Unit {0})
+    Refusal)
     (l : i < count) (tested : (n : ℕ) (rest : Reading ScriptCounts) →
     read_links kinds cards script (suc n) i rest ≡ after_link test (read_links kinds cards script n (suc i) rest))
   where

@@ -33,7 +33,8 @@ large-end rounds struck bare grid shapes cards w hs hc =
     )
 
 -- Where the lines of how a desk's bookings fared end.
-pub settled-end : (found : Result ℕ (Card × Shape)) (grid : List ℕ) (shapes cards : ℕ) {out after : List ℕ} {at next : ℕ}
+pub settled-end : (found : Result ℕ (Card × Shape)) (grid : List ℕ) (shapes cards : ℕ) {out after : List ℕ} {at next :
+    ℕ}
     → Wrote out at (settled_text found grid shapes cards) after next → shapes ≤ max_shapes → cards ≤ max_cards
     → next ≤ at + typing_room
 settled-end (Ok m) grid shapes cards w hs hc =

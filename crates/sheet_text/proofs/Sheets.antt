@@ -52,7 +52,8 @@ not-met-text s grid n t (not_met m u) e =
     rw (i, j) refl
 
 -- by how a desk's bookings fared
-settled-text : (s : Sheet) (grid : List ℕ) (found : Result ℕ (Card × Shape)) (o : Outcome) → settled_said found ≡ outcome_said o
+settled-text : (s : Sheet) (grid : List ℕ) (found : Result ℕ (Card × Shape)) (o : Outcome) → settled_said found ≡
+    outcome_said o
     → settled_text found grid s.shapes s.cards ≡ smallest_text s grid o
 settled-text s grid (Ok m) o e = pairs-text s grid m o e
 settled-text s grid (Err (card, shape)) o e = not-met-text s grid card.0 shape.0 o e

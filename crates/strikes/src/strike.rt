@@ -12,8 +12,8 @@ use board::{Queue, strike_one};
 use walks::Walk;
 use words::{Chain, Kind, MAX_KINDS, Shape};
 
-// Strikes the pairs of a card whose shape names u for a kind of the index's half. Grid and queue are lent apart here and
-// below: in one struct each call would lend both again.
+// Strikes the pairs of a card whose shape names u for a kind of the index's half. Grid and queue are lent apart here
+// and below: in one struct each call would lend both again.
 fn strike_named(
     walk: &Walk,
     index: &NameIndex,

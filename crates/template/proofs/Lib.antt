@@ -1,4 +1,5 @@
--- Opening: open and closed shapes. ShapeLaws, TemplateLaws: shapes, and the template. Table: how the table of names is filled. Accepted: an accepted template. Numbers: which refusals there
+-- Opening: open and closed shapes. ShapeLaws, TemplateLaws: shapes, and the template. Table: how the table of names
+-- is filled. Accepted: an accepted template. Numbers: which refusals there
 -- are. Answers: no choice. RoundTripWritten, RoundTripRead: what is written is read, and back. RoundTrip: the templates
 -- that are read are the writings of the well-formed ones.
 pub mod Opening

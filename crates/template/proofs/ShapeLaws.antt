@@ -103,7 +103,8 @@ module _ (sizes : Sizes) (words : List ℕ) (at : ℕ) where
           then (read_part max_depth words (at + 1 + n) sizes (part_at words at) no_names) (whole_part (at + 1 + n))) e)
 
       -- A shape of no words has no part, wherever it would start.
-      pub shape-empty : (row : List ℕ) → count ≡ 0 → ShapeAnswer (read_shape sizes words at) (turned_down 4 (at + 1)) row
+      pub shape-empty : (row : List ℕ) → count ≡ 0 → ShapeAnswer (read_shape sizes words at) (turned_down 4 (at + 1))
+      row
       unfolding read_part
       shape-empty row none =
           let end : at + 1 + count ≡ at + 1 = omega arith in
@@ -112,7 +113,8 @@ module _ (sizes : Sizes) (words : List ℕ) (at : ℕ) where
 
       -- Its part was read from `start` on, into a row without names.
       module _
-          (row : List ℕ) (start : ℕ) (r : Reading ℕ) (after : List ℕ) (b : row ≡ no_names) (f : start ≡ part_at words at)
+          (row : List ℕ) (start : ℕ) (r : Reading ℕ) (after : List ℕ) (b : row ≡ no_names) (f : start ≡ part_at words
+          at)
           (q : shown r after ≡ outcome (read_part max_depth words (at + 1 + count) sizes start row)) where
         shape-finished : finished (at + 1 + count) (shown r after) ≡ next_of (read_shape sizes words at)
         shape-finished =
@@ -122,11 +124,13 @@ module _ (sizes : Sizes) (words : List ℕ) (at : ℕ) where
             ∙ ap next_of shape-by
 
         pub shape-left :
-            (n : ℕ) → r ≡ accepted n → n < at + 1 + count → ShapeAnswer (read_shape sizes words at) (turned_down 12 n) after
+            (n : ℕ) → r ≡ accepted n → n < at + 1 + count → ShapeAnswer (read_shape sizes words at) (turned_down 12 n)
+            after
         unfolding shown
         shape-left n o j = no-shape 12 n after (simp (o, lt-ltb _ _ j) at shape-finished)
 
-        pub shape-refused : (n p : ℕ) → r ≡ turned_down n p → ShapeAnswer (read_shape sizes words at) (turned_down n p) after
+        pub shape-refused : (n p : ℕ) → r ≡ turned_down n p → ShapeAnswer (read_shape sizes words at) (turned_down n
+            p) after
         unfolding shown
         shape-refused n p o = no-shape n p after (simp o at shape-finished)
 

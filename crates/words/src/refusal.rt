@@ -1,4 +1,5 @@
-// What an operation refuses its input for (docs/FORMAT.md, "Operations"): the fault, by the format's number, and its place.
+// What an operation refuses its input for (docs/FORMAT.md, "Operations"): the fault, by the format's number, and its
+// place.
 ghost use Rattle.std.specs.Prelude.{◌≡◌};
 ghost use Rattle.words.specs.Refused.{number};
 

@@ -63,12 +63,14 @@ loop-n-preserved c =
     let place = ap (λ (x : ℕ). c.loop-n.n * x + c.args.t) c.from-shapes.ensures in
     let here = below (goal.at.loop-n-preserved c).In-loop-n in
     elim c.if-twin-n.branch [
-      | then-twin-n+then-not-back w ↦ rw w.grid-is (cards-next _ _ c.args.sheet.now.extent _ _ _ _ _ _ c.loop-n.invariant here
+      | then-twin-n+then-not-back w ↦ rw w.grid-is (cards-next _ _ c.args.sheet.now.extent _ _ _ _ _ _
+          c.loop-n.invariant here
           c.requires.below place
           (λ parts r.
           ap (λ (x : ℕ). get_or c.loop-n.grid (c.from-twin.result * x + c.args.t) 0) c.from-shapes.ensures
           ∙ c.loop-n.invariant.each parts r _ w.if-twin-n.true
-          ∙ twin-byte _ _ c.args.sheet.now.extent c.requires.known.opened _ _ (twin (goal.at.loop-n-preserved c).After-from-twin) _ _ _
+          ∙ twin-byte _ _ c.args.sheet.now.extent c.requires.known.opened _ _ (twin (goal.at.loop-n-preserved
+          c).After-from-twin) _ _ _
           (named (goal.at.loop-n-preserved c).Start) _ c.looks_back-back.ensures w.if-not-back.true parts r))
       | else-twin-n w ↦ rw w.grid-is (cards-next _ _ c.args.sheet.now.extent _ _ _ _ _ _ c.loop-n.invariant here
           c.requires.below place

@@ -16,4 +16,5 @@ pub record Taking (words links listed : List ℕ) (left parts code : ℕ) (befor
 
 abbrev pub invariant-loop-count : goal.invariant-loop-count
 invariant-loop-count l =
-    Taking l.words l.amounts.links.now l.amounts.listed.now l.left l.parts l.code l.initial.eval l.eval l.count l.counted.kind l.counted.next
+    Taking l.words l.amounts.links.now l.amounts.listed.now l.left l.parts l.code l.initial.eval l.eval l.count
+    l.counted.kind l.counted.next

@@ -28,4 +28,5 @@ count_bare-bare-requires c =
 
 pub returns : goal.returns
 returns c s t =
-    struck-found t (rw c.walk_of-walk.ensures at c.strike_all-tally.ensures) (c.count_bare-bare.ensures s (counted-as t))
+    struck-found t (rw c.walk_of-walk.ensures at c.strike_all-tally.ensures) (c.count_bare-bare.ensures s (counted-as
+    t))

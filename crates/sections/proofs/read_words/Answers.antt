@@ -8,4 +8,9 @@ use Rattle.sections.proofs.read_words.Goals as goal
 
 pub returns : goal.returns
 returns g c =
-    omega (arith, ap length c.decode.ensures, words-length c.in_ok-section.section.now 0 (length c.in_ok-section.section.now / 2))
+    omega (
+      arith,
+      ap length c.decode.ensures,
+      words-length c.in_ok-section.section.now 0 (length
+          c.in_ok-section.section.now / 2),
+    )

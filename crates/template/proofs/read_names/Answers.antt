@@ -47,7 +47,8 @@ kinds c =
     ]
 
 shapes :
-    (c : Joined-then-shapes-lt1) → get_or c.args.template.now 0 0 ≤ max_kinds → TemplateRead c.args.template.now (refusal 3 (1 ∷ [])) c.args.names.now
+    (c : Joined-then-shapes-lt1) → get_or c.args.template.now 0 0 ≤ max_kinds → TemplateRead c.args.template.now
+    (refusal 3 (1 ∷ [])) c.args.names.now
 shapes c few =
     elim c.then-shapes-lt1.branch [
       | then-shapes-lt1-via-then-shapes-lt1 w ↦

@@ -5,7 +5,8 @@ use Rattle.flat.proofs.meet.meet_card.Goals as goal
 
 pub returns-in_err-leaving : goal.returns-in_err-leaving
 returns-in_err-leaving c p kinds surveyed under =
-    rw c.from_residual.ensures (card-unnamed c.requires c.args.is_open _ p kinds surveyed under c.in_err-leaving.ensures)
+    rw c.from_residual.ensures (card-unnamed c.requires c.args.is_open _ p kinds surveyed under
+    c.in_err-leaving.ensures)
 
 pub meet_arriving-both-requires : goal.meet_arriving-both-requires
 meet_arriving-both-requires c = arriving-asked c.requires _ c.in_ok-leaving.ensures

@@ -45,6 +45,9 @@ loop-i-preserved c =
 pub returns : goal.returns
 returns c =
     record {
-      exact = λ k h. arriving-done c.loop-i.invariant.1 c.in-None.ensures.steps.0 k (omega (arith, c.loop-i.invariant.0));
+      exact = λ k h. arriving-done c.loop-i.invariant.1 c.in-None.ensures.steps.0 k (omega (
+        arith,
+        c.loop-i.invariant.0,
+      ));
       size = c.loop-i.invariant.0;
     }

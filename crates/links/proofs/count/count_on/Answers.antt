@@ -32,7 +32,9 @@ returns c =
     let off = c.loop-next.invariant in elim c.loop-next-test.branch [
       | else-loop-next-test w ↦ rw w.count-is (off-end rise off (omega arith))
       | then-loop-next-test+else-kind-links+else-next-end-next-gt3 w ↦ elim w.if-kind-links-2.branch [
-        | then-kind-links-2 v ↦ rw (w.count-is, v.count-is) (off-end rise (off-same rise off (omega arith) (omega arith)) (omega arith))
-        | else-kind-links-2 v ↦ rw (w.count-is, v.count-is) (off-end rise (off-other rise off (omega arith) (omega arith)) (omega arith))
+        | then-kind-links-2 v ↦ rw (w.count-is, v.count-is) (off-end rise (off-same rise off (omega arith) (omega
+            arith)) (omega arith))
+        | else-kind-links-2 v ↦ rw (w.count-is, v.count-is) (off-end rise (off-other rise off (omega arith) (omega
+            arith)) (omega arith))
       ]
     ]

@@ -97,7 +97,8 @@ pub run-loop-preserved : goal.run-loop-preserved
 run-loop-preserved t c =
     let one_less : c.args.count - (c.loop.counter + 1) ≡ c.args.count - c.loop.counter - 1 = omega arith in
     rw one_less
-    (remaining-next c.loop.invariant c.part.new.row (omega arith) c.in_ok-next.next c.in_ok-next.ensures c.part.auto.row)
+    (remaining-next c.loop.invariant c.part.new.row (omega arith) c.in_ok-next.next c.in_ok-next.ensures
+    c.part.auto.row)
 
 pub run-returns-in_err-next : goal.run-returns-in_err-next
 run-returns-in_err-next t c =

@@ -14,4 +14,5 @@ decreases-run l = 2 * (l.self.now.end - l.at) + 1
 -- what holds before each turn of `run`
 abbrev pub invariant-run-loop : goal.invariant-run-loop
 invariant-run-loop l =
-    Remaining l.left l.self.words.now l.self.end l.self.sizes l.count l.at l.initial.row (l.count - l.counter) l.next l.row
+    Remaining l.left l.self.words.now l.self.end l.self.sizes l.count l.at l.initial.row (l.count - l.counter) l.next
+    l.row

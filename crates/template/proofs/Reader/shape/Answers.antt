@@ -31,7 +31,8 @@ returns-then-words-start-clause-reads c =
 
 pub returns-then-count-eq0-clause-reads : goal.returns-then-count-eq0-clause-reads
 returns-then-count-eq0-clause-reads c =
-    shape-empty c.args.sizes c.args.self.now.words.now c.args.self.now.at c.from-count.result (inside (goal.at.returns-then-count-eq0-clause-reads
+    shape-empty c.args.sizes c.args.self.now.words.now c.args.self.now.at c.from-count.result (inside
+    (goal.at.returns-then-count-eq0-clause-reads
     c).After-from-count)
     c.from-count.ensures c.if-words-start.false c.args.row.now c.if-count-eq0.true
 
@@ -42,7 +43,8 @@ part-requires c =
 
 pub returns-then-next-end-clause-reads : goal.returns-then-next-end-clause-reads
 returns-then-next-end-clause-reads c =
-    shape-left c.args.sizes c.args.self.now.words.now c.args.self.now.at c.from-count.result (inside (goal.at.returns-then-next-end-clause-reads
+    shape-left c.args.sizes c.args.self.now.words.now c.args.self.now.at c.from-count.result (inside
+    (goal.at.returns-then-next-end-clause-reads
     c).After-from-count)
     c.from-count.ensures (follow (goal.at.returns-then-next-end-clause-reads c).After-part) c.args.row.now
     c.part_at-first.result (read_as c.part.result) _
@@ -51,7 +53,8 @@ returns-then-next-end-clause-reads c =
 
 pub returns-clause-reads : goal.returns-clause-reads
 returns-clause-reads c =
-    shape-done c.args.sizes c.args.self.now.words.now c.args.self.now.at c.from-count.result (inside (goal.at.returns-clause-reads
+    shape-done c.args.sizes c.args.self.now.words.now c.args.self.now.at c.from-count.result (inside
+    (goal.at.returns-clause-reads
     c).After-from-count)
     c.from-count.ensures (follow (goal.at.returns-clause-reads c).After-part) c.args.row.now
     c.part_at-first.result (read_as c.part.result) _
@@ -62,7 +65,8 @@ pub returns-in_err-next-clause-reads : goal.returns-in_err-next-clause-reads
 returns-in_err-next-clause-reads c =
     let p = err_from_is_err_and c.from_residual.result c.from_residual.ensures.1 in
     rw (p.1, p.2)
-    (shape-refused c.args.sizes c.args.self.now.words.now c.args.self.now.at c.from-count.result (inside (goal.at.returns-in_err-next-clause-reads
+    (shape-refused c.args.sizes c.args.self.now.words.now c.args.self.now.at c.from-count.result (inside
+    (goal.at.returns-in_err-next-clause-reads
     c).After-from-count)
     c.from-count.ensures (follow (goal.at.returns-in_err-next-clause-reads c).After-part) c.args.row.now
     c.part_at-first.result (read_as c.part.result) _

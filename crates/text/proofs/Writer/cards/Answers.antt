@@ -21,4 +21,5 @@ card-requires c =
 
 pub loop-n-preserved : goal.loop-n-preserved
 loop-n-preserved c =
-    adds-same (adds-append c.loop-n.invariant c.card.ensures) (sym (cards-next c.args.grid.now c.args.shapes c.loop-n.n))
+    adds-same (adds-append c.loop-n.invariant c.card.ensures) (sym (cards-next c.args.grid.now c.args.shapes
+    c.loop-n.n))
