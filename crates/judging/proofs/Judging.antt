@@ -84,12 +84,16 @@ module _ {j : Judged} {p : ℕ} (asked : MetAsked j p) where
   back = half (p % j.walk.shapes * max_labels + max_kinds)
 
   out-half : Half j.walk.names.now (p % j.walk.shapes) outgoing out
-  out-half = half-row j.walk.names.now (p % j.walk.shapes) outgoing _ _ (omega arith) (omega arith) (omega (arith,
-  row-here))
+  out-half = half-row j.walk.names.now (p % j.walk.shapes) outgoing _ _ (omega arith) (omega arith) (omega (
+    arith,
+    row-here,
+  ))
 
   back-half : Half j.walk.names.now (p % j.walk.shapes) incoming back
-  back-half = half-row j.walk.names.now (p % j.walk.shapes) incoming _ _ (omega arith) (omega arith) (omega (arith,
-  row-here))
+  back-half = half-row j.walk.names.now (p % j.walk.shapes) incoming _ _ (omega arith) (omega arith) (omega (
+    arith,
+    row-here,
+  ))
 
   pub arriving-asked : j.walk.incoming ≡ true → ArrivingTested j back (p / j.walk.shapes)
   arriving-asked some = record {
@@ -114,7 +118,7 @@ module _ {j : Judged} {p : ℕ} (asked : MetAsked j p) where
     -- its counts fit, so it is met exactly if the grid has what it needs
     module _ (fit : on j.fitting.now p ≡ true) where
       met-by-needs : {r : Bool} → (r ≡ true) ↔ HasAll (on j.grid.now) (Needs j.walk.script.now j.walk.names.now
-      j.walk.shapes p)
+          j.walk.shapes p)
           → r ≡ met j p
       met-by-needs exact =
           let lawful = board-lawful ready j.fitting.now in

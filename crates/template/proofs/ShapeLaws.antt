@@ -104,7 +104,7 @@ module _ (sizes : Sizes) (words : List ℕ) (at : ℕ) where
 
       -- A shape of no words has no part, wherever it would start.
       pub shape-empty : (row : List ℕ) → count ≡ 0 → ShapeAnswer (read_shape sizes words at) (turned_down 4 (at + 1))
-      row
+          row
       unfolding read_part
       shape-empty row none =
           let end : at + 1 + count ≡ at + 1 = omega arith in
