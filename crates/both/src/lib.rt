@@ -1,67 +1,54 @@
 // Both typings in one call: the largest, and the smallest for a desk. Each pair's counts are tested once.
 #![tactic(auto)]
 
-ghost use Rattle.std.specs.Prelude.{◌≡◌, Ok};
-ghost use Rattle.words.specs.Reading.{accepted};
-ghost use Rattle.sheet.specs.Sheet.{Sheet, read_sheet};
+ghost use Rattle.std.specs.Prelude.{Ok};
+ghost use Rattle.sheet.specs.Sheet.{Sheet};
 ghost use Rattle.bookings.specs.Bookings.{Booked};
 ghost use Rattle.typing.specs.Answer.{both_said};
 ghost use Rattle.typing.specs.Calls.{BothFound, BothSays};
 ghost use Rattle.lent.specs.Readings.{TwoGrids};
+ghost use Rattle.pairs.specs.Pairs.{ReadsTo};
 
 use board::Queue;
-use lent::{grid_size, read_lent};
+use lent::{ListedSheet, grid_size, read_lent};
+use links::{CardLinks, Chains};
 use pairs::{STARTS, chain_arrivals, test_pairs};
 use searches::{settle, strike};
-use sheet::Extent;
+use sheet::ReadSheet;
 use typing::Both;
 use words::{Fault, MAX_CARDS, MAX_LINKS, Refusal, TABLE_SIZE};
 
 // Both typings of a sheet and a desk's bookings that are read, in grids of its size. A pair's counts are tested once.
-fn both_of(
-    template: &[u16],
-    script: &[u16],
-    bookings: &[u16],
-    count: u16,
-    desk: u16,
-    names: &[u8],
-    e: Extent,
-    small: &mut [u8],
-    large: &mut [u8],
-) -> Both
-    requires { TwoGrids template.now script.now names.now e bookings.now count desk small.old
-        large.old }
-    ensures { (s : Sheet) → read_sheet template.now script.now ≡ accepted s
-        → BothFound s (Booked bookings.now desk) small.new large.new
-        (both_said (Ok result)) }
+fn both_of(listed: &ListedSheet, desk: u16, small: &mut [u8], large: &mut [u8]) -> Both
+    requires { TwoGrids listed.now desk small.old large.old }
+    ensures { (s : Sheet) → ReadsTo listed.now.sheet s
+        → BothFound s (Booked listed.now.bookings.now desk) small.new large.new (both_said (Ok result)) }
 {
+    let sheet = &listed.sheet;
     let mut first = [0u16; MAX_CARDS];
     let mut next = [0u16; MAX_LINKS];
-    chain_arrivals(script, e, &mut first, &mut next);
+    chain_arrivals(sheet.script, sheet.extent, &mut first, &mut next);
+    let chains = Chains {
+        first: &first,
+        next: &next,
+    };
     let mut starts = [0u16; STARTS];
-    test_pairs(
-        template,
-        script,
-        &first,
-        &next,
-        names,
-        e,
-        &mut starts,
-        large,
-    );
+    test_pairs(sheet, &chains, &mut starts, large);
+    let links = CardLinks {
+        starts: &starts,
+        chains,
+    };
     let mut queue = Queue::new();
-    let smallest = settle(
-        script, &starts, &first, &next, bookings, count, desk, names, e, large, small, &mut queue,
-    );
-    let largest = strike(script, &starts, &first, &next, names, e, large, &mut queue);
+    let smallest = settle(listed, &links, desk, large, small, &mut queue);
+    let largest = strike(sheet, &links, large, &mut queue);
     Both { largest, smallest }
 }
 
 // Both typings in one call: each as its own call gives it, and what holds of the two together.
-pub fn both_typings(
-    template: &[u16],
-    script: &[u16],
-    bookings: &[u16],
+pub fn both_typings<'a>(
+    template: &'a [u16],
+    script: &'a [u16],
+    bookings: &'a [u16],
     desk: u16,
     small: &mut [u8],
     large: &mut [u8],
@@ -75,7 +62,15 @@ pub fn both_typings(
     if large.len() != grid_size(e) {
         return Err(Refusal(Fault::BufferLength, 0));
     }
-    Ok(both_of(
-        template, script, bookings, count, desk, &names, e, small, large,
-    ))
+    let listed = ListedSheet {
+        sheet: ReadSheet {
+            template,
+            script,
+            names: &names,
+            extent: e,
+        },
+        bookings,
+        count,
+    };
+    Ok(both_of(&listed, desk, small, large))
 }

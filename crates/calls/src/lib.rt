@@ -3,105 +3,90 @@
 // the bookings. These are a function of their own, with `_of` to the call's name.
 #![tactic(auto)]
 
-ghost use Rattle.std.specs.Prelude.{◌≡◌};
-ghost use Rattle.words.specs.Reading.{accepted};
-ghost use Rattle.sheet.specs.Sheet.{Sheet, read_sheet};
+ghost use Rattle.sheet.specs.Sheet.{Sheet};
 ghost use Rattle.bookings.specs.Bookings.{Booked};
 ghost use Rattle.typing.specs.Answer.{largest_said, smallest_said, struck_said, settled_said};
 ghost use Rattle.typing.specs.Calls.{LargestFound, LargestSays, SmallestFound, SmallestSays};
 ghost use Rattle.lent.specs.Readings.{TwoGrids};
-ghost use Rattle.pairs.specs.Pairs.{SheetGrid};
+ghost use Rattle.pairs.specs.Pairs.{SheetGrid, ReadsTo};
 ghost use Rattle.calls.specs.Lent.{SmallestLent};
 
 use board::Queue;
-use lent::{grid_size, read_lent};
+use lent::{ListedSheet, grid_size, read_lent};
+use links::{CardLinks, Chains};
 use pairs::{STARTS, chain_arrivals, test_pairs};
 use searches::{settle, strike};
-use sheet::{Extent, read_sheet};
+use sheet::{ReadSheet, read_sheet};
 use typing::{Settled, Struck};
 use words::{Fault, MAX_CARDS, MAX_GRID, MAX_LINKS, Refusal, TABLE_SIZE};
 
 // The largest typing of a sheet that is read, in a grid of its size.
-fn largest_of(template: &[u16], script: &[u16], names: &[u8], e: Extent, grid: &mut [u8]) -> Struck
-    requires { SheetGrid template.now script.now names.now e grid.old }
-    ensures { (s : Sheet) → read_sheet template.now script.now ≡ accepted s
-        → LargestFound s grid.new (struck_said result) }
+fn largest_of(sheet: &ReadSheet, grid: &mut [u8]) -> Struck
+    requires { SheetGrid sheet.now grid.old }
+    ensures { (s : Sheet) → ReadsTo sheet.now s → LargestFound s grid.new (struck_said result) }
 {
     let mut first = [0u16; MAX_CARDS];
     let mut next = [0u16; MAX_LINKS];
-    chain_arrivals(script, e, &mut first, &mut next);
+    chain_arrivals(sheet.script, sheet.extent, &mut first, &mut next);
+    let chains = Chains {
+        first: &first,
+        next: &next,
+    };
     let mut starts = [0u16; STARTS];
-    test_pairs(template, script, &first, &next, names, e, &mut starts, grid);
+    test_pairs(sheet, &chains, &mut starts, grid);
+    let links = CardLinks {
+        starts: &starts,
+        chains,
+    };
     let mut queue = Queue::new();
-    strike(script, &starts, &first, &next, names, e, grid, &mut queue)
+    strike(sheet, &links, grid, &mut queue)
 }
 
 // The smallest typing of a sheet and a desk's bookings that are read, in a grid of its size, by where the links to each
 // card stand. The other grid of its size then has the pairs whose counts fit.
 fn smallest_by(
-    template: &[u16],
-    script: &[u16],
-    first: &[u16],
-    next: &[u16],
-    bookings: &[u16],
-    count: u16,
+    listed: &ListedSheet,
+    chains: &Chains,
     desk: u16,
-    names: &[u8],
-    e: Extent,
     fitting: &mut [u8],
     grid: &mut [u8],
 ) -> Settled
-    requires { SmallestLent template.now script.now names.now e first.now next.now bookings.now count desk
-        grid.old fitting.old }
-    ensures { (s : Sheet) → read_sheet template.now script.now ≡ accepted s
-        → SmallestFound s (Booked bookings.now desk) grid.new (settled_said result) }
+    requires { SmallestLent listed.now chains.now desk grid.old fitting.old }
+    ensures { (s : Sheet) → ReadsTo listed.now.sheet s
+        → SmallestFound s (Booked listed.now.bookings.now desk) grid.new (settled_said result) }
 {
     let mut starts = [0u16; STARTS];
-    test_pairs(
-        template,
-        script,
-        first,
-        next,
-        names,
-        e,
-        &mut starts,
-        fitting,
-    );
+    test_pairs(&listed.sheet, chains, &mut starts, fitting);
+    let links = CardLinks {
+        starts: &starts,
+        chains: *chains,
+    };
     let mut queue = Queue::new();
-    settle(
-        script, &starts, first, next, bookings, count, desk, names, e, fitting, grid, &mut queue,
-    )
+    settle(listed, &links, desk, fitting, grid, &mut queue)
 }
 
 // The same. The links to each card are chained where some shape names an incoming kind.
-fn smallest_of(
-    template: &[u16],
-    script: &[u16],
-    bookings: &[u16],
-    count: u16,
-    desk: u16,
-    names: &[u8],
-    e: Extent,
-    fitting: &mut [u8],
-    grid: &mut [u8],
-) -> Settled
-    requires { TwoGrids template.now script.now names.now e bookings.now count desk grid.old
-        fitting.old }
-    ensures { (s : Sheet) → read_sheet template.now script.now ≡ accepted s
-        → SmallestFound s (Booked bookings.now desk) grid.new (settled_said result) }
+fn smallest_of(listed: &ListedSheet, desk: u16, fitting: &mut [u8], grid: &mut [u8]) -> Settled
+    requires { TwoGrids listed.now desk grid.old fitting.old }
+    ensures { (s : Sheet) → ReadsTo listed.now.sheet s
+        → SmallestFound s (Booked listed.now.bookings.now desk) grid.new (settled_said result) }
 {
-    if e.incoming {
+    let sheet = &listed.sheet;
+    if sheet.extent.incoming {
         let mut first = [0u16; MAX_CARDS];
         let mut next = [0u16; MAX_LINKS];
-        chain_arrivals(script, e, &mut first, &mut next);
-        return smallest_by(
-            template, script, &first, &next, bookings, count, desk, names, e, fitting, grid,
-        );
+        chain_arrivals(sheet.script, sheet.extent, &mut first, &mut next);
+        let chains = Chains {
+            first: &first,
+            next: &next,
+        };
+        return smallest_by(listed, &chains, desk, fitting, grid);
     }
-    let none = &script[0..0];
-    smallest_by(
-        template, script, none, none, bookings, count, desk, names, e, fitting, grid,
-    )
+    let none = Chains {
+        first: &[],
+        next: &[],
+    };
+    smallest_by(listed, &none, desk, fitting, grid)
 }
 
 // Largest: rounds, pairs struck and cards with some link and no shape, and the typing in the grid.
@@ -114,15 +99,21 @@ pub fn largest(template: &[u16], script: &[u16], grid: &mut [u8]) -> Result<Stru
     if grid.len() != grid_size(e) {
         return Err(Refusal(Fault::BufferLength, 0));
     }
-    Ok(largest_of(template, script, &names, e, grid))
+    let sheet = ReadSheet {
+        template,
+        script,
+        names: &names,
+        extent: e,
+    };
+    Ok(largest_of(&sheet, grid))
 }
 
 // Smallest: the number of pairs and the typing in the grid; or 50, the pair that is not met, and the grid all 0. The
 // bookings are the desk's.
-pub fn smallest(
-    template: &[u16],
-    script: &[u16],
-    bookings: &[u16],
+pub fn smallest<'a>(
+    template: &'a [u16],
+    script: &'a [u16],
+    bookings: &'a [u16],
     desk: u16,
     grid: &mut [u8],
 ) -> Result<Settled, Refusal>
@@ -134,7 +125,15 @@ pub fn smallest(
     let size = grid_size(e);
     let mut fitting = [0u8; MAX_GRID];
     let pairs = &mut fitting[0..size];
-    Ok(smallest_of(
-        template, script, bookings, count, desk, &names, e, pairs, grid,
-    ))
+    let listed = ListedSheet {
+        sheet: ReadSheet {
+            template,
+            script,
+            names: &names,
+            extent: e,
+        },
+        bookings,
+        count,
+    };
+    Ok(smallest_of(&listed, desk, pairs, grid))
 }

@@ -1,54 +1,42 @@
 // The typings of both desks in one call: the largest, and each desk's smallest. Each pair's counts are tested once.
 #![tactic(auto)]
 
-ghost use Rattle.std.specs.Prelude.{◌≡◌};
-ghost use Rattle.words.specs.Reading.{accepted};
-ghost use Rattle.sheet.specs.Sheet.{Sheet, read_sheet};
+ghost use Rattle.sheet.specs.Sheet.{Sheet};
 ghost use Rattle.typing.specs.Answer.{desks_said};
 ghost use Rattle.typing.specs.Desks.{DesksFound, DesksSays};
-ghost use Rattle.pairs.specs.Pairs.{SheetTested};
+ghost use Rattle.pairs.specs.Pairs.{ReadsTo, TestedAs};
 ghost use Rattle.desks.specs.ThreeGrids.{ThreeGrids, DesksAsked, desks_of};
 
 use board::Queue;
-use lent::{grid_size, read_booked};
+use lent::{ListedSheet, grid_size, read_booked};
+use links::{CardLinks, Chains};
 use pairs::{STARTS, chain_arrivals, test_pairs};
 use searches::{settle, strike};
-use sheet::Extent;
+use sheet::ReadSheet;
 use typing::Desks;
 use words::{Fault, MAX_CARDS, MAX_LINKS, Refusal, TABLE_SIZE};
 
 // The typings of a sheet whose pairs are tested, as the last grid says: each desk's bookings are settled, 0 being
 // radio's and 1 television's, and then rounds are struck in that grid.
 fn desks_tested(
-    script: &[u16],
-    starts: &[u16; STARTS],
-    first: &[u16; MAX_CARDS],
-    next: &[u16; MAX_LINKS],
-    bookings: &[u16],
-    count: u16,
-    names: &[u8],
-    e: Extent,
+    listed: &ListedSheet,
+    links: &CardLinks,
     radio: &mut [u8],
     television: &mut [u8],
     large: &mut [u8],
 ) -> Desks
-    requires { DesksAsked script.now names.now e starts.now first.now next.now bookings.now count
-        radio.old television.old large.old }
-    ensures { (s : Sheet) → SheetTested s script.now names.now e large.old
-        → DesksFound s bookings.now (record {
+    requires { DesksAsked listed.now links.now radio.old television.old large.old }
+    ensures { (s : Sheet) → TestedAs s listed.now.sheet large.old
+        → DesksFound s listed.now.bookings.now (record {
           radio = radio.exit.now;
           television = television.new;
           large = large.new;
         }) (desks_of result) }
 {
     let mut queue = Queue::new();
-    let one = settle(
-        script, starts, first, next, bookings, count, 0, names, e, large, radio, &mut queue,
-    );
-    let other = settle(
-        script, starts, first, next, bookings, count, 1, names, e, large, television, &mut queue,
-    );
-    let largest = strike(script, starts, first, next, names, e, large, &mut queue);
+    let one = settle(listed, links, 0, large, radio, &mut queue);
+    let other = settle(listed, links, 1, large, television, &mut queue);
+    let largest = strike(&listed.sheet, links, large, &mut queue);
     Desks {
         largest,
         radio: one,
@@ -58,50 +46,42 @@ fn desks_tested(
 
 // The typings of a sheet and bookings that are read, in grids of its size.
 pub fn desks_of(
-    template: &[u16],
-    script: &[u16],
-    bookings: &[u16],
-    count: u16,
-    names: &[u8],
-    e: Extent,
+    listed: &ListedSheet,
     radio: &mut [u8],
     television: &mut [u8],
     large: &mut [u8],
 ) -> Desks
-    requires { ThreeGrids template.now script.now names.now e bookings.now count radio.old
-        television.old large.old }
-    ensures { (s : Sheet) → read_sheet template.now script.now ≡ accepted s
-        → DesksFound s bookings.now (record {
+    requires { ThreeGrids listed.now radio.old television.old large.old }
+    ensures { (s : Sheet) → ReadsTo listed.now.sheet s
+        → DesksFound s listed.now.bookings.now (record {
           radio = radio.exit.now;
           television = television.new;
           large = large.new;
         }) (desks_of result) }
 {
+    let sheet = &listed.sheet;
     let mut first = [0u16; MAX_CARDS];
     let mut next = [0u16; MAX_LINKS];
-    chain_arrivals(script, e, &mut first, &mut next);
+    chain_arrivals(sheet.script, sheet.extent, &mut first, &mut next);
+    let chains = Chains {
+        first: &first,
+        next: &next,
+    };
     let mut starts = [0u16; STARTS];
-    test_pairs(
-        template,
-        script,
-        &first,
-        &next,
-        names,
-        e,
-        &mut starts,
-        large,
-    );
-    desks_tested(
-        script, &starts, &first, &next, bookings, count, names, e, radio, television, large,
-    )
+    test_pairs(sheet, &chains, &mut starts, large);
+    let links = CardLinks {
+        starts: &starts,
+        chains,
+    };
+    desks_tested(listed, &links, radio, television, large)
 }
 
 // Both desks: the largest typing and each desk's smallest, as the calls for them give them, and what holds of each two
 // together.
-pub fn desk_typings(
-    template: &[u16],
-    script: &[u16],
-    bookings: &[u16],
+pub fn desk_typings<'a>(
+    template: &'a [u16],
+    script: &'a [u16],
+    bookings: &'a [u16],
     radio: &mut [u8],
     television: &mut [u8],
     large: &mut [u8],
@@ -117,7 +97,15 @@ pub fn desk_typings(
     if radio.len() != size || television.len() != size || large.len() != size {
         return Err(Refusal(Fault::BufferLength, 0));
     }
-    Ok(desks_of(
-        template, script, bookings, count, &names, e, radio, television, large,
-    ))
+    let listed = ListedSheet {
+        sheet: ReadSheet {
+            template,
+            script,
+            names: &names,
+            extent: e,
+        },
+        bookings,
+        count,
+    };
+    Ok(desks_of(&listed, radio, television, large))
 }

@@ -9,7 +9,7 @@ ghost use Rattle.flat.specs.Meeting.{LeavingAsked, LeavingAs, ArrivingAsked, Arr
 
 use bags::{Span, TOP, link_span, meet_span};
 use links::run_length;
-use words::{MAX_LABELS, wide};
+use words::MAX_LABELS;
 
 // The interval so far, and how many of the links that must be there are.
 #[derive(Clone, Copy)]
@@ -50,7 +50,7 @@ fn meet_leaving(words: &[u16], places: &[u16], is_open: bool, links: &[u16]) -> 
     // a cursor: each step's width depends on the run at it
     while at < links.len() {
         let kind = links[at];
-        let place = wide(places[wide(kind)]);
+        let place = usize::from(places[usize::from(kind)]);
         if place == 0 && !is_open {
             return None;
         }
@@ -70,7 +70,7 @@ fn place_of(place: u16, count: u16) -> usize
     if count == 0 {
         return 0;
     }
-    wide(place)
+    usize::from(place)
 }
 
 // Goes along the counts of the last labels.

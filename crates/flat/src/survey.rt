@@ -4,8 +4,6 @@ ghost use Rattle.bags.specs.Part.{Part};
 ghost use Rattle.flat.specs.Places.{Standing, SurveyAsked, SurveyedAs};
 ghost use Rattle.flat.specs.Places.{code_size, LinkRoom, EnterAsked, entered, must_at};
 
-use words::wide;
-
 // How many words a code takes with what belongs to it: nothing 1, all 2, a link 4; the codes of other parts have no
 // size here.
 #[tactic(auto, unfolding(crate::specs::Places::code_size))]
@@ -27,7 +25,7 @@ fn enter(words: &[u16], at: usize, places: &mut [u16])
 {
     let code = words[at];
     if 256 <= code {
-        places[wide(code - 256)] = at as u16;
+        places[usize::from(code - 256)] = at as u16;
     }
 }
 

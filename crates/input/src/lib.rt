@@ -8,7 +8,7 @@ ghost use Rattle.input.specs.Input.{word_at, words_from, section_end, read_front
 ghost use Rattle.input.specs.Machine.{words_in, part_in, sections_read, SectionFound, AllWithin};
 ghost use Rattle.input.specs.Machine.{FrontInside, SectionsInside};
 
-use words::{MAX_INPUT, wide};
+use words::MAX_INPUT;
 
 // Where a section's words start in the input, and how many they are.
 #[derive(Clone, Copy)]
@@ -58,7 +58,7 @@ pub fn count_at(bytes: &[u8], at: usize) -> usize
     requires { at + 2 ≤ length bytes.now }
     ensures { Bounded 65536 (word_at bytes.now at) result }
 {
-    wide(word_at(bytes, at))
+    usize::from(word_at(bytes, at))
 }
 
 impl Section {

@@ -13,7 +13,7 @@ ghost use Rattle.joins.specs.Machine.{CountAsked, LabelCounted, JoinAsked, TakeA
 use bags::{Span, add_span, link_span, meet_span, wrap_span, zero_span};
 use links::{KindCount, count_on};
 use trees::word;
-use words::{MAX_LABELS, wide};
+use words::MAX_LABELS;
 
 // What evaluating a part finds: the next place, and its interval.
 #[derive(Clone, Copy)]
@@ -47,7 +47,7 @@ pub fn count_next(links: &[u16], listed: &[u16], before: KindCount, label: u16) 
     ensures { LabelCounted links.now listed.now label result.count result.kind result.next }
 {
     let first = MAX_LABELS - listed.len();
-    let at = wide(label);
+    let at = usize::from(label);
     if at < first {
         return count_on(links, before, label);
     }

@@ -16,7 +16,10 @@ use Rattle.text.specs.Text.{refused_line}
 use Rattle.text.specs.Verdict.{verdict_line}
 use Rattle.text.proofs.Lines.{verdict-refused}
 use Rattle.text.proofs.Output.{outputs-wrote}
-use Rattle.typing.specs.declared.JudgeAnswer.{JudgeAnswer}
+use Rattle.std.specs.Prelude.{Result}
+use Rattle.words.specs.declared.Card.{Card}
+use Rattle.words.specs.declared.Shape.{Shape}
+use Rattle.words.specs.declared.refusal.Refusal.{Refusal}
 use Rattle.typing.specs.Answer.{judge_said}
 use Rattle.typing.specs.Judge.{JudgeSays}
 use Rattle.judge_line.specs.JudgeInput.{max_judged, JudgeInput, read_grid, read_judge_input}
@@ -24,7 +27,7 @@ use Rattle.judge_line.specs.JudgeLine.{InputJudged, Judges}
 use Rattle.judge_line.specs.Steps.{LineWritten}
 
 -- A line, by what the judge answers.
-pub verdict-wrote : {before after : List ℕ} {next : ℕ} {said answer : JudgeAnswer} → said ≡ answer
+pub verdict-wrote : {before after : List ℕ} {next : ℕ} {said answer : Result (Result (Unit {0}) (Card × Shape)) Refusal} → said ≡ answer
     → Wrote before 0 (verdict_line (judge_said answer)) after next
     → Wrote before 0 (verdict_line (judge_said said)) after next
 verdict-wrote e w = rw e w
@@ -40,7 +43,7 @@ module _ {reading : Reading JudgeInput} {before after : List ℕ} {next : ℕ} w
         wrote = wrote-same (verdict-refused number place) w;
       }
 
-  pub line-judged : {desk : ℕ} {grid : List ℕ} (i : JudgeInput) (answer : JudgeAnswer) → reading ≡ accepted i
+  pub line-judged : {desk : ℕ} {grid : List ℕ} (i : JudgeInput) (answer : Result (Result (Unit {0}) (Card × Shape)) Refusal) → reading ≡ accepted i
       → desk ≡ i.desk → grid ≡ i.grid
       → JudgeSays i.files.template i.files.script i.files.bookings desk grid (judge_said answer)
       → Wrote before 0 (verdict_line (judge_said answer)) after next → LineWritten reading before after next

@@ -2,7 +2,7 @@
 -- ArrivalsAsked what chaining the links to each card asks; ArrivalsChained: and leaves
 -- SheetGrid     a sheet that is read, with a grid of its size; TestAsked: what testing the pairs asks
 -- SheetTested   a sheet that is read, its table of names, and the grid of the pairs that fit by counts
--- TestedAs      the same of a sheet that is lent
+-- ReadsTo, TestedAs   a sheet that is lent is read as one, and tested so
 -- SomeTested    some sheet is tested, and where its links stand is known
 -- walk_on       what a search on a sheet goes by
 -- PairsTested   what testing the pairs leaves: some sheet is tested so, and each that the readings ask for
@@ -48,7 +48,11 @@ pub record SheetTested (s : Sheet) (script names : List ℕ) (e : Extent) (fitti
   pub asked : read_sheet template script ≡ accepted s
   pub fits : Fitted template script e s.parts fitting
 
--- The same of a sheet that is lent.
+-- The template and the script of a sheet that is lent are read as the sheet s.
+abbrev pub ReadsTo : ReadSheet → Sheet → Type 0
+ReadsTo lent s = read_sheet lent.template.now lent.script.now ≡ accepted s
+
+-- A sheet that is lent is tested so.
 abbrev pub TestedAs : Sheet → ReadSheet → List ℕ → Type 0
 TestedAs s sheet fitting = SheetTested s sheet.script.now sheet.names.now sheet.extent fitting
 
@@ -61,7 +65,7 @@ pub record SomeTested (lent : ReadSheet) (starts : List ℕ) (chains : Chains) (
 -- What testing the pairs leaves: some sheet is tested so, and each that the readings ask for is.
 pub record PairsTested (lent : ReadSheet) (starts : List ℕ) (chains : Chains) (fitting : List ℕ) : Type 0 where
   pub some : SomeTested lent starts chains fitting
-  pub tested : (s : Sheet) → read_sheet lent.template.now lent.script.now ≡ accepted s → TestedAs s lent fitting
+  pub tested : (s : Sheet) → ReadsTo lent s → TestedAs s lent fitting
 
 -- What a search on a sheet goes by.
 abbrev pub walk_on : ReadSheet → CardLinks → Walk

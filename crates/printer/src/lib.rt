@@ -10,10 +10,11 @@ ghost use Rattle.printer.specs.Printed.{Prints};
 ghost use Rattle.printer.specs.Steps.{SectionsLent};
 
 use input::{Sections, find_sections};
-use lent::{BookedRead, grid_size, read_booked};
+use lent::{ListedSheet, grid_size, read_booked};
+use sheet::ReadSheet;
 use sheet_text::print_grids;
 use text::put_refused;
-use words::{MAX_GRID, MAX_INPUT, TABLE_SIZE};
+use words::{Fault, MAX_GRID, MAX_INPUT, Refusal, TABLE_SIZE};
 
 // Room for the text of any sheet, as specs/Steps of sheet_text has it.
 pub const TEXT_ROOM: usize = 393216;
@@ -22,27 +23,36 @@ pub const TEXT_ROOM: usize = 393216;
 const MAX_WORDS: usize = MAX_INPUT / 2;
 
 // The text of a template, a script and bookings.
-fn print_words(template: &[u16], script: &[u16], bookings: &[u16], out: &mut [u8]) -> usize
+fn print_words<'a>(
+    template: &'a [u16],
+    script: &'a [u16],
+    bookings: &'a [u16],
+    out: &mut [u8],
+) -> usize
     requires { text_room ≤ length out.old }
     ensures { SheetWritten template.now script.now bookings.now
         out.old out.new result }
 {
     let mut names = [0u8; TABLE_SIZE];
-    let read = read_booked(template, script, bookings, &mut names);
-    match read {
-        BookedRead::Refused(number, place) => put_refused(out, usize::from(number), place),
-        BookedRead::Sheet(e, count) => {
+    match read_booked(template, script, bookings, &mut names) {
+        Err(refusal) => put_refused(out, refusal),
+        Ok((e, count)) => {
             let size = grid_size(e);
             let mut radio = [0u8; MAX_GRID];
             let mut television = [0u8; MAX_GRID];
             let mut large = [0u8; MAX_GRID];
-            print_grids(
-                template,
-                script,
+            let listed = ListedSheet {
+                sheet: ReadSheet {
+                    template,
+                    script,
+                    names: &names,
+                    extent: e,
+                },
                 bookings,
                 count,
-                &names,
-                e,
+            };
+            print_grids(
+                &listed,
                 &mut radio[0..size],
                 &mut television[0..size],
                 &mut large[0..size],
@@ -70,7 +80,7 @@ pub fn print_sheet(input: &[u8], out: &mut [u8; TEXT_ROOM]) -> usize
     ensures inside { Counted out.new result }
 {
     match find_sections(input) {
-        None => put_refused(out, 60, 0),
+        None => put_refused(out, Refusal(Fault::InputLength, 0)),
         Some(sections) => print_sections(input, sections, out),
     }
 }

@@ -7,7 +7,7 @@ ghost use Rattle.std.specs.Prelude.{◌≤◌, length, IfSome};
 use input::decode;
 use std::io::Read;
 use streams::read_full;
-use words::{MAX_INPUT, wide};
+use words::MAX_INPUT;
 
 // No section has more bytes: one more than the longest input of a program.
 pub const MOST_BYTES: usize = MAX_INPUT + 1;
@@ -50,9 +50,9 @@ pub fn next_word(reader: &mut impl Read) -> Option<u16> {
 
 // The length in front of a section, if there is one.
 fn next_length(reader: &mut impl Read) -> Option<usize> {
-    let low = next_word(reader)?;
+    let low = next_word(reader).unwrap_or(0);
     let high = next_word(reader)?;
-    Some(wide(low) + 65536 * wide(high))
+    Some(usize::from(low) + 65536 * usize::from(high))
 }
 
 // The word of a section that has only this one.

@@ -12,8 +12,9 @@ use Rattle.words.specs.Limits.{max_cards, max_shapes}
 use Rattle.words.specs.Wrote.{Wrote}
 use Rattle.text.specs.Steps.{largest, smallest, smallest_no}
 use Rattle.text.proofs.Lines.{cards-bound, line-bound, largest-line, smallest-line, not-met-line}
-use Rattle.typing.specs.declared.Settled.{Settled}
-use Rattle.typing.specs.declared.Settled.TheVariants as settled
+use Rattle.std.specs.Prelude.{Result, Ok, Err}
+use Rattle.words.specs.declared.Card.{Card}
+use Rattle.words.specs.declared.Shape.{Shape}
 use Rattle.sheet_text.specs.Printed.{largest_text}
 use Rattle.sheet_text.specs.Steps.{typing_room, settled_text}
 
@@ -32,10 +33,10 @@ large-end rounds struck bare grid shapes cards w hs hc =
     )
 
 -- Where the lines of how a desk's bookings fared end.
-pub settled-end : (found : Settled) (grid : List ℕ) (shapes cards : ℕ) {out after : List ℕ} {at next : ℕ}
+pub settled-end : (found : Result ℕ (Card × Shape)) (grid : List ℕ) (shapes cards : ℕ) {out after : List ℕ} {at next : ℕ}
     → Wrote out at (settled_text found grid shapes cards) after next → shapes ≤ max_shapes → cards ≤ max_cards
     → next ≤ at + typing_room
-settled-end (settled.Pairs m) grid shapes cards w hs hc =
+settled-end (Ok m) grid shapes cards w hs hc =
     omega (
       arith,
       w.moved,
@@ -44,7 +45,7 @@ settled-end (settled.Pairs m) grid shapes cards w hs hc =
       line-bound smallest (m ∷ []),
       cards-bound grid shapes cards hs hc,
     )
-settled-end (settled.NotMet card shape) grid shapes cards w hs hc =
+settled-end (Err (card, shape)) grid shapes cards w hs hc =
     omega (
       arith,
       w.moved,

@@ -12,8 +12,9 @@ use Rattle.words.proofs.Writing.{wrote-append}
 use Rattle.text.specs.Text.{not_met_line}
 use Rattle.sheet.specs.Sheet.{Sheet}
 use Rattle.sheet.specs.declared.Extent.{Extent}
-use Rattle.typing.specs.declared.Settled.{Settled}
-use Rattle.typing.specs.declared.Settled.TheVariants as settled
+use Rattle.std.specs.Prelude.{Result, Ok, Err}
+use Rattle.words.specs.declared.Card.{Card}
+use Rattle.words.specs.declared.Shape.{Shape}
 use Rattle.typing.specs.declared.Desks.{Desks}
 use Rattle.typing.specs.Demand3.{Outcome, pairs, not_met}
 use Rattle.typing.specs.Answer.{settled_said}
@@ -51,10 +52,10 @@ not-met-text s grid n t (not_met m u) e =
     rw (i, j) refl
 
 -- by how a desk's bookings fared
-settled-text : (s : Sheet) (grid : List ℕ) (found : Settled) (o : Outcome) → settled_said found ≡ outcome_said o
+settled-text : (s : Sheet) (grid : List ℕ) (found : Result ℕ (Card × Shape)) (o : Outcome) → settled_said found ≡ outcome_said o
     → settled_text found grid s.shapes s.cards ≡ smallest_text s grid o
-settled-text s grid (settled.Pairs m) o e = pairs-text s grid m o e
-settled-text s grid (settled.NotMet card shape) o e = not-met-text s grid card.0 shape.0 o e
+settled-text s grid (Ok m) o e = pairs-text s grid m o e
+settled-text s grid (Err (card, shape)) o e = not-met-text s grid card.0 shape.0 o e
 
 -- ---- what is written of the typings of both desks
 abbrev large_text : Desks → List ℕ → Extent → List ℕ

@@ -6,15 +6,16 @@
 -- Putting        and a line in front of it
 -- Printing       what is read of a sheet, with its grids and with room for its text
 -- Assumes nothing.
-use Rattle.std.specs.Prelude.{ℕ, ◌+◌, ◌*◌, ◌≤◌, List, length}
+use Rattle.std.specs.Prelude.{ℕ, ◌+◌, ◌*◌, ◌≤◌, List, length, Result, Ok, Err}
 use Rattle.words.specs.Limits.{max_cards, max_shapes}
 use Rattle.words.specs.Wrote.{Wrote}
 use Rattle.sheet.specs.declared.Extent.{Extent}
 use Rattle.text.specs.Text.{not_met_line}
 use Rattle.text.specs.declared.Writer.{Writer}
-use Rattle.typing.specs.declared.Settled.{Settled}
-use Rattle.typing.specs.declared.Settled.TheVariants as settled
+use Rattle.words.specs.declared.Card.{Card}
+use Rattle.words.specs.declared.Shape.{Shape}
 use Rattle.typing.specs.Calls.{listed_reading}
+use Rattle.lent.specs.declared.ListedSheet.{ListedSheet}
 use Rattle.desks.specs.ThreeGrids.{ThreeGrids}
 use Rattle.sheet_text.specs.Printed.{pairs_text, PrintsSheet}
 
@@ -27,9 +28,9 @@ abbrev pub text_room : ℕ
 text_room = 3 * typing_room
 
 -- What is written of how a desk's bookings fared: its smallest typing, or the one line of 50.
-abbrev pub settled_text : Settled → List ℕ → ℕ → ℕ → List ℕ
-settled_text (settled.Pairs pairs) grid shapes cards = pairs_text pairs grid shapes cards
-settled_text (settled.NotMet card shape) grid shapes cards = not_met_line card.0 shape.0
+abbrev pub settled_text : Result ℕ (Card × Shape) → List ℕ → ℕ → ℕ → List ℕ
+settled_text (Ok pairs) grid shapes cards = pairs_text pairs grid shapes cards
+settled_text (Err (card, shape)) grid shapes cards = not_met_line card.0 shape.0
 
 -- A text for the sheet of template, script and bookings was written to the front of a buffer.
 pub record SheetWritten (template script bookings before after : List ℕ) (next : ℕ) : Type 0 where
@@ -51,7 +52,6 @@ pub record Putting (word numbers grid : List ℕ) (e : Extent) (w : Writer) : Ty
   pub lent : Settling grid e w
 
 -- A sheet and a booking list that are read, three grids of its size, and room for its text.
-pub record Printing (template script names : List ℕ) (e : Extent) (bookings : List ℕ) (count : ℕ)
-    (radio television large out : List ℕ) : Type 0 where
-  pub lent : ThreeGrids template script names e bookings count radio television large
+pub record Printing (listed : ListedSheet) (radio television large out : List ℕ) : Type 0 where
+  pub lent : ThreeGrids listed radio television large
   pub room : text_room ≤ length out

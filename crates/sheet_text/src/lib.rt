@@ -8,6 +8,7 @@ ghost use Rattle.text.specs.Steps.{line_text, Adds};
 ghost use Rattle.sheet_text.specs.Steps.{settled_text, Settling, Putting, Printing, SheetWritten};
 
 use desks::desks_of;
+use lent::ListedSheet;
 use sheet::Extent;
 use text::Writer;
 use typing::Settled;
@@ -27,8 +28,8 @@ fn put_settled(text: &mut Writer, found: Settled, grid: &[u8], e: Extent)
     ensures { Adds text.old (settled_text found grid.now e.shapes e.cards) text.new }
 {
     match found {
-        Settled::Pairs(pairs) => put_typing(text, b"smallest", &[pairs], grid, e),
-        Settled::NotMet(card, shape) => {
+        Ok(pairs) => put_typing(text, b"smallest", &[pairs], grid, e),
+        Err((card, shape)) => {
             text.line(b"smallest no", &[card.0 as usize, shape.0 as usize]);
         }
     }
@@ -36,25 +37,18 @@ fn put_settled(text: &mut Writer, found: Settled, grid: &[u8], e: Extent)
 
 // The text of a sheet and bookings that are read, with the grids lent.
 pub fn print_grids(
-    template: &[u16],
-    script: &[u16],
-    bookings: &[u16],
-    count: u16,
-    names: &[u8],
-    e: Extent,
+    listed: &ListedSheet,
     radio: &mut [u8],
     television: &mut [u8],
     large: &mut [u8],
     out: &mut [u8],
 ) -> usize
-    requires { Printing template.now script.now names.now e bookings.now count radio.old
-        television.old large.old out.old }
-    ensures { SheetWritten template.now script.now bookings.now
+    requires { Printing listed.now radio.old television.old large.old out.old }
+    ensures { SheetWritten listed.now.sheet.template.now listed.now.sheet.script.now listed.now.bookings.now
         out.old out.new result }
 {
-    let found = desks_of(
-        template, script, bookings, count, names, e, radio, television, large,
-    );
+    let found = desks_of(listed, radio, television, large);
+    let e = listed.sheet.extent;
     let mut text = Writer { out, end: 0 };
     let numbers = [
         found.largest.rounds,

@@ -4,7 +4,10 @@
 ghost use Rattle.std.specs.Prelude.{[], ◌∷◌, ◌+◌, ◌*◌, ◌≤◌, length};
 ghost use Rattle.text.specs.Text.{digits, shape_text, shapes_text, card_line, card_lines, refused_line};
 ghost use Rattle.text.specs.Steps.{line_text, Fits, Adds, Shows};
+ghost use Rattle.words.specs.Refused.{number};
 ghost use Rattle.words.specs.Wrote.{Room, Wrote};
+
+use words::Refusal;
 
 // A text that grows in a lent buffer: its bytes stand there up to `end`.
 #[derive(Drop)]
@@ -114,9 +117,10 @@ pub fn put_line(out: &mut [u8], word: &[u8], numbers: &[usize]) -> usize
 }
 
 // Writes the line of a refusal, number and place, to the front of a buffer. Returns its number of bytes.
-pub fn put_refused(out: &mut [u8], number: usize, place: usize) -> usize
-    requires { Room out.old 0 (refused_line number place) }
-    ensures { Wrote out.old 0 (refused_line number place) out.new result }
+pub fn put_refused(out: &mut [u8], refusal: Refusal) -> usize
+    requires { Room out.old 0 (refused_line (number refusal.0) refusal.1) }
+    ensures { Wrote out.old 0 (refused_line (number refusal.0) refusal.1) out.new result }
 {
-    put_line(out, b"refused", &[number, place])
+    let number = usize::from(refusal.0.number());
+    put_line(out, b"refused", &[number, refusal.1])
 }

@@ -14,8 +14,9 @@ use Rattle.words.specs.Said.{Said, values, refusal}
 use Rattle.words.specs.Reading.{Reading, accepted, turned_down, then, mapped}
 use Rattle.words.specs.Answered.{Answered, Unchanged}
 use Rattle.words.specs.Writes.{Writes, write_said}
-use Rattle.words.specs.declared.WriteAnswer.{WriteAnswer}
-use Rattle.words.specs.declared.WriteAnswer.TheVariants as write
+use Rattle.std.specs.Prelude.{Result, Ok, Err}
+use Rattle.words.specs.Refused.{number as number_of}
+use Rattle.words.specs.declared.refusal.Refusal.{Refusal}
 use Rattle.words.specs.Wrote.{Wrote}
 use Rattle.words.proofs.Said.{values-refusal, one_value}
 use Rattle.words.proofs.Readings.{then-accepted}
@@ -34,10 +35,10 @@ use Rattle.tidy_list.specs.TidyList.{tidied_words, list_text, tidy_text}
 use Rattle.tidy_list.specs.Steps.{BufferFor}
 
 -- What an answer of the call tells of the files and of the buffer after it.
-abbrev pub Told : List ℕ → List ℕ → List ℕ → List ℕ → WriteAnswer → Type 0
-Told template script bookings after (write.Refused number place) =
-    tidied_words template script bookings ≡ turned_down number place
-Told template script bookings after (write.Written count) =
+abbrev pub Told : List ℕ → List ℕ → List ℕ → List ℕ → Result ℕ Refusal → Type 0
+Told template script bookings after (Err r) =
+    tidied_words template script bookings ≡ turned_down (number_of r.0) r.1
+Told template script bookings after (Ok count) =
     (tidied_words template script bookings ≡ accepted (tidied bookings)) × (take count after ≡ tidied bookings)
     × (count ≤ length after)
 
@@ -82,11 +83,11 @@ module _ (template script bookings before after : List ℕ) (sized : BufferFor b
 
   -- by the call's answer: the reading's refusal; or the number of words of the tidied list, which are the buffer's
   -- front
-  pub told : (answer : WriteAnswer) → TidySays template script bookings before after (write_said answer)
+  pub told : (answer : Result ℕ Refusal) → TidySays template script bookings before after (write_said answer)
       → Told template script bookings after answer
   unfolding tidied_words
-  told (write.Refused number place) x = refused-by listed number place (says _ x)
-  told (write.Written count) x =
+  told (Err r) x = refused-by listed (number_of r.0) r.1 (says _ x)
+  told (Ok count) x =
       let (reads, w) = written-by listed count (says _ x) in
       let long : count ≡ length (tidied bookings) = one_value w.says in
       let all = ap length w.writes ∙ length-append (tidied bookings) (drop (length (tidied bookings)) before) in

@@ -14,7 +14,7 @@ ghost use Rattle.tidy_list.specs.Steps.{list_room, BufferFor, Tidying, SectionsL
 use input::{Sections, find_sections};
 use text::{Writer, put_refused};
 use tidy::tidy_bookings;
-use words::{MAX_BOOKINGS, MAX_INPUT, WriteAnswer, wide};
+use words::{Fault, MAX_BOOKINGS, MAX_INPUT, Refusal, wide};
 
 // Words of the longest list, and bytes that are enough for it or a refusal, as specs/Steps has them.
 const LIST_WORDS: usize = 1 + 3 * MAX_BOOKINGS;
@@ -59,10 +59,9 @@ fn tidy_into(
         (list_text (tidied_words template.now script.now bookings.now))
         out.new result }
 {
-    let said = tidy_bookings(template, script, bookings, list);
-    match said {
-        WriteAnswer::Refused(number, place) => put_refused(out, number as usize, place),
-        WriteAnswer::Written(count) => put_words(out, &list[0..count]),
+    match tidy_bookings(template, script, bookings, list) {
+        Ok(count) => put_words(out, &list[0..count]),
+        Err(refusal) => put_refused(out, refusal),
     }
 }
 
@@ -97,7 +96,7 @@ pub fn tidy_list(input: &[u8], out: &mut [u8; LIST_ROOM]) -> usize
     ensures inside { Counted out.new result }
 {
     match find_sections(input) {
-        None => put_refused(out, 60, 0),
+        None => put_refused(out, Refusal(Fault::InputLength, 0)),
         Some(sections) => tidy_sections(input, sections, out),
     }
 }

@@ -19,5 +19,5 @@ strike-largest-requires c =
 pub returns : goal.returns
 returns c s q =
     let t = c.test_pairs.ensures.tested s q in
-    both-of-found t c.args.bookings.now c.args.desk c.requires.lent.booked.list
+    both-of-found t c.args.listed.now.bookings.now c.args.desk c.requires.lent.booked.list
     (c.strike-largest.ensures s t) (c.settle-smallest.ensures s t)

@@ -8,4 +8,4 @@ chain_arrivals-requires c = arrivals-asked c.requires.lent.booked.known
 
 pub smallest_by-requires-2 : goal.smallest_by-requires-2
 smallest_by-requires-2 c =
-    record { grids = c.requires; arriving = λ some. absurd (never_both some c.if-e.false) }
+    record { grids = c.requires; arriving = λ some. absurd (never_both some c.if-sheet.false) }

@@ -18,7 +18,7 @@ strike-largest-requires c = c.requires.strikes
 
 pub returns : goal.returns
 returns c s t =
-    let bookings = c.args.bookings.now in
+    let bookings = c.args.listed.now.bookings.now in
     let large = c.strike-largest.ensures s t in
     record {
       radio = both-of-found t bookings 0 c.requires.list large (c.settle-one.ensures s t);

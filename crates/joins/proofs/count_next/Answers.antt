@@ -11,17 +11,17 @@ pub returns-then-at-first : goal.returns-then-at-first
 returns-then-at-first c =
     let counted = c.count_on.ensures in
     record {
-      exact = counted.exact ∙ sym (amount-counted _ _ _ (omega (arith, c.wide-at.ensures.same)));
+      exact = counted.exact ∙ sym (amount-counted _ _ _ (omega (arith, c.from-at.ensures)));
       passed = counted.passed;
     }
 
 pub returns : goal.returns
 returns c =
     let listed = c.args.listed.now in
-    let place : c.wide-at.result - (max_labels - length listed) ≡ c.args.label - (max_labels - length listed)
-    = omega (arith, c.wide-at.ensures.same) in
+    let place : c.from-at.result - (max_labels - length listed) ≡ c.args.label - (max_labels - length listed)
+    = omega (arith, c.from-at.ensures) in
     record {
       exact = c.word.ensures ∙ ap (λ (n : ℕ). get_or listed n 0) place
-          ∙ sym (amount-listed _ _ _ (omega (arith, c.wide-at.ensures.same)));
+          ∙ sym (amount-listed _ _ _ (omega (arith, c.from-at.ensures)));
       passed = c.requires.passed;
     }

@@ -20,11 +20,11 @@ use Rattle.sheet_text.proofs.print_grids.Goals.{After-put_typing, After-put_sett
 
 -- The largest typing, as it is printed.
 large : (c : After-put_typing) → let found = c.desks_of-found.result.largest in
-    Wrote c.args.out.now 0 (largest_text found.rounds found.struck found.bare c.desks_of-found.new.large c.args.e.shapes
-    c.args.e.cards) c.put_typing.new.text.out.now c.put_typing.new.text.end
+    Wrote c.args.out.now 0 (largest_text found.rounds found.struck found.bare c.desks_of-found.new.large c.args.listed.now.sheet.extent.shapes
+    c.args.listed.now.sheet.extent.cards) c.put_typing.new.text.out.now c.put_typing.new.text.end
 large c =
     let found = c.desks_of-found.result.largest in
-    let lines = card_lines c.desks_of-found.new.large c.args.e.shapes c.args.e.cards in
+    let lines = card_lines c.desks_of-found.new.large c.args.listed.now.sheet.extent.shapes c.args.listed.now.sheet.extent.cards in
     (adds-same c.put_typing.ensures
     (ap (λ (l : List ℕ). l ++ lines) (largest-line found.rounds found.struck found.bare))).wrote
 
@@ -41,7 +41,7 @@ radio-ended c =
     omega (
       arith,
       large-ended (goal.at.After-put_settled c).After-put_typing,
-      settled-end c.desks_of-found.result.radio c.desks_of-found.new.radio c.args.e.shapes c.args.e.cards
+      settled-end c.desks_of-found.result.radio c.desks_of-found.new.radio c.args.listed.now.sheet.extent.shapes c.args.listed.now.sheet.extent.cards
           c.put_settled.ensures.wrote accepted.shapes.shapes-high accepted.links.cards-bound,
     )
 

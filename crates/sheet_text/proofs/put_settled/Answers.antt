@@ -10,14 +10,14 @@ use Rattle.text.proofs.Adding.{adds-same}
 use Rattle.sheet_text.proofs.put_settled.Goals as goal
 
 pub line-requires : goal.line-requires
-line-requires c = omega (arith, line-bound smallest_no (c.in-NotMet.card.0 ∷ c.in-NotMet.shape.0 ∷ []))
+line-requires c = omega (arith, line-bound smallest_no (c.in-Err.card.0 ∷ c.in-Err.shape.0 ∷ []))
 
-pub returns-in-Pairs : goal.returns-in-Pairs
-returns-in-Pairs c =
+pub returns-in-Ok : goal.returns-in-Ok
+returns-in-Ok c =
     let args = c.args in
-    rw c.in-Pairs.is (adds-same c.put_typing.ensures (ap
-    (λ (l : List ℕ). l ++ card_lines args.grid.now args.e.shapes args.e.cards) (smallest-line c.in-Pairs.pairs)))
+    rw c.in-Ok.is (adds-same c.put_typing.ensures (ap
+    (λ (l : List ℕ). l ++ card_lines args.grid.now args.e.shapes args.e.cards) (smallest-line c.in-Ok.pairs)))
 
-pub returns-in-NotMet : goal.returns-in-NotMet
-returns-in-NotMet c =
-    rw c.in-NotMet.is (adds-same c.line.ensures (not-met-line c.in-NotMet.card.0 c.in-NotMet.shape.0))
+pub returns-in-Err : goal.returns-in-Err
+returns-in-Err c =
+    rw c.in-Err.is (adds-same c.line.ensures (not-met-line c.in-Err.card.0 c.in-Err.shape.0))

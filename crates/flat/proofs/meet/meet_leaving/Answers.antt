@@ -10,22 +10,22 @@ use Rattle.flat.proofs.MeetingCards.{met-few, demand-few}
 use Rattle.flat.proofs.Along.{walked_start, walked-kind, walked-asked, walked-few, walked-unnamed}
 use Rattle.flat.proofs.Along.{walked_next, walked-done}
 use Rattle.flat.proofs.meet.meet_leaving.Goals as goal
-use Rattle.flat.proofs.meet.meet_leaving.Goals.{After-run_length-count, After-wide-place, In-loop-at}
+use Rattle.flat.proofs.meet.meet_leaving.Goals.{After-run_length-count, After-from-place, In-loop-at}
 use Rattle.flat.proofs.meet.meet_leaving.Goals.{Joined-else-place-eq0}
 
 -- The kind and the place of a turn.
 abbrev kind : In-loop-at → ℕ
 kind l = get_or l.args.links.now l.loop-at.at 0
 
-place_is : (a : After-wide-place)
-    → a.wide-place.result ≡ get_or a.args.places.now (kind (goal.at.After-wide-place a).In-loop-at) 0
+place_is : (a : After-from-place)
+    → a.from-place.result ≡ get_or a.args.places.now (kind (goal.at.After-from-place a).In-loop-at) 0
 place_is a =
-    a.wide-place.ensures.same
-    ∙ ap (λ (k : ℕ). get_or a.args.places.now k 0) a.wide.ensures.same
+    a.from-place.ensures
+    ∙ ap (λ (k : ℕ). get_or a.args.places.now k 0) a.from.ensures
 
 -- A closed shape has a link for the kind.
 named : (c : Joined-else-place-eq0) → c.args.is_open ≡ false
-    → 0 < c.wide-place.result
+    → 0 < c.from-place.result
 named c shut = grind arith
 
 -- The run is of so many links, and ends with them.
@@ -35,23 +35,23 @@ few : (c : After-run_length-count)
     ≤ 1 + length c.args.links.now)
 few c =
     walked-few c.requires c.loop-at.invariant c.loop-at-test.true (kind (goal.at.After-run_length-count
-    c).In-loop-at) refl _ (place_is (goal.at.After-run_length-count c).After-wide-place) _
+    c).In-loop-at) refl _ (place_is (goal.at.After-run_length-count c).After-from-place) _
     c.run_length-count.ensures
 
 pub loop-at-init : goal.loop-at-init
 loop-at-init c = walked_start _ _ _ _
 
-pub bounds-places-wide : goal.bounds-places-wide
-bounds-places-wide c =
-    let below : kind (goal.at.bounds-places-wide c).In-loop-at < max_kinds =
-    walked-kind c.requires c.loop-at.invariant c.loop-at-test.true (kind (goal.at.bounds-places-wide c).In-loop-at)
+pub bounds-places-from : goal.bounds-places-from
+bounds-places-from c =
+    let below : kind (goal.at.bounds-places-from c).In-loop-at < max_kinds =
+    walked-kind c.requires c.loop-at.invariant c.loop-at-test.true (kind (goal.at.bounds-places-from c).In-loop-at)
     refl in
-    omega (arith, c.wide.ensures.same, c.requires.placed.full)
+    omega (arith, c.from.ensures, c.requires.placed.full)
 
 pub returns-then-not-is_open : goal.returns-then-not-is_open
 returns-then-not-is_open c =
     walked-unnamed c.requires c.loop-at.invariant c.loop-at-test.true (kind (goal.at.returns-then-not-is_open
-    c).In-loop-at) refl _ (place_is (goal.at.returns-then-not-is_open c).After-wide-place)
+    c).In-loop-at) refl _ (place_is (goal.at.returns-then-not-is_open c).After-from-place)
     (grind arith) c.if-place-eq0.true
 
 pub run_length-count-requires : goal.run_length-count-requires
@@ -64,7 +64,7 @@ overflow_cast-count c = omega (arith, few c)
 
 pub overflow_add-found : goal.overflow_add-found
 overflow_add-found c =
-    let one = demand-few c.args.words.now c.wide-place.result in
+    let one = demand-few c.args.words.now c.from-place.result in
     omega (arith, c.must-found.ensures, met-few c.loop-at.invariant.met, c.loop-at.invariant.outgoing)
 
 pub overflow_mul-at : goal.overflow_mul-at
@@ -81,7 +81,7 @@ loop-at-preserved c =
     rw c.must-found.ensures
     (walked_next c.requires c.loop-at.invariant c.loop-at-test.true (kind (goal.at.loop-at-preserved c).In-loop-at)
     refl _
-    (place_is (goal.at.loop-at-preserved c).After-wide-place) _ c.run_length-count.ensures _ (named
+    (place_is (goal.at.loop-at-preserved c).After-from-place) _ c.run_length-count.ensures _ (named
     (goal.at.loop-at-preserved c).Joined-else-place-eq0) c.meet_link-span.ensures)
 
 pub returns : goal.returns

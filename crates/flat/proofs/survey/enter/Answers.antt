@@ -9,7 +9,7 @@ use Rattle.flat.proofs.survey.enter.Goals as goal
 pub returns-then-code-ge256 : goal.returns-then-code-ge256
 returns-then-code-ge256 c =
     let places = c.args.places.now in
-    ap (λ (k : ℕ). set places k c.args.at) c.wide.ensures.same
+    ap (λ (k : ℕ). set places k c.args.at) c.from.ensures
     ∙ sym (entered-link c.args.words.now c.args.at places (omega arith))
 
 pub returns-else-code-ge256 : goal.returns-else-code-ge256
