@@ -1,4 +1,5 @@
 -- What reading a sheet and a booking list finds, by what its steps find.
+--   sheet-refused                both are turned down for the sheet
 --   list-taken, list-refused     the list is read, and so are both; or both are turned down for it
 --   listed-asked, lent-asked     the sheet of a list that is read, and for a desk and a grid
 --   desk-refused, size-refused   what is lent is turned down for the desk or the grid
@@ -17,6 +18,12 @@ use Rattle.typing.specs.Calls.{with_list, listed_reading, booked_reading, smalle
 use Rattle.typing.proofs.Booked.{desk-taken, grid-taken}
 use Rattle.lent.specs.Readings.{BookedSheet, ReadFor}
 use Rattle.lent.proofs.KnownSheet.{sheet, asked}
+
+-- A sheet that is turned down, and so are sheet and list.
+pub sheet-refused : (list : ℕ → ℕ → Reading ℕ) {template script : List ℕ} {number place : ℕ}
+    → read_sheet template script ≡ turned_down number place
+    → then (read_sheet template script) (with_list list) ≡ turned_down number place
+sheet-refused list refused = rw refused refl
 
 -- A booking list of a sheet that is read, by a reading of it.
 module _ (reading : ℕ → ℕ → Reading ℕ) {template script names : List ℕ} {e : Extent}

@@ -138,10 +138,14 @@ module _ {s : Sheet} {script names : List ℕ} {e : Extent} {fitting : List ℕ}
       sound : SoundTyping s grid
       sound = sound-by fitting board typed (rw (shapes-same t) none)
 
+      missing-here : {i : ℕ} → First (Missing bookings desk e.shapes grid) count i
+          → First (Missing bookings desk s.shapes grid) count i
+      missing-here missing = rw (shapes-same t) missing
+
       pub unheld-tested : {i : ℕ} → (i < count) × First (Missing bookings desk e.shapes grid) count i
           → JudgeFound s bookings desk grid (refusal 63 (card_index i ∷ []))
-      unheld-tested (l, found) = unheld-found sound counted l (rw (shapes-same t) found)
+      unheld-tested (l, found) = unheld-found sound counted l (missing-here found)
 
       pub passes-tested : First (Missing bookings desk e.shapes grid) count count
           → JudgeFound s bookings desk grid (values [])
-      passes-tested missing = passes-found sound counted (rw (shapes-same t) missing)
+      passes-tested missing = passes-found sound counted (missing-here missing)
