@@ -10,11 +10,10 @@ ghost use Rattle.lent.specs.Readings.{TwoGrids};
 ghost use Rattle.pairs.specs.Pairs.{ReadsTo};
 
 use board::Queue;
-use lent::{ListedSheet, grid_size, read_lent};
+use lent::{ListedSheet, grid_size, list_sheet, read_lent};
 use links::{CardLinks, Chains};
 use pairs::{STARTS, chain_arrivals, test_pairs};
 use searches::{settle, strike};
-use sheet::ReadSheet;
 use typing::Both;
 use words::{Fault, MAX_CARDS, MAX_LINKS, Refusal, TABLE_SIZE};
 
@@ -45,10 +44,10 @@ fn both_of(listed: &ListedSheet, desk: u16, small: &mut [u8], large: &mut [u8]) 
 }
 
 // Both typings in one call: each as its own call gives it, and what holds of the two together.
-pub fn both_typings<'a>(
-    template: &'a [u16],
-    script: &'a [u16],
-    bookings: &'a [u16],
+pub fn both_typings(
+    template: &[u16],
+    script: &[u16],
+    bookings: &[u16],
     desk: u16,
     small: &mut [u8],
     large: &mut [u8],
@@ -62,15 +61,6 @@ pub fn both_typings<'a>(
     if large.len() != grid_size(e) {
         return Err(Refusal(Fault::BufferLength, 0));
     }
-    let listed = ListedSheet {
-        sheet: ReadSheet {
-            template,
-            script,
-            names: &names,
-            extent: e,
-        },
-        bookings,
-        count,
-    };
+    let listed = list_sheet(template, script, &names, e, bookings, count);
     Ok(both_of(&listed, desk, small, large))
 }

@@ -12,7 +12,7 @@ ghost use Rattle.pairs.specs.Pairs.{SheetGrid, ReadsTo};
 ghost use Rattle.calls.specs.Lent.{SmallestLent};
 
 use board::Queue;
-use lent::{ListedSheet, grid_size, read_lent};
+use lent::{ListedSheet, grid_size, list_sheet, read_lent};
 use links::{CardLinks, Chains};
 use pairs::{STARTS, chain_arrivals, test_pairs};
 use searches::{settle, strike};
@@ -110,10 +110,10 @@ pub fn largest(template: &[u16], script: &[u16], grid: &mut [u8]) -> Result<Stru
 
 // Smallest: the number of pairs and the typing in the grid; or 50, the pair that is not met, and the grid all 0. The
 // bookings are the desk's.
-pub fn smallest<'a>(
-    template: &'a [u16],
-    script: &'a [u16],
-    bookings: &'a [u16],
+pub fn smallest(
+    template: &[u16],
+    script: &[u16],
+    bookings: &[u16],
     desk: u16,
     grid: &mut [u8],
 ) -> Result<Settled, Refusal>
@@ -125,15 +125,6 @@ pub fn smallest<'a>(
     let size = grid_size(e);
     let mut fitting = [0u8; MAX_GRID];
     let pairs = &mut fitting[0..size];
-    let listed = ListedSheet {
-        sheet: ReadSheet {
-            template,
-            script,
-            names: &names,
-            extent: e,
-        },
-        bookings,
-        count,
-    };
+    let listed = list_sheet(template, script, &names, e, bookings, count);
     Ok(smallest_of(&listed, desk, pairs, grid))
 }

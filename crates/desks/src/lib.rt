@@ -8,11 +8,10 @@ ghost use Rattle.pairs.specs.Pairs.{ReadsTo, TestedAs};
 ghost use Rattle.desks.specs.ThreeGrids.{ThreeGrids, DesksAsked, desks_of};
 
 use board::Queue;
-use lent::{ListedSheet, grid_size, read_booked};
+use lent::{ListedSheet, grid_size, list_sheet, read_booked};
 use links::{CardLinks, Chains};
 use pairs::{STARTS, chain_arrivals, test_pairs};
 use searches::{settle, strike};
-use sheet::ReadSheet;
 use typing::Desks;
 use words::{Fault, MAX_CARDS, MAX_LINKS, Refusal, TABLE_SIZE};
 
@@ -78,10 +77,10 @@ pub fn desks_of(
 
 // Both desks: the largest typing and each desk's smallest, as the calls for them give them, and what holds of each two
 // together.
-pub fn desk_typings<'a>(
-    template: &'a [u16],
-    script: &'a [u16],
-    bookings: &'a [u16],
+pub fn desk_typings(
+    template: &[u16],
+    script: &[u16],
+    bookings: &[u16],
     radio: &mut [u8],
     television: &mut [u8],
     large: &mut [u8],
@@ -97,15 +96,6 @@ pub fn desk_typings<'a>(
     if radio.len() != size || television.len() != size || large.len() != size {
         return Err(Refusal(Fault::BufferLength, 0));
     }
-    let listed = ListedSheet {
-        sheet: ReadSheet {
-            template,
-            script,
-            names: &names,
-            extent: e,
-        },
-        bookings,
-        count,
-    };
+    let listed = list_sheet(template, script, &names, e, bookings, count);
     Ok(desks_of(&listed, radio, television, large))
 }

@@ -20,10 +20,10 @@ use Rattle.lent.specs.Readings.{BookedSheet, ReadFor}
 use Rattle.lent.proofs.KnownSheet.{sheet, asked}
 
 -- A sheet that is turned down, and so are sheet and list.
-pub sheet-refused : (list : ℕ → ℕ → Reading ℕ) {template script : List ℕ} {number place : ℕ}
+pub sheet-refused : (list : ℕ → ℕ → Reading ℕ) (template script : List ℕ) {number place : ℕ}
     → read_sheet template script ≡ turned_down number place
     → then (read_sheet template script) (with_list list) ≡ turned_down number place
-sheet-refused list refused = rw refused refl
+sheet-refused list template script refused = rw refused refl
 
 -- A booking list of a sheet that is read, by a reading of it.
 module _ (reading : ℕ → ℕ → Reading ℕ) {template script names : List ℕ} {e : Extent}

@@ -1,10 +1,11 @@
 -- What reading what a call is lent finds; no part of a promise.
 -- BookedSheet   a sheet with its table of names and a booking list, all read; BookedAs: what reading them finds
 -- ReadFor       these, for a desk and with a grid of the sheet's size; LentAs: what reading them finds
--- ListedKnown, ListedFor   the same of a sheet and a list that are lent
+-- listed_as     a sheet and a list that are lent; ListedKnown, ListedFor: the same of them
 -- TwoGrids      these, and another grid of the sheet's size
 -- Assumes nothing.
 use Rattle.std.specs.Prelude.{ℕ, ◌*◌, ◌≤◌, ◌≡◌, List, length, Result, Ok, Err}
+use Rattle.std.specs.Borrow.{Bor}
 use Rattle.words.specs.Reading.{accepted, turned_down}
 use Rattle.words.specs.Refused.{number}
 use Rattle.words.specs.declared.refusal.Refusal.{Refusal}
@@ -40,6 +41,15 @@ LentAs template script names bookings desk grid (Err r) =
     smallest_reading template script bookings desk grid ≡ turned_down (number r.0) r.1
 
 -- The same of a sheet and a list that are lent.
+abbrev pub listed_as :
+    Bor (List ℕ) → Bor (List ℕ) → Bor (List ℕ) → Extent → Bor (List ℕ) → ℕ → ListedSheet
+listed_as template script names extent bookings count =
+    record {
+      sheet = record { template = template; script = script; names = names; extent = extent };
+      bookings = bookings;
+      count = count;
+    }
+
 abbrev pub ListedKnown : ListedSheet → Type 0
 ListedKnown listed =
     BookedSheet listed.sheet.template.now listed.sheet.script.now listed.sheet.names.now listed.sheet.extent

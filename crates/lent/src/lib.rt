@@ -2,7 +2,7 @@
 #![tactic(auto)]
 
 ghost use Rattle.std.specs.Prelude.{◌≡◌, ◌*◌};
-ghost use Rattle.lent.specs.Readings.{BookedAs, LentAs};
+ghost use Rattle.lent.specs.Readings.{BookedAs, LentAs, listed_as};
 
 use bookings::read_bookings;
 use sheet::{Extent, ReadSheet, read_sheet};
@@ -14,6 +14,30 @@ pub struct ListedSheet<'a> {
     pub sheet: ReadSheet<'a>,
     pub bookings: &'a [u16],
     pub count: u16,
+}
+
+// A sheet and a booking list that are read, as one.
+pub fn list_sheet<'a>(
+    template: &'a [u16],
+    script: &'a [u16],
+    names: &'a [u8],
+    extent: Extent,
+    bookings: &'a [u16],
+    count: u16,
+) -> ListedSheet<'a>
+    ensures { result ≡ listed_as template.entry script.entry names.entry extent bookings.entry count }
+{
+    let sheet = ReadSheet {
+        template,
+        script,
+        names,
+        extent,
+    };
+    ListedSheet {
+        sheet,
+        bookings,
+        count,
+    }
 }
 
 // The number of pairs of a sheet: the bytes of its grid.

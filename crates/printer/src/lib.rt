@@ -10,8 +10,7 @@ ghost use Rattle.printer.specs.Printed.{Prints};
 ghost use Rattle.printer.specs.Steps.{SectionsLent};
 
 use input::{Sections, find_sections};
-use lent::{ListedSheet, grid_size, read_booked};
-use sheet::ReadSheet;
+use lent::{grid_size, list_sheet, read_booked};
 use sheet_text::print_grids;
 use text::put_refused;
 use words::{Fault, MAX_GRID, MAX_INPUT, Refusal, TABLE_SIZE};
@@ -23,12 +22,7 @@ pub const TEXT_ROOM: usize = 393216;
 const MAX_WORDS: usize = MAX_INPUT / 2;
 
 // The text of a template, a script and bookings.
-fn print_words<'a>(
-    template: &'a [u16],
-    script: &'a [u16],
-    bookings: &'a [u16],
-    out: &mut [u8],
-) -> usize
+fn print_words(template: &[u16], script: &[u16], bookings: &[u16], out: &mut [u8]) -> usize
     requires { text_room ≤ length out.old }
     ensures { SheetWritten template.now script.now bookings.now
         out.old out.new result }
@@ -41,16 +35,7 @@ fn print_words<'a>(
             let mut radio = [0u8; MAX_GRID];
             let mut television = [0u8; MAX_GRID];
             let mut large = [0u8; MAX_GRID];
-            let listed = ListedSheet {
-                sheet: ReadSheet {
-                    template,
-                    script,
-                    names: &names,
-                    extent: e,
-                },
-                bookings,
-                count,
-            };
+            let listed = list_sheet(template, script, &names, e, bookings, count);
             print_grids(
                 &listed,
                 &mut radio[0..size],

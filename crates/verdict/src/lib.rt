@@ -12,10 +12,9 @@ ghost use Rattle.verdict.specs.Judged.{JudgeLent, JudgeAsked};
 use board::first_over;
 use bookings::card_index;
 use judging::{first_unheld, first_unmet};
-use lent::{ListedSheet, read_lent};
+use lent::{ListedSheet, list_sheet, read_lent};
 use links::{CardLinks, Chains};
 use pairs::{STARTS, chain_arrivals, test_pairs, walk_of};
-use sheet::ReadSheet;
 use typing::Judged;
 use words::{Card, Fault, MAX_CARDS, MAX_GRID, MAX_LINKS, Refusal, Shape, TABLE_SIZE};
 
@@ -98,10 +97,10 @@ fn judge_of(listed: &ListedSheet, desk: u16, grid: &[u8]) -> Result<Judged, Refu
 
 // Judge: accepted where the grid is a sound typing that holds the desk's bookings; or 62 and the lowest pair of it that
 // is not met; or what else is refused.
-pub fn judge<'a>(
-    template: &'a [u16],
-    script: &'a [u16],
-    bookings: &'a [u16],
+pub fn judge(
+    template: &[u16],
+    script: &[u16],
+    bookings: &[u16],
     desk: u16,
     grid: &[u8],
 ) -> Result<Judged, Refusal>
@@ -110,15 +109,6 @@ pub fn judge<'a>(
 {
     let mut names = [0u8; TABLE_SIZE];
     let (e, count) = read_lent(template, script, bookings, desk, grid, &mut names)?;
-    let listed = ListedSheet {
-        sheet: ReadSheet {
-            template,
-            script,
-            names: &names,
-            extent: e,
-        },
-        bookings,
-        count,
-    };
+    let listed = list_sheet(template, script, &names, e, bookings, count);
     judge_of(&listed, desk, grid)
 }

@@ -16,4 +16,4 @@ returns c =
     let l = c.in_ok-e.ensures in
     let k = l.booked.known in
     both-done _ _ _ _ _ (sheet k) (lent-asked l) _ _ (omega (arith, c.grid_size.ensures))
-    (c.both_of.ensures (sheet k) (asked k))
+    ((rw c.list_sheet-listed.ensures at c.both_of.ensures) (sheet k) (asked k))

@@ -15,4 +15,5 @@ pub returns : goal.returns
 returns c =
     let l = c.in_ok-e.ensures in
     let k = l.booked.known in
-    smallest-done _ _ _ _ _ (sheet k) (lent-asked l) _ _ (c.smallest_of.ensures (sheet k) (asked k))
+    smallest-done _ _ _ _ _ (sheet k) (lent-asked l) _ _
+    ((rw c.list_sheet-listed.ensures at c.smallest_of.ensures) (sheet k) (asked k))

@@ -25,4 +25,4 @@ returns c =
     let whole = c.grid_size-size.ensures in
     desks-done _ _ _ (sheet l.known) (listed-asked l) _ (omega (arith, whole, c.if-radio-size.false))
     (omega (arith, whole, c.if-television-size.false)) _ _ (omega (arith, whole, c.if-large-size.false))
-    (c.desks_of.ensures (sheet l.known) (asked l.known))
+    ((rw c.list_sheet-listed.ensures at c.desks_of.ensures) (sheet l.known) (asked l.known))

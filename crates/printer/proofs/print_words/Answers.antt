@@ -27,7 +27,7 @@ pub print_grids-requires : goal.print_grids-requires
 print_grids-requires c =
     let few = few-pairs (c.in-Ok.ensures).known in
     record {
-      lent = record {
+      lent = rw c.list_sheet-listed.ensures record {
         booked = c.in-Ok.ensures;
         radio-size = omega (arith, c.grid_size-size.ensures, few);
         television-size = omega (arith, c.grid_size-size.ensures, few);

@@ -7,4 +7,4 @@ pub returns : goal.returns
 returns c =
     let l = c.in_ok-e.ensures in
     let k = l.booked.known in
-    rw (lent-asked l) (c.judge_of.ensures (sheet k) (asked k))
+    rw (lent-asked l) ((rw c.list_sheet-listed.ensures at c.judge_of.ensures) (sheet k) (asked k))
