@@ -9,7 +9,6 @@ ghost use Rattle.typing.specs.Calls.{BothFound, BothSays};
 ghost use Rattle.lent.specs.Readings.{TwoGrids};
 ghost use Rattle.pairs.specs.Pairs.{ReadsTo};
 
-use board::Queue;
 use lent::{ListedSheet, grid_size, list_sheet, read_lent};
 use links::{CardLinks, Chains};
 use pairs::{STARTS, chain_arrivals, test_pairs};
@@ -37,9 +36,8 @@ fn both_of(listed: &ListedSheet, desk: u16, small: &mut [u8], large: &mut [u8]) 
         starts: &starts,
         chains,
     };
-    let mut queue = Queue::new();
-    let smallest = settle(listed, &links, desk, large, small, &mut queue);
-    let largest = strike(sheet, &links, large, &mut queue);
+    let smallest = settle(listed, &links, desk, large, small);
+    let largest = strike(sheet, &links, large);
     Both { largest, smallest }
 }
 

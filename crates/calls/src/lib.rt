@@ -11,7 +11,6 @@ ghost use Rattle.lent.specs.Readings.{TwoGrids};
 ghost use Rattle.pairs.specs.Pairs.{SheetGrid, ReadsTo};
 ghost use Rattle.calls.specs.Lent.{SmallestLent};
 
-use board::Queue;
 use lent::{ListedSheet, grid_size, list_sheet, read_lent};
 use links::{CardLinks, Chains};
 use pairs::{STARTS, chain_arrivals, test_pairs};
@@ -38,8 +37,7 @@ fn largest_of(sheet: &ReadSheet, grid: &mut [u8]) -> Struck
         starts: &starts,
         chains,
     };
-    let mut queue = Queue::new();
-    strike(sheet, &links, grid, &mut queue)
+    strike(sheet, &links, grid)
 }
 
 // The smallest typing of a sheet and a desk's bookings that are read, in a grid of its size, by where the links to each
@@ -61,8 +59,7 @@ fn smallest_by(
         starts: &starts,
         chains: *chains,
     };
-    let mut queue = Queue::new();
-    settle(listed, &links, desk, fitting, grid, &mut queue)
+    settle(listed, &links, desk, fitting, grid)
 }
 
 // The same. The links to each card are chained where some shape names an incoming kind.

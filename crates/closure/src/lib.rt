@@ -4,7 +4,7 @@
 ghost use Rattle.std.specs.Prelude.{◌≡◌, length};
 ghost use Rattle.closure.specs.Closing.{MarkAsked, Marked, CloseAsked, Closes, UnfitAsked, UnfitFound};
 
-use board::{Queue, fill, first_missing, flip, list_off};
+use board::{fill, first_missing, flip};
 use bookings::{card_at, desk_at, shape_at};
 use flood::flood;
 use walks::{Walk, pair_place};
@@ -41,7 +41,6 @@ pub fn close(
     desk: u16,
     cards: usize,
     grid: &mut [u8],
-    queue: &mut Queue,
 ) -> usize
     requires { CloseAsked walk.now bookings.now count cards grid.old }
     ensures { Closes walk.now.script.now walk.now.names.now walk.now.shapes bookings.now desk count
@@ -49,10 +48,9 @@ pub fn close(
 {
     fill(grid, 1);
     mark_bookings(bookings, count, desk, cards, walk.shapes, grid);
-    list_off(grid, queue);
-    flood(walk, grid, queue);
+    let found = flood(walk, grid);
     flip(grid);
-    queue.len
+    found
 }
 
 // Finds the lowest pair of a closure that does not fit. The grid stays where there is none, and is else all 0.

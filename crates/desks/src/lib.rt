@@ -7,7 +7,6 @@ ghost use Rattle.typing.specs.Desks.{DesksFound, DesksSays};
 ghost use Rattle.pairs.specs.Pairs.{ReadsTo, TestedAs};
 ghost use Rattle.desks.specs.ThreeGrids.{ThreeGrids, DesksAsked, desks_of};
 
-use board::Queue;
 use lent::{ListedSheet, grid_size, list_sheet, read_booked};
 use links::{CardLinks, Chains};
 use pairs::{STARTS, chain_arrivals, test_pairs};
@@ -32,10 +31,9 @@ fn desks_tested(
           large = large.new;
         }) (desks_of result) }
 {
-    let mut queue = Queue::new();
-    let one = settle(listed, links, 0, large, radio, &mut queue);
-    let other = settle(listed, links, 1, large, television, &mut queue);
-    let largest = strike(&listed.sheet, links, large, &mut queue);
+    let one = settle(listed, links, 0, large, radio);
+    let other = settle(listed, links, 1, large, television);
+    let largest = strike(&listed.sheet, links, large);
     Desks {
         largest,
         radio: one,

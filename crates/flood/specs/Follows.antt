@@ -3,7 +3,7 @@
 -- LeavingAsked, ArrivingAsked   what following the links from a card asks, and those to it
 -- PairAsked    what following the links of a pair asks
 -- LedCardAsked what finding the card of the next pair asks
--- FloodAsked   what the search asks
+-- FloodAsked   what the search asks; FloodReady: before the pairs that are off are queued
 -- Off, Followed   its answer: from the places that were off
 -- Assumes nothing.
 use Rattle.std.specs.Prelude.{ℕ, ◌+◌, ◌*◌, ◌/◌, ◌≤◌, ◌<◌, ◌≡◌, List, false, not, length, get_or}
@@ -65,6 +65,11 @@ pub record FloodAsked (walk : Walk) (grid : List ℕ) (queue : Queue) : Type 0 w
   pub links : WalkReady walk
   pub full : length grid ≡ get_or walk.script.now 0 0 * walk.shapes
   pub listed : Listed grid queue.places queue.len (length grid)
+
+-- The same before the pairs that are off are queued.
+pub record FloodReady (walk : Walk) (grid : List ℕ) : Type 0 where
+  pub links : WalkReady walk
+  pub full : length grid ≡ get_or walk.script.now 0 0 * walk.shapes
 
 -- A place of the board whose byte is not 1.
 abbrev Off : List ℕ → ℕ → Type 0

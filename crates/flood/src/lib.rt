@@ -9,9 +9,9 @@ ghost use Rattle.typing.specs.Needs.{Needs};
 ghost use Rattle.walks.specs.Walks.{Leaving, Arriving};
 ghost use Rattle.walks.specs.Entries.{EntryGood, LedGood};
 ghost use Rattle.flood.specs.Follows.{LedAsked, LeavingAsked, ArrivingAsked, PairAsked};
-ghost use Rattle.flood.specs.Follows.{LedCardAsked, FloodAsked, Followed};
+ghost use Rattle.flood.specs.Follows.{LedCardAsked, FloodAsked, FloodReady, Followed};
 
-use board::{Queue, strike_one};
+use board::{Queue, list_off, strike_one};
 use walks::{Walk, guessed_card, reciprocal, scaled_card};
 use words::{Chain, MAX_KINDS, MAX_LABELS};
 
@@ -90,7 +90,7 @@ fn follow_pair(walk: &Walk, n: usize, q: usize, grid: &mut [u8], queue: &mut Que
 
 // Follows the links from the pairs that are queued, those that are 0 in the grid: what is then 0 is their closure, and
 // the queue has all of it.
-pub fn flood(walk: &Walk, grid: &mut [u8], queue: &mut Queue)
+fn flood_from(walk: &Walk, grid: &mut [u8], queue: &mut Queue)
     requires { FloodAsked walk.now grid.old queue.old }
     ensures { Followed walk.now.script.now walk.now.names.now walk.now.shapes grid.old grid.new queue.new.len }
 {
@@ -105,4 +105,15 @@ pub fn flood(walk: &Walk, grid: &mut [u8], queue: &mut Queue)
         last = n;
         head += 1;
     }
+}
+
+// Follows the links from the pairs that are 0 in the grid: what is then 0 is their closure. Its number of pairs.
+pub fn flood(walk: &Walk, grid: &mut [u8]) -> usize
+    requires { FloodReady walk.now grid.old }
+    ensures { Followed walk.now.script.now walk.now.names.now walk.now.shapes grid.old grid.new result }
+{
+    let mut queue = Queue::new();
+    list_off(grid, &mut queue);
+    flood_from(walk, grid, &mut queue);
+    queue.len
 }

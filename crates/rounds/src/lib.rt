@@ -63,18 +63,19 @@ fn strike_rounds(
 
 // Strikes rounds from a grid that has the pairs whose counts fit, until one strikes nothing. The incoming names are
 // indexed where some shape names one.
-pub fn strike_all(walk: &Walk, grid: &mut [u8], queue: &mut Queue) -> Tally
+pub fn strike_all(walk: &Walk, grid: &mut [u8]) -> Tally
     requires { StrikeAsked walk.now grid.old }
     ensures { StrikesLeft walk.now.script.now walk.now.names.now walk.now.shapes
         grid.old grid.new result.rounds result.struck }
 {
     let mut outgoing = NameIndex::new(0);
     index_names(walk.names, walk.shapes, &mut outgoing);
-    list_off(grid, queue);
+    let mut queue = Queue::new();
+    list_off(grid, &mut queue);
     if walk.incoming {
         let mut incoming = NameIndex::new(MAX_KINDS);
         index_names(walk.names, walk.shapes, &mut incoming);
-        return strike_rounds(walk, &outgoing, Some(&incoming), grid, queue);
+        return strike_rounds(walk, &outgoing, Some(&incoming), grid, &mut queue);
     }
-    strike_rounds(walk, &outgoing, None, grid, queue)
+    strike_rounds(walk, &outgoing, None, grid, &mut queue)
 }

@@ -10,7 +10,6 @@ ghost use Rattle.pairs.specs.Pairs.{TestedAs};
 ghost use Rattle.searches.specs.Searches.{StrikesAsked, SettleAsked};
 
 use bare::count_bare;
-use board::Queue;
 use closure::{close, first_unfit};
 use lent::ListedSheet;
 use links::CardLinks;
@@ -20,12 +19,12 @@ use sheet::ReadSheet;
 use typing::{Settled, Struck};
 
 // Strikes rounds from a grid that has the pairs whose counts fit: it then has the largest typing.
-pub fn strike(sheet: &ReadSheet, links: &CardLinks, grid: &mut [u8], queue: &mut Queue) -> Struck
+pub fn strike(sheet: &ReadSheet, links: &CardLinks, grid: &mut [u8]) -> Struck
     requires { StrikesAsked sheet.now links.now grid.old }
     ensures { (s : Sheet) → TestedAs s sheet.now grid.old → LargestFound s grid.new (struck_said result) }
 {
     let walk = walk_of(sheet, links);
-    let tally = strike_all(&walk, grid, queue);
+    let tally = strike_all(&walk, grid);
     let bare = count_bare(sheet.script, sheet.extent, grid);
     Struck {
         rounds: tally.rounds,
@@ -42,7 +41,6 @@ pub fn settle(
     desk: u16,
     fitting: &[u8],
     grid: &mut [u8],
-    queue: &mut Queue,
 ) -> Settled
     requires { SettleAsked listed.now links.now fitting.now grid.old }
     ensures { (s : Sheet) → TestedAs s listed.now.sheet fitting.now
@@ -50,15 +48,7 @@ pub fn settle(
 {
     let walk = walk_of(&listed.sheet, links);
     let cards = usize::from(listed.sheet.extent.cards);
-    let found = close(
-        &walk,
-        listed.bookings,
-        listed.count,
-        desk,
-        cards,
-        grid,
-        queue,
-    );
+    let found = close(&walk, listed.bookings, listed.count, desk, cards, grid);
     match first_unfit(grid, fitting, walk.shapes) {
         None => Ok(found),
         Some(pair) => Err(pair),

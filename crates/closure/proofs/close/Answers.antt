@@ -20,5 +20,5 @@ pub returns : goal.returns
 returns c =
     closes c.requires.links.ready
     (λ i l. let (card, shape) = c.requires.booked-in i l in (omega (arith, card, c.requires.all-cards), shape))
-    (marked-full (goal.at.returns c).After-mark_bookings) c.mark_bookings.ensures.0 c.flood.ensures
+    (marked-full (goal.at.returns c).After-mark_bookings) c.mark_bookings.ensures.0 c.flood-found.ensures
     c.flip.ensures

@@ -1,4 +1,4 @@
--- `flood::flood` leaves the closure of what was queued. Assumes nothing.
+-- `flood::flood_from` leaves the closure of what was queued. Assumes nothing.
 use mathlib.Core.List.{List}
 use Prim.Native.Nat.{ℕ, ◌≤◌, ◌-◌}
 use lib.ListN.{length, get_or}
@@ -6,7 +6,7 @@ use Rattle.words.specs.Sizes.{max_grid}
 use Rattle.board.specs.Work.{work, entry, Queued}
 use Rattle.board.proofs.Flooding.{Flooding}
 use Rattle.typing.specs.Needs.{board_of}
-use Rattle.flood.proofs.flood.Given as goal
+use Rattle.flood.proofs.flood_from.Given as goal
 
 abbrev pub invariant-loop-head : goal.invariant-loop-head
 invariant-loop-head l =
