@@ -164,12 +164,19 @@ pub fn prep_read_script(template: &[u16], script: &[u16]) -> PrepScript
     }
 }
 
-// Copies words from the start of one slice to another, as many as both have.
+// Copies words from the start of one slice to another, as many as both have. Word by word, since the library asks for
+// memset alone: `copy_from_slice` is compiled to memmove.
 fn copy(from: &[u16], to: &mut [u16])
     ensures { to.new ≡ copied from.now to.old }
 {
-    let shared = from.len().min(to.len());
-    to[..shared].copy_from_slice(&from[..shared]);
+    let mut i = 0;
+    while i < to.len() {
+        if from.len() <= i {
+            return;
+        }
+        to[i] = from[i];
+        i += 1;
+    }
 }
 
 // Links of a card: copies as many of their words as there is room for, and returns how many they are.
