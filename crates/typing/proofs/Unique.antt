@@ -113,10 +113,10 @@ module _ {s : Sheet} {B : Board} (rep : Represents s B) where
         (l, m, em, el)
 
 -- ---- of one saying one answer
-card_unique : {n m : Card} → n.0 ≡ m.0 → n ≡ m
+pub card_unique : {n m : Card} → n.0 ≡ m.0 → n ≡ m
 card_unique e = ap (λ (x : ℕ). record { 0 = x }) e
 
-shape-unique : {t u : Shape} → t.0 ≡ u.0 → t ≡ u
+pub shape-unique : {t u : Shape} → t.0 ≡ u.0 → t ≡ u
 shape-unique e = ap (λ (x : ℕ). record { 0 = x }) e
 
 pub pair-unique : (number : ℕ) (p q : Card × Shape) → pair_said number p ≡ pair_said number q → p ≡ q

@@ -21,14 +21,14 @@ read : (c : After-shape) → ShapeAnswer (read_shape c.args.sizes c.args.words.n
 read c = rw c.loop-t.invariant.0 at c.shape.ensures.reads
 
 pub loop-t-init : goal.loop-t-init
-loop-t-init c = (refl, filling-start c.args.sizes c.args.words.now c.args.names.now c.requires.unnamed)
+loop-t-init c = (refl, filling-start c.args.sizes c.args.words.now c.args.names.now c.requires.room)
 
 pub shape-requires : goal.shape-requires
 shape-requires c =
     record {
       kinds-high = c.requires.kinds-high;
       shapes-high = c.requires.shapes-high;
-      unnamed = filling-row c.loop-t.invariant.1 (below (goal.at.shape-requires c).In-loop-t) c.requires.shapes-high;
+      room = filling-row c.loop-t.invariant.1 (below (goal.at.shape-requires c).In-loop-t) c.requires.shapes-high;
     }
 
 pub loop-t-preserved : goal.loop-t-preserved
