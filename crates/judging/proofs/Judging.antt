@@ -1,6 +1,8 @@
 -- A grid tested as it is: whether it has what a link makes good; whether a pair is met; whether a booking is held.
 --   link-nothing, link-named, link-both   by the entry that is read for the link: 0, or the pair that it names
+--   pair-in, card-here     a pair is one of the sheet, and so is its card
 --   unfit-unmet            a pair whose counts do not fit is not met
+--   met-by-needs           one whose counts fit is met if the grid has what it needs
 --   leaving-asked, arriving-asked   what testing the links from its card, and those to it, asks
 --   unmet-from, met-from, met-both  one whose counts fit, by what these tests find
 --   booking-asked          what looking for one of the bookings asks

@@ -1,7 +1,6 @@
 -- How the table of names is filled, shape by shape.
 -- Filling          what holds before each shape: the rows before it are filled
 -- filling-start    it holds of any table
--- filling-row      the row of the next shape has a byte for each label
 -- filling-next     it holds after that shape was read into its row
 -- filling-…        one law for each answer after the loop or in it
 -- Assumes nothing.
@@ -12,7 +11,7 @@ use native.Mathlib.Omega.{arith}
 use native.Mathlib.Numerals.{add-one}
 use borrow.Author.Tests.{ltb-true, ltb-false}
 use borrow.Rule.Slice.PartMut.{mid_of, put_mid, same_len_mid, mid_len}
-use lib.ListN.{length, get_or, take, drop}
+use lib.ListN.{length, get_or, drop}
 use lib.Dec.{ltb}
 use Rattle.bags.specs.Part.{Part}
 use Rattle.bags.specs.Named.{named}
@@ -81,9 +80,6 @@ module _ {sizes : Sizes} {words names : List ℕ} {at t : ℕ} (f : Filling size
   module _ (h : t < sizes.shapes) (i : sizes.shapes ≤ max_shapes) where
     row-bounds : (row_end t ≤ length names) × (row_span t ≡ max_labels)
     row-bounds = omega (arith, f.size)
-
-    pub filling-row : length (take (row_span t) (drop (row_start t) names)) ≡ max_labels
-    filling-row = mid_len (row_start t) (row_end t) names row-bounds.0 ∙ row-bounds.1
 
     one_less : sizes.shapes - t ≡ suc (sizes.shapes - (t + 1))
     one_less = omega arith

@@ -1,6 +1,7 @@
 -- The contracts of the calls for the typings leave no choice: two answers to one call are the same.
 --   typing-unique           a typing is its pairs
 --   largest-found-unique, smallest-found-unique, both-found-unique   of one sheet there is one answer
+--   card_unique, shape-unique   a card, and a shape, is its number
 --   pair-unique, pair-plain   a card and a shape are what is said of them, which is no refusal at one place
 --   struck-unique, settled-unique, both-unique                       of one saying one thing found
 --   largest-said-unique, smallest-said-unique, both-said-unique      of one saying one answer
