@@ -38,7 +38,8 @@ put_pages examples/prep/README.md tools/TEXT-FORM.md
 for page in docs/*.md; do
     case $page in
     # These are about the repository.
-    docs/CHANGES.md | docs/CONTRACTS.md | docs/DECISIONS.md | docs/DESIGN-PASS.md | docs/PORT.md) ;;
+    docs/CHANGES.md | docs/CONTRACTS.md | docs/DECISIONS.md) ;;
+    docs/DESIGN-PASS.md | docs/LOOK-BACK.md | docs/PORT.md) ;;
     *) put_pages "$page" ;;
     esac
 done

@@ -6,6 +6,7 @@
 --   flood-done                         the queue is used up: the zeros are the closure
 --   flood-flipped                      the grid turned round has the closure
 -- Assumes nothing.
+use base.Fml.{GName}
 use mathlib.Core.Path.{◌≡◌, refl, sym, ◌∙◌, subst}
 use mathlib.Core.List.{List}
 use mathlib.Core.Bool.{Bool, false, not}
@@ -76,9 +77,9 @@ module _ {B : Board} {Book : ℕ → Type 0} {head : ℕ} where
       (next.0, next.1 ∙ before.1, next.2)
 
 -- ---- the loop
-pub flood-start : {B : Board} (grid queue : List ℕ) (tail : ℕ) → length grid ≡ B.size
+pub flood-start : {B : Board} {lent : GName} (grid queue : List ℕ) (tail : ℕ) → length grid ≡ B.size
     → Listed grid queue tail (length grid)
-    → Flooding B (Queued (entry queue) tail) (length queue) (work_of grid queue tail) 0
+    → Flooding B (Queued (entry queue) tail) (length queue) (work_of grid queue tail lent) 0
 flood-start grid queue tail e s = record {
   full = e;
   space = refl;

@@ -6,6 +6,7 @@
 --   search-turn                a turn that sweeps all that needs the place at the head
 --   search-done                the queue is used up: the rounds are done
 -- Assumes nothing.
+use base.Fml.{GName}
 use mathlib.Core.Path.{◌≡◌, refl, sym, ◌∙◌, subst, subst₂}
 use mathlib.Core.List.{List}
 use mathlib.Core.Bool.{not}
@@ -65,9 +66,9 @@ module _ {B : Board} {head end round : ℕ} (h : head < end) where
       (next.0, next.1 ∙ before.1)
 
 -- ---- the loop
-pub search-start : {B : Board} (grid queue : List ℕ) (tail : ℕ) → length grid ≡ B.size
+pub search-start : {B : Board} {lent : GName} (grid queue : List ℕ) (tail : ℕ) → length grid ≡ B.size
     → ((p : ℕ) → p < B.size → on grid p ≡ B.ok p)
-    → Listed grid queue tail (length grid) → Searching B (length queue) (work_of grid queue tail) 0 0 0
+    → Listed grid queue tail (length grid) → Searching B (length queue) (work_of grid queue tail lent) 0 0 0
 search-start grid queue tail e oks s = record {
   full = e;
   space = refl;

@@ -1,11 +1,11 @@
 -- Strikes on a grid and a queue, and runs of strikes.
 --   strike-hit, strike-miss   what one strike does
 --   room-hit                  a strike finds room in the queue
---   one-grid, one-queue, one-room, one-off, one-stays, one-marks   what one strike keeps and reaches
+--   one-grid, one-queue, one-lent, one-room, one-off, one-stays, one-marks   what one strike keeps and reaches
 --   run_wider, run-append     runs of more places; one run after another
---   run-grid, run-queue, run_room, run-off, run-marks              what a run keeps
+--   run-grid, run-queue, run-lent, run_room, run-off, run-marks    what a run keeps
 --   swept_none, swept_same, swept-append                           sweeps, and one more sweep
---   swept-grid, swept-queue, swept-room                            what a sweep keeps
+--   swept-grid, swept-queue, swept-lent, swept-room                what a sweep keeps
 -- Assumes nothing.
 use mathlib.Core.Path.{◌≡◌, refl, sym, ◌∙◌, subst}
 use mathlib.Core.Logic.{◌⊎◌, ⊎_elim}
@@ -22,7 +22,7 @@ use Rattle.board.proofs.Grids.{on-set-same, on-set-other, marks-set}
 
 -- ---- one strike
 pub strike-hit : (w : Work) (p : ℕ) → on w.grid p ≡ true
-    → strike_one w p ≡ work_of (set w.grid p 0) (set w.queue w.tail p) (w.tail + 1)
+    → strike_one w p ≡ work_of (set w.grid p 0) (set w.queue w.tail p) (w.tail + 1) w.lent
 unfolding strike_one
 strike-hit w p e = rw e
 
@@ -32,7 +32,7 @@ strike-miss w p e = rw e
 
 -- what holds of the work with the strike where p stands, and of the work as it is where not, holds after the strike
 pub strike-case : (P : Work → Type 0) (w : Work) (p : ℕ)
-    → (on w.grid p ≡ true → P (work_of (set w.grid p 0) (set w.queue w.tail p) (w.tail + 1)))
+    → (on w.grid p ≡ true → P (work_of (set w.grid p 0) (set w.queue w.tail p) (w.tail + 1) w.lent))
     → (on w.grid p ≡ false → P w) → P (strike_one w p)
 strike-case P w p hit miss = ⊎_elim
     (λ e. subst P (sym (strike-hit w p e)) (hit e))
@@ -50,6 +50,9 @@ module _ (w : Work) (p : ℕ) where
   one-queue : length (strike_one w p).queue ≡ length w.queue
   one-queue = strike-case (λ v. length v.queue ≡ length w.queue) w p
       (λ e. length-set w.queue w.tail p) (λ e. refl)
+
+  one-lent : (strike_one w p).lent ≡ w.lent
+  one-lent = strike-case (λ v. v.lent ≡ w.lent) w p (λ e. refl) (λ e. refl)
 
   one-marks : Marks w.grid → Marks (strike_one w p).grid
   one-marks m = strike-case (λ v. Marks v.grid) w p (λ e. marks-set w.grid p m) (λ e. m)
@@ -91,6 +94,10 @@ module _ {Good : ℕ → Type 0} {w : Work} where
   run-queue stay = refl
   run-queue (then {v} {p} r g) = one-queue v p ∙ run-queue r
 
+  run-lent : {v : Work} → Run Good w v → v.lent ≡ w.lent
+  run-lent stay = refl
+  run-lent (then {v} {p} r g) = one-lent v p ∙ run-lent r
+
   run-marks : {v : Work} → Marks w.grid → Run Good w v → Marks v.grid
   run-marks m stay = m
   run-marks m (then {v} {p} r g) = one-marks v p (run-marks m r)
@@ -126,6 +133,10 @@ module _ {Good : ℕ → Type 0} {w v : Work} (s : Swept Good w v) where
 
   pub swept-queue : length v.queue ≡ length w.queue
   swept-queue = run-queue s.run
+
+  -- the buffer that is lent to the queue is still the same
+  pub swept-lent : v.lent ≡ w.lent
+  swept-lent = run-lent s.run
 
   pub swept-marks : Marks w.grid → Marks v.grid
   swept-marks m = run-marks m s.run

@@ -1,32 +1,31 @@
-// The queue of a search: the places that it has found, in their order. The greatest grid's places have room in it.
+// The queue of a search: the places that it has found, in their order, in a buffer that is lent.
 ghost use Rattle.std.specs.Prelude.{◌≡◌, ◌+◌, ◌<◌, ◌≤◌, length, get_or, set};
 ghost use Rattle.words.specs.Sizes.{max_grid};
-ghost use Rattle.board.specs.Work.{work, strike_one, Strikable, pushed};
+ghost use Rattle.board.specs.Work.{work, strike_one, Lent, Strikable};
 ghost use Rattle.board.specs.Listing.{Listed};
 
-use words::MAX_GRID;
-
 #[derive(Drop)]
-pub struct Queue {
-    pub places: [u16; MAX_GRID],
+pub struct Queue<'a> {
+    pub places: &'a mut [u16],
     pub len: usize,
 }
 
-impl Queue {
+impl<'a> Queue<'a> {
     // A queue with no place.
-    pub fn new() -> Queue
-        ensures { result.len ≡ 0 }
+    pub fn new(places: &'a mut [u16]) -> Queue<'a>
+        ensures len { result.len ≡ 0 }
+        ensures places { result.places.now ≡ places.entry.now }
+        ensures lent { result.places.ghost_name ≡ places.entry.ghost_name }
     {
-        Queue {
-            places: [0; MAX_GRID],
-            len: 0,
-        }
+        Queue { places, len: 0 }
     }
 
     // Queues a place.
     pub fn push(&mut self, place: usize)
-        requires { (self.old.len < max_grid) × (place < max_grid) }
-        ensures { self.new ≡ pushed self.old place }
+        requires { (self.old.len < length self.old.places.now) × (place < max_grid) }
+        ensures places { self.new.places.now ≡ set self.old.places.now self.old.len place }
+        ensures len { self.new.len ≡ self.old.len + 1 }
+        ensures lent { self.new.places.ghost_name ≡ self.old.places.ghost_name }
     {
         let end = self.len;
         self.places[end] = place as u16;
@@ -35,8 +34,8 @@ impl Queue {
 
     // The place that was queued as number `i`.
     pub fn at(&self, i: usize) -> usize
-        requires { i < max_grid }
-        ensures { result ≡ get_or self.now.places i 0 }
+        requires { i < length self.now.places.now }
+        ensures { result ≡ get_or self.now.places.now i 0 }
     {
         usize::from(self.places[i])
     }
@@ -55,8 +54,10 @@ pub fn strike_one(grid: &mut [u8], queue: &mut Queue, place: usize)
 
 // Queues the places that are not on, and no others.
 pub fn list_off(grid: &[u8], queue: &mut Queue)
-    requires { length grid.now ≤ max_grid }
-    ensures { Listed grid.now queue.new.places queue.new.len (length grid.now) }
+    requires { Lent grid.now queue.old.places.now }
+    ensures listed { Listed grid.now queue.new.places.now queue.new.len (length grid.now) }
+    ensures long { length queue.new.places.now ≡ length queue.old.places.now }
+    ensures lent { queue.new.places.ghost_name ≡ queue.old.places.ghost_name }
 {
     queue.len = 0;
     for (place, byte) in grid.iter().enumerate() {

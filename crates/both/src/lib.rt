@@ -14,7 +14,7 @@ use links::{CardLinks, Chains};
 use pairs::{STARTS, chain_arrivals, test_pairs};
 use searches::{settle, strike};
 use typing::Both;
-use words::{Fault, MAX_CARDS, MAX_LINKS, Refusal, TABLE_SIZE};
+use words::{Fault, MAX_CARDS, MAX_GRID, MAX_LINKS, Refusal, TABLE_SIZE};
 
 // Both typings of a sheet and a desk's bookings that are read, in grids of its size. A pair's counts are tested once.
 fn both_of(listed: &ListedSheet, desk: u16, small: &mut [u8], large: &mut [u8]) -> Both
@@ -36,8 +36,9 @@ fn both_of(listed: &ListedSheet, desk: u16, small: &mut [u8], large: &mut [u8]) 
         starts: &starts,
         chains,
     };
-    let smallest = settle(listed, &links, desk, large, small);
-    let largest = strike(sheet, &links, large);
+    let mut room = [0u16; MAX_GRID];
+    let smallest = settle(listed, &links, desk, large, small, &mut room);
+    let largest = strike(sheet, &links, large, &mut room);
     Both { largest, smallest }
 }
 

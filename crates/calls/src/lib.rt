@@ -37,7 +37,8 @@ fn largest_of(sheet: &ReadSheet, grid: &mut [u8]) -> Struck
         starts: &starts,
         chains,
     };
-    strike(sheet, &links, grid)
+    let mut room = [0u16; MAX_GRID];
+    strike(sheet, &links, grid, &mut room)
 }
 
 // The smallest typing of a sheet and a desk's bookings that are read, in a grid of its size, by where the links to each
@@ -59,7 +60,8 @@ fn smallest_by(
         starts: &starts,
         chains: *chains,
     };
-    settle(listed, &links, desk, fitting, grid)
+    let mut room = [0u16; MAX_GRID];
+    settle(listed, &links, desk, fitting, grid, &mut room)
 }
 
 // The same. The links to each card are chained where some shape names an incoming kind.

@@ -39,13 +39,15 @@ pub record Marked (bookings : List ℕ) (desk shapes k : ℕ) (grid : List ℕ) 
   pub only : (p : ℕ) → p < length grid → on grid p ≡ false → BookedAt bookings desk shapes k p
   pub each : (p : ℕ) → BookedAt bookings desk shapes k p → on grid p ≡ false
 
--- What the closure asks: where each card's links stand, bookings that are read, a byte for each pair.
-pub record CloseAsked (walk : Walk) (bookings : List ℕ) (count cards : ℕ) (grid : List ℕ) : Type 0 where
+-- What the closure asks: where each card's links stand, bookings that are read, a byte for each pair, and room for all
+-- in the buffer of the queue.
+pub record CloseAsked (walk : Walk) (bookings : List ℕ) (count cards : ℕ) (grid room : List ℕ) : Type 0 where
   pub links : WalkReady walk
   pub all-cards : cards ≡ get_or walk.script.now 0 0
   pub sized : ListOf 3 bookings count
   pub booked-in : BookingsIn bookings cards walk.shapes count
   pub full : length grid ≡ cards * walk.shapes
+  pub room-in : length grid ≤ length room
 
 -- The grid has just the closure of the first k bookings that are the desk's, and so many pairs. Which pairs fit plays
 -- no part.

@@ -32,8 +32,9 @@ fn mark_bookings(
     }
 }
 
-// Writes the closure of a desk's bookings into the grid, whatever it held, and returns its number of pairs. The list
-// and its count come apart, since the struct that has both, with the sheet, is of a crate above.
+// Writes the closure of a desk's bookings into the grid, whatever it held, and returns its number of pairs. The search
+// queues them in a buffer that is lent. The list and its count come apart, since the struct that has both, with the
+// sheet, is of a crate above.
 pub fn close(
     walk: &Walk,
     bookings: &[u16],
@@ -41,14 +42,15 @@ pub fn close(
     desk: u16,
     cards: usize,
     grid: &mut [u8],
+    room: &mut [u16],
 ) -> usize
-    requires { CloseAsked walk.now bookings.now count cards grid.old }
+    requires { CloseAsked walk.now bookings.now count cards grid.old room.old }
     ensures { Closes walk.now.script.now walk.now.names.now walk.now.shapes bookings.now desk count
         grid.new result }
 {
     fill(grid, 1);
     mark_bookings(bookings, count, desk, cards, walk.shapes, grid);
-    let found = flood(walk, grid);
+    let found = flood(walk, grid, room);
     flip(grid);
     found
 }

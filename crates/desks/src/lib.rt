@@ -12,7 +12,7 @@ use links::{CardLinks, Chains};
 use pairs::{STARTS, chain_arrivals, test_pairs};
 use searches::{settle, strike};
 use typing::Desks;
-use words::{Fault, MAX_CARDS, MAX_LINKS, Refusal, TABLE_SIZE};
+use words::{Fault, MAX_CARDS, MAX_GRID, MAX_LINKS, Refusal, TABLE_SIZE};
 
 // The typings of a sheet whose pairs are tested, as the last grid says: each desk's bookings are settled, 0 being
 // radio's and 1 television's, and then rounds are struck in that grid.
@@ -31,9 +31,10 @@ fn desks_tested(
           large = large.new;
         }) (desks_of result) }
 {
-    let one = settle(listed, links, 0, large, radio);
-    let other = settle(listed, links, 1, large, television);
-    let largest = strike(&listed.sheet, links, large);
+    let mut room = [0u16; MAX_GRID];
+    let one = settle(listed, links, 0, large, radio, &mut room);
+    let other = settle(listed, links, 1, large, television, &mut room);
+    let largest = strike(&listed.sheet, links, large, &mut room);
     Desks {
         largest,
         radio: one,

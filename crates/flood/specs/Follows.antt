@@ -64,12 +64,14 @@ pub record LedCardAsked (script starts : List ℕ) (shapes factor last q : ℕ) 
 pub record FloodAsked (walk : Walk) (grid : List ℕ) (queue : Queue) : Type 0 where
   pub links : WalkReady walk
   pub full : length grid ≡ get_or walk.script.now 0 0 * walk.shapes
-  pub listed : Listed grid queue.places queue.len (length grid)
+  pub room : length grid ≤ length queue.places.now
+  pub listed : Listed grid queue.places.now queue.len (length grid)
 
--- The same before the pairs that are off are queued.
-pub record FloodReady (walk : Walk) (grid : List ℕ) : Type 0 where
+-- The same before the pairs that are off are queued: a buffer has room for all.
+pub record FloodReady (walk : Walk) (grid room : List ℕ) : Type 0 where
   pub links : WalkReady walk
   pub full : length grid ≡ get_or walk.script.now 0 0 * walk.shapes
+  pub room-in : length grid ≤ length room
 
 -- A place of the board whose byte is not 1.
 abbrev Off : List ℕ → ℕ → Type 0

@@ -107,12 +107,13 @@ fn flood_from(walk: &Walk, grid: &mut [u8], queue: &mut Queue)
     }
 }
 
-// Follows the links from the pairs that are 0 in the grid: what is then 0 is their closure. Its number of pairs.
-pub fn flood(walk: &Walk, grid: &mut [u8]) -> usize
-    requires { FloodReady walk.now grid.old }
+// Follows the links from the pairs that are 0 in the grid: what is then 0 is their closure. Its number of pairs. They
+// are queued in a buffer that is lent, whatever it held.
+pub fn flood(walk: &Walk, grid: &mut [u8], room: &mut [u16]) -> usize
+    requires { FloodReady walk.now grid.old room.old }
     ensures { Followed walk.now.script.now walk.now.names.now walk.now.shapes grid.old grid.new result }
 {
-    let mut queue = Queue::new();
+    let mut queue = Queue::new(room);
     list_off(grid, &mut queue);
     flood_from(walk, grid, &mut queue);
     queue.len

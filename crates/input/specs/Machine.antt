@@ -1,4 +1,5 @@
 -- What finding and decoding the sections of the input does; no part of a promise.
+-- Decodes, Decoded       what decoding words into a buffer asks, and what it does
 -- words_in, sections_read  the words of a section, and the reading that an answer stands for
 -- part_in          the words of a section as a part of all words
 -- SectionFound     a section that stands after its count
@@ -12,6 +13,18 @@ use Rattle.words.specs.Reading.{Reading, accepted, turned_down}
 use Rattle.input.specs.declared.Section.{Section}
 use Rattle.input.specs.declared.Sections.{Sections}
 use Rattle.input.specs.Input.{word_at, words_from, input_end, Input, input_of}
+
+-- So many words from a byte on are in the bytes, and the buffer has room for them.
+pub record Decodes (bytes : List ℕ) (at count : ℕ) (words : List ℕ) : Type 0 where
+  pub inside : at + 2 * count ≤ length bytes
+  pub room : count ≤ length words
+
+-- The first `count` words of a buffer are those that stand in the bytes from a place on.
+pub record Decoded (bytes : List ℕ) (at count : ℕ) (words : List ℕ) : Type 0 where
+  -- the buffer has that many
+  pub size : count ≡ length (take count words)
+  -- and they are those words
+  pub holds : take count words ≡ words_from bytes at count
 
 -- The words of a section.
 abbrev pub words_in : List ℕ → Section → List ℕ

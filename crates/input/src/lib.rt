@@ -5,7 +5,7 @@
 ghost use Rattle.std.specs.Prelude.{◌≡◌, ◌+◌, ◌*◌, ◌/◌, ◌^◌, ◌≤◌, ◌<◌, length, Some, MatchOption};
 ghost use Rattle.words.specs.Bounded.{Bounded};
 ghost use Rattle.input.specs.Input.{word_at, words_from, section_end, read_front, read_input};
-ghost use Rattle.input.specs.Machine.{words_in, part_in, sections_read, SectionFound, AllWithin};
+ghost use Rattle.input.specs.Machine.{Decodes, Decoded, words_in, part_in, sections_read, SectionFound, AllWithin};
 ghost use Rattle.input.specs.Machine.{FrontInside, SectionsInside};
 
 use words::MAX_INPUT;
@@ -41,16 +41,24 @@ pub fn word_at(bytes: &[u8], at: usize) -> u16
     u16::from_le_bytes([bytes[at], bytes[at + 1]])
 }
 
+// Puts `count` words from the byte `at` on into the front of a buffer.
+pub fn decode(bytes: &[u8], at: usize, count: usize, words: &mut [u16])
+    requires { Decodes bytes.now at count words.old }
+    ensures { Decoded bytes.now at count words.new }
+{
+    for i in 0..count {
+        words[i] = word_at(bytes, at + 2 * i);
+    }
+}
+
 // Decodes the words of the bytes to the front of a buffer, which lends them.
-pub fn decode<'a>(bytes: &[u8], room: &'a mut [u16]) -> &'a [u16]
+pub fn decode_all<'a>(bytes: &[u8], room: &'a mut [u16]) -> &'a [u16]
     requires { length bytes.now / 2 ≤ length room.old }
     ensures { result.now ≡ words_from bytes.now 0 (length bytes.now / 2) }
 {
-    let words = &mut room[..bytes.len() / 2];
-    for (i, word) in words.iter_mut().enumerate() {
-        *word = word_at(bytes, 2 * i);
-    }
-    words
+    let count = bytes.len() / 2;
+    decode(bytes, 0, count, room);
+    &room[..count]
 }
 
 // How many words a section has whose count stands at a byte.
@@ -89,7 +97,7 @@ impl Sections {
         ensures script { result.script.now ≡ words_in bytes.now self.now.script }
         ensures bookings { result.bookings.now ≡ words_in bytes.now self.now.bookings }
     {
-        let words = decode(bytes, room);
+        let words = decode_all(bytes, room);
         Lists {
             template: self.template.part(words),
             script: self.script.part(words),

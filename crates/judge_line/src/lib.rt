@@ -15,7 +15,7 @@ ghost use Rattle.judge_line.specs.JudgeLine.{Judges};
 ghost use Rattle.judge_line.specs.Steps.{line_room, FrontLent, LineWritten};
 
 use input::{Sections, count_at, find_front, word_at};
-use text::{put_line, put_refused};
+use text::{put_line, put_refusal};
 use typing::Judged;
 use verdict::judge;
 use words::{Fault, Refusal};
@@ -49,7 +49,7 @@ fn put_verdict(out: &mut [u8], said: Result<Judged, Refusal>) -> usize
 {
     match said {
         Ok(judged) => put_judged(out, judged),
-        Err(refusal) => put_refused(out, refusal),
+        Err(refusal) => put_refusal(out, refusal),
     }
 }
 
@@ -79,11 +79,11 @@ fn judge_front(input: &[u8], sections: Sections, out: &mut [u8]) -> usize
     let end = sections.bookings.end();
     let start = end + 4;
     if input.len() < start {
-        return put_refused(out, Refusal(Fault::InputLength, 0));
+        return put_refusal(out, Refusal(Fault::InputLength, 0));
     }
     let grid_end = start + count_at(input, end + 2);
     if input.len() != grid_end {
-        return put_refused(out, Refusal(Fault::InputLength, 0));
+        return put_refusal(out, Refusal(Fault::InputLength, 0));
     }
     let desk = word_at(input, end);
     let said = judge_sections(input, sections, desk, &input[start..]);
@@ -97,7 +97,7 @@ pub fn judge_line(input: &[u8], out: &mut [u8; LINE_ROOM]) -> usize
     ensures inside { Counted out.new result }
 {
     match find_front(input, MAX_JUDGED) {
-        None => put_refused(out, Refusal(Fault::InputLength, 0)),
+        None => put_refusal(out, Refusal(Fault::InputLength, 0)),
         Some(sections) => judge_front(input, sections, out),
     }
 }

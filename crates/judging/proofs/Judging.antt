@@ -1,6 +1,8 @@
 -- A grid tested as it is: whether it has what a link makes good; whether a pair is met; whether a booking is held.
 --   link-nothing, link-named, link-both   by the entry that is read for the link: 0, or the pair that it names
+--   pair-in, card-here     a pair is one of the sheet, and so is its card
 --   unfit-unmet            a pair whose counts do not fit is not met
+--   met-by-needs           one whose counts fit is met if the grid has what it needs
 --   leaving-asked, arriving-asked   what testing the links from its card, and those to it, asks
 --   unmet-from, met-from, met-both  one whose counts fit, by what these tests find
 --   booking-asked          what looking for one of the bookings asks
@@ -61,10 +63,10 @@ module _ {j : Judged} {p : ℕ} (asked : MetAsked j p) where
   ready = asked.lent.links.ready
 
   -- it is one of the sheet, and so is its card
-  pair-in : p < get_or j.walk.script.now 0 0 * j.walk.shapes
+  pub pair-in : p < get_or j.walk.script.now 0 0 * j.walk.shapes
   pair-in = omega (arith, asked.on-board, asked.lent.full)
 
-  card-here : p / j.walk.shapes < get_or j.walk.script.now 0 0
+  pub card-here : p / j.walk.shapes < get_or j.walk.script.now 0 0
   card-here = card-in j.walk.shapes ready.one-shape (get_or j.walk.script.now 0 0) p pair-in
 
   -- its shape has a row in the table, of two halves
@@ -106,6 +108,15 @@ module _ {j : Judged} {p : ℕ} (asked : MetAsked j p) where
   unfit-unmet off =
       sym (is_false (λ e. never_both ((board-lawful ready j.fitting.now).met-ok (on j.grid.now) p e) off))
 
+  -- its counts fit, so it is met exactly if the grid has what it needs
+  pub met-by-needs : on j.fitting.now p ≡ true → {r : Bool} → (r ≡ true) ↔ HasAll (on j.grid.now)
+      (Needs j.walk.script.now j.walk.names.now j.walk.shapes p) → r ≡ met j p
+  met-by-needs fit exact =
+      let lawful = board-lawful ready j.fitting.now in
+      bools-equal
+      (λ e. lawful.met_of (on j.grid.now) p fit (exact.0 e))
+      (λ e. is_false (λ m. never_both (exact.1 (λ q d. lawful.met-dep (on j.grid.now) p q m d)) e))
+
   module _ {lo hi : ℕ} (low : lo ≡ get_or j.walk.starts.now (p / j.walk.shapes) 0)
       (high : hi ≡ get_or j.walk.starts.now (p / j.walk.shapes + 1) 0) where
     pub leaving-asked : LeavingTested j out lo hi
@@ -115,21 +126,11 @@ module _ {j : Judged} {p : ℕ} (asked : MetAsked j p) where
       links-in = range-in asked.lent.links.leaving card-here low high;
     }
 
-    -- its counts fit, so it is met exactly if the grid has what it needs
     module _ (fit : on j.fitting.now p ≡ true) where
-      met-by-needs : {r : Bool} → (r ≡ true) ↔ HasAll (on j.grid.now) (Needs j.walk.script.now j.walk.names.now
-          j.walk.shapes p)
-          → r ≡ met j p
-      met-by-needs exact =
-          let lawful = board-lawful ready j.fitting.now in
-          bools-equal
-          (λ e. lawful.met_of (on j.grid.now) p fit (exact.0 e))
-          (λ e. is_false (λ m. never_both (exact.1 (λ q d. lawful.met-dep (on j.grid.now) p q m d)) e))
-
       module _ {r : Bool}
           (exact : (r ≡ true) ↔ HasAll (on j.grid.now) (Leaving (LinkGood outgoing j out) lo hi)) where
         pub unmet-from : r ≡ false → false ≡ met j p
-        unmet-from off = met-by-needs (
+        unmet-from off = met-by-needs fit (
           false-true,
           λ had. never_both
               (exact.1 (had-first ready asked.lent.links.leaving pair-in low high out-half had)) off,
@@ -138,7 +139,7 @@ module _ {j : Judged} {p : ℕ} (asked : MetAsked j p) where
         pub met-from : r ≡ true → j.walk.incoming ≡ false → true ≡ met j p
         met-from all none =
             let only = had-out ready asked.lent.links.leaving pair-in low high out-half (asked.lent.links.ways none) in
-            met-by-needs (λ _. only.0 (exact.0 all), λ _. refl)
+            met-by-needs fit (λ _. only.0 (exact.0 all), λ _. refl)
 
         pub met-both : r ≡ true → {b : Bool}
             → (b ≡ true) ↔ HasAll (on j.grid.now) (Arriving j.walk.script.now (p / j.walk.shapes) (LinkGood incoming j
@@ -146,7 +147,7 @@ module _ {j : Judged} {p : ℕ} (asked : MetAsked j p) where
             → b ≡ met j p
         met-both all other =
             let both = had-both ready asked.lent.links.leaving pair-in low high out-half back-half in
-            met-by-needs (λ e. both.0 (exact.0 all, other.0 e), λ had. other.1 (both.1 had).1)
+            met-by-needs fit (λ e. both.0 (exact.0 all, other.0 e), λ had. other.1 (both.1 had).1)
 
 -- ---- the bookings
 -- What looking for booking i asks.

@@ -1,12 +1,13 @@
 // What a call is lent, read: a template, a script and a booking list, and then a desk and a grid.
 #![tactic(auto)]
 
-ghost use Rattle.std.specs.Prelude.{◌≡◌, ◌*◌};
+ghost use Rattle.std.specs.Prelude.{◌≡◌, ◌*◌, length};
+ghost use Rattle.words.specs.Sizes.{table_size};
 ghost use Rattle.lent.specs.Readings.{BookedAs, LentAs, listed_as};
 
 use bookings::read_bookings;
 use sheet::{Extent, ReadSheet, read_sheet};
-use words::{Fault, Refusal, TABLE_SIZE};
+use words::{Fault, Refusal};
 
 // A sheet that is read, and a booking list that is read for it, of so many bookings.
 #[derive(Clone, Copy)]
@@ -53,8 +54,9 @@ pub fn read_booked(
     template: &[u16],
     script: &[u16],
     bookings: &[u16],
-    names: &mut [u8; TABLE_SIZE],
+    names: &mut [u8],
 ) -> Result<(Extent, u16), Refusal>
+    requires { length names.old ≡ table_size }
     ensures { BookedAs template.now script.now names.new
         bookings.now result }
 {
@@ -70,8 +72,9 @@ pub fn read_lent(
     bookings: &[u16],
     desk: u16,
     grid: &[u8],
-    names: &mut [u8; TABLE_SIZE],
+    names: &mut [u8],
 ) -> Result<(Extent, u16), Refusal>
+    requires { length names.old ≡ table_size }
     ensures { LentAs template.now script.now names.new
         bookings.now desk grid.now result }
 {

@@ -12,8 +12,8 @@ pub fn run_length(links: &[u16], at: usize, kind: u16) -> usize
     ensures { (first : ℕ) → at ≡ 1 + 3 * first → RunOf links.now first kind result }
 {
     let mut count = 1;
-    for next in (at + 3..links.len()).step_by(3) {
-        if links[next] != kind {
+    for link in at / 3 + 1..links.len() / 3 {
+        if links[1 + 3 * link] != kind {
             return count;
         }
         count += 1;
@@ -43,12 +43,14 @@ pub fn count_on(links: &[u16], before: KindCount, kind: u16) -> KindCount
     requires { CountOnAsked links.now before }
     ensures { CountOf links.now kind result }
 {
+    let start = start_of(before, kind);
     let mut count = 0;
-    for next in (start_of(before, kind)..links.len()).step_by(3) {
-        if kind < links[next] {
-            return KindCount { next, kind, count };
-        }
-        if kind == links[next] {
+    for link in start / 3..links.len() / 3 {
+        let next = 1 + 3 * link;
+        if kind <= links[next] {
+            if kind < links[next] {
+                return KindCount { next, kind, count };
+            }
             count += 1;
         }
     }

@@ -12,7 +12,7 @@ ghost use Rattle.printer.specs.Steps.{SectionsLent};
 use input::{Sections, find_sections};
 use lent::{grid_size, list_sheet, read_booked};
 use sheet_text::print_grids;
-use text::put_refused;
+use text::put_refusal;
 use words::{Fault, MAX_GRID, MAX_INPUT, Refusal, TABLE_SIZE};
 
 // Room for the text of any sheet, as specs/Steps of sheet_text has it.
@@ -29,7 +29,7 @@ fn print_words(template: &[u16], script: &[u16], bookings: &[u16], out: &mut [u8
 {
     let mut names = [0u8; TABLE_SIZE];
     match read_booked(template, script, bookings, &mut names) {
-        Err(refusal) => put_refused(out, refusal),
+        Err(refusal) => put_refusal(out, refusal),
         Ok((e, count)) => {
             let size = grid_size(e);
             let mut radio = [0u8; MAX_GRID];
@@ -65,7 +65,7 @@ pub fn print_sheet(input: &[u8], out: &mut [u8; TEXT_ROOM]) -> usize
     ensures inside { Counted out.new result }
 {
     match find_sections(input) {
-        None => put_refused(out, Refusal(Fault::InputLength, 0)),
+        None => put_refusal(out, Refusal(Fault::InputLength, 0)),
         Some(sections) => print_sections(input, sections, out),
     }
 }

@@ -34,15 +34,16 @@ use Rattle.walks.specs.Cards.{Reciprocal}
 use Rattle.walks.proofs.Cards.{some-card, place-below}
 use Rattle.tally.specs.declared.Tally.{Tally}
 use Rattle.tally.specs.Tally.{closed, HeadTally}
-use Rattle.rounds.specs.Rounds.{SourceCardAsked, Searched, StrikesLeft}
+use Rattle.rounds.specs.Rounds.{SourceCardAsked, Roomy, Searched, StrikesLeft}
 use Rattle.strikes.proofs.Needing.{needing-in}
 
 -- From a grid and a queue that lists what is off in it, the search stands at the head; the tally has the rounds closed.
-pub record Rounding (script names : List ℕ) (shapes : ℕ) (grid₀ grid : List ℕ) (queue : Queue) (head : ℕ)
+pub record Rounding (script names : List ℕ) (shapes : ℕ) (grid₀ queue₀ grid : List ℕ) (queue : Queue) (head : ℕ)
     (tally : Tally) : Type 0 where
   pub ready : Ready script names shapes
-  pub lent : length grid₀ ≡ get_or script 0 0 * shapes
-  pub search : Searching (board_of script names shapes grid₀) max_grid (work grid queue) head tally.struck tally.rounds
+  pub lent : Roomy script shapes grid₀ queue₀
+  pub search : Searching (board_of script names shapes grid₀) (length queue₀) (work grid queue) head
+      tally.struck tally.rounds
   pub marks : Marks grid₀ → Marks grid
 
 -- No round is closed yet.
@@ -50,38 +51,41 @@ abbrev pub none : Tally
 none = record { rounds = 0; struck = 0 }
 
 pub rounds-start : {script names : List ℕ} {shapes : ℕ} {grid : List ℕ} {queue : Queue} → Ready script names shapes
-    → length grid ≡ get_or script 0 0 * shapes → length queue.places ≡ max_grid
-    → Listed grid queue.places queue.len (length grid) → Rounding script names shapes grid grid queue 0 none
-rounds-start {script} {names} {shapes} {grid} {queue} ready lent room listed = record {
+    → Roomy script shapes grid queue.places.now → Listed grid queue.places.now queue.len (length grid)
+    → Rounding script names shapes grid queue.places.now grid queue 0 none
+rounds-start {grid = grid} {queue = queue} ready lent listed = record {
   ready = ready;
   lent = lent;
-  search = subst (λ (n : ℕ). Searching (board_of script names shapes grid) n (work grid queue) 0 0 0) room
-      (search-start grid queue.places queue.len lent (λ p l. refl) listed);
+  search = search-start grid queue.places.now queue.len lent.full (λ p l. refl) listed;
   marks = λ m. m;
 }
 
-module _ {script names : List ℕ} {shapes : ℕ} {grid₀ grid : List ℕ} {queue : Queue} {head : ℕ} {tally : Tally}
-    (r : Rounding script names shapes grid₀ grid queue head tally) where
+module _ {script names : List ℕ} {shapes : ℕ} {grid₀ queue₀ grid : List ℕ} {queue : Queue} {head : ℕ} {tally : Tally}
+    (r : Rounding script names shapes grid₀ queue₀ grid queue head tally) where
   -- ---- sizes
+  pairs : get_or script 0 0 * shapes ≤ length queue₀
+  pairs = omega (arith, r.lent.full, r.lent.room)
+
   few : get_or script 0 0 * shapes ≤ max_grid
   few = pairs-bound r.ready
 
   pub rounds-few : tally.rounds ≤ max_grid
   rounds-few = omega (arith, search-round r.search, few)
 
-  pub rounds-tail : (queue.len ≤ length grid₀) × (queue.len ≤ max_grid)
+  pub rounds-tail : (queue.len ≤ length queue.places.now) × (queue.len ≤ length grid₀) × (queue.len ≤ max_grid)
   rounds-tail =
-      let all = search-tail r.search in (omega (arith, all, r.lent), omega (arith, all, few))
+      let all = search-tail r.search in
+      (omega (arith, all, r.search.space, pairs), omega (arith, all, r.lent.full), omega (arith, all, few))
 
-  pub rounds-head : head < queue.len → get_or queue.places head 0 < get_or script 0 0 * shapes
+  pub rounds-head : head < queue.len → get_or queue.places.now head 0 < get_or script 0 0 * shapes
   rounds-head more = search-head r.search more
 
   pub rounds-room : Room (work grid queue)
-  rounds-room = search-room r.search few
+  rounds-room = search-room r.search pairs
 
   -- ---- a turn
   abbrev pub Within : Tally → Type 0
-  Within t = Rounding script names shapes grid₀ grid queue head t × (head < t.struck)
+  Within t = Rounding script names shapes grid₀ queue₀ grid queue head t × (head < t.struck)
 
   closed-next : head < queue.len → head ≡ tally.struck → Within (closed tally queue.len)
   closed-next more level = (
@@ -101,13 +105,13 @@ module _ {script names : List ℕ} {shapes : ℕ} {grid₀ grid : List ℕ} {que
       (eq-or-ne head tally.struck)
 
   pub rounds-turn : head < tally.struck → {after : List ℕ} {queue-after : Queue}
-      → Swept (λ p. Needs script names shapes p (get_or queue.places head 0)) (work grid queue)
+      → Swept (λ p. Needs script names shapes p (get_or queue.places.now head 0)) (work grid queue)
       (work after queue-after)
-      → Rounding script names shapes grid₀ after queue-after (head + 1) tally
+      → Rounding script names shapes grid₀ queue₀ after queue-after (head + 1) tally
   rounds-turn inside swept = record {
     ready = r.ready;
     lent = r.lent;
-    search = search-turn r.search few inside (λ p d. (needing-in r.ready p (get_or queue.places head 0) d, d))
+    search = search-turn r.search pairs inside (λ p d. (needing-in r.ready p (get_or queue.places.now head 0) d, d))
         (λ p _ d. d) swept;
     marks = λ m. swept-marks swept (r.marks m);
   }
@@ -122,7 +126,7 @@ module _ {script names : List ℕ} {shapes : ℕ} {grid₀ grid : List ℕ} {que
           counted = add-one tally.rounds;
           finished = search-done r.search (board-inside r.ready grid₀) used;
         });
-    size = r.search.full ∙ sym r.lent;
+    size = r.search.full ∙ sym r.lent.full;
     marks = r.marks;
   }
 

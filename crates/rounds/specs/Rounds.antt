@@ -1,5 +1,6 @@
 -- The rounds of the search backwards: what they ask and find; no part of a promise.
 -- SourceCardAsked   what finding the card of the next pair asks
+-- Roomy        a byte for each pair, and room in a queue's buffer for all
 -- RoundsAsked  what the rounds ask; StrikeAsked: with indexes still to be built
 -- Searched     the answer; StrikesLeft: with what becomes of the grid
 -- Assumes nothing.
@@ -30,19 +31,24 @@ pub record SourceCardAsked (script first : List ℕ) (shapes factor last q : ℕ
   pub by : Reciprocal shapes factor
   pub on-board : q < max_grid
 
--- What the rounds ask: what striking goes by, a byte for each pair, and the pairs that are off queued.
+-- A byte for each pair, and room in the queue's buffer for all.
+pub record Roomy (script : List ℕ) (shapes : ℕ) (grid queue : List ℕ) : Type 0 where
+  pub full : length grid ≡ get_or script 0 0 * shapes
+  pub room : length grid ≤ length queue
+
+-- What the rounds ask: what striking goes by, a byte and room for each pair, and the pairs that are off queued.
 pub record RoundsAsked (walk : Walk) (out : NameIndex) (back : Option (Bor NameIndex)) (grid : List ℕ) (queue : Queue)
     : Type 0 where
   pub by : StrikeReady walk out back
-  pub full : length grid ≡ get_or walk.script.now 0 0 * walk.shapes
-  pub listed : Listed grid queue.places queue.len (length grid)
+  pub lent : Roomy walk.script.now walk.shapes grid queue.places.now
+  pub listed : Listed grid queue.places.now queue.len (length grid)
 
 -- The same where the indexes are still to be built.
-pub record StrikeAsked (walk : Walk) (grid : List ℕ) : Type 0 where
+pub record StrikeAsked (walk : Walk) (grid queue : List ℕ) : Type 0 where
   pub links : WalkReady walk
   pub arriving : ArrivalsOf walk.script.now walk.first.now walk.next.now (get_or walk.script.now 0 0)
       (get_or walk.script.now 1 0)
-  pub full : length grid ≡ get_or walk.script.now 0 0 * walk.shapes
+  pub lent : Roomy walk.script.now walk.shapes grid queue
 
 -- The rounds counted are one more than those that strike something: the first that strikes none is counted too.
 pub record Searched (B : Board) (X : ℕ → Bool) (rounds struck : ℕ) : Type 0 where

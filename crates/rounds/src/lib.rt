@@ -6,7 +6,7 @@ ghost use Rattle.std.specs.Prelude.{◌≡◌, ◌/◌};
 ghost use Rattle.rounds.specs.Rounds.{SourceCardAsked, RoundsAsked, StrikeAsked, StrikesLeft};
 
 use board::{Queue, list_off};
-use strikes::{NameIndex, index_names, strike_needing};
+use strikes::{HALF_TABLE, NameIndex, strike_needing};
 use tally::Tally;
 use walks::{Walk, guessed_card, reciprocal, scaled_card};
 use words::MAX_KINDS;
@@ -62,19 +62,27 @@ fn strike_rounds(
 }
 
 // Strikes rounds from a grid that has the pairs whose counts fit, until one strikes nothing. The incoming names are
-// indexed where some shape names one.
-pub fn strike_all(walk: &Walk, grid: &mut [u8]) -> Tally
-    requires { StrikeAsked walk.now grid.old }
+// indexed where some shape names one. The pairs struck are queued in a buffer that is lent, whatever it held.
+pub fn strike_all(walk: &Walk, grid: &mut [u8], room: &mut [u16]) -> Tally
+    requires { StrikeAsked walk.now grid.old room.old }
     ensures { StrikesLeft walk.now.script.now walk.now.names.now walk.now.shapes
         grid.old grid.new result.rounds result.struck }
 {
-    let mut outgoing = NameIndex::new(0);
-    index_names(walk.names, walk.shapes, &mut outgoing);
-    let mut queue = Queue::new();
+    let mut named = [0u16; HALF_TABLE];
+    let mut alike = [0u16; HALF_TABLE];
+    let outgoing = NameIndex::new(walk.names, 0, walk.shapes, &mut named, &mut alike);
+    let mut queue = Queue::new(room);
     list_off(grid, &mut queue);
     if walk.incoming {
-        let mut incoming = NameIndex::new(MAX_KINDS);
-        index_names(walk.names, walk.shapes, &mut incoming);
+        let mut inward = [0u16; HALF_TABLE];
+        let mut inalike = [0u16; HALF_TABLE];
+        let incoming = NameIndex::new(
+            walk.names,
+            MAX_KINDS,
+            walk.shapes,
+            &mut inward,
+            &mut inalike,
+        );
         return strike_rounds(walk, &outgoing, Some(&incoming), grid, &mut queue);
     }
     strike_rounds(walk, &outgoing, None, grid, &mut queue)

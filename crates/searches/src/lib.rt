@@ -17,14 +17,21 @@ use pairs::walk_of;
 use rounds::strike_all;
 use sheet::ReadSheet;
 use typing::{Settled, Struck};
+use words::MAX_GRID;
 
-// Strikes rounds from a grid that has the pairs whose counts fit: it then has the largest typing.
-pub fn strike(sheet: &ReadSheet, links: &CardLinks, grid: &mut [u8]) -> Struck
+// Strikes rounds from a grid that has the pairs whose counts fit: it then has the largest typing. Each search queues
+// pairs in a buffer that is lent, whatever it held, so that a call with several searches fills only one with zeros.
+pub fn strike(
+    sheet: &ReadSheet,
+    links: &CardLinks,
+    grid: &mut [u8],
+    room: &mut [u16; MAX_GRID],
+) -> Struck
     requires { StrikesAsked sheet.now links.now grid.old }
     ensures { (s : Sheet) → TestedAs s sheet.now grid.old → LargestFound s grid.new (struck_said result) }
 {
     let walk = walk_of(sheet, links);
-    let tally = strike_all(&walk, grid);
+    let tally = strike_all(&walk, grid, room);
     let bare = count_bare(sheet.script, sheet.extent, grid);
     Struck {
         rounds: tally.rounds,
@@ -41,6 +48,7 @@ pub fn settle(
     desk: u16,
     fitting: &[u8],
     grid: &mut [u8],
+    room: &mut [u16; MAX_GRID],
 ) -> Settled
     requires { SettleAsked listed.now links.now fitting.now grid.old }
     ensures { (s : Sheet) → TestedAs s listed.now.sheet fitting.now
@@ -48,7 +56,15 @@ pub fn settle(
 {
     let walk = walk_of(&listed.sheet, links);
     let cards = usize::from(listed.sheet.extent.cards);
-    let found = close(&walk, listed.bookings, listed.count, desk, cards, grid);
+    let found = close(
+        &walk,
+        listed.bookings,
+        listed.count,
+        desk,
+        cards,
+        grid,
+        room,
+    );
     match first_unfit(grid, fitting, walk.shapes) {
         None => Ok(found),
         Some(pair) => Err(pair),

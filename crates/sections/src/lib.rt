@@ -4,7 +4,7 @@
 
 ghost use Rattle.std.specs.Prelude.{◌≤◌, length, IfSome};
 
-use input::decode;
+use input::decode_all;
 use std::io::Read;
 use streams::read_full;
 use words::MAX_INPUT;
@@ -87,5 +87,5 @@ pub fn read_words<'a>(reader: &mut impl Read, room: &'a mut [u16]) -> Option<&'a
     if room.len() < section.len() / 2 {
         return None;
     }
-    Some(decode(section, room))
+    Some(decode_all(section, room))
 }

@@ -2,11 +2,12 @@
 #![tactic(auto)]
 
 ghost use Rattle.std.specs.Prelude.{ℕ, ◌<◌, ◌≡◌, false, length, get_or};
+ghost use Rattle.words.specs.Sizes.{table_size};
 ghost use Rattle.sheet.specs.Opened.{OnlyOutgoing, WaysAsked, ReadAs};
 
 use script::read_with_kinds;
 use template::read_names;
-use words::{MAX_KINDS, MAX_LABELS, Refusal, TABLE_SIZE};
+use words::{MAX_KINDS, MAX_LABELS, Refusal};
 
 // The counts of a template and a script that are read, and whether some shape names an incoming kind.
 #[derive(Clone, Copy)]
@@ -49,11 +50,8 @@ fn names_incoming(names: &[u8], kinds: usize, shapes: usize) -> bool
 }
 
 // Reads a template and a script, and fills the table of names, whatever it held.
-pub fn read_sheet(
-    template: &[u16],
-    script: &[u16],
-    names: &mut [u8; TABLE_SIZE],
-) -> Result<Extent, Refusal>
+pub fn read_sheet(template: &[u16], script: &[u16], names: &mut [u8]) -> Result<Extent, Refusal>
+    requires { length names.old ≡ table_size }
     ensures { ReadAs template.now script.now names.new result }
 {
     let sizes = read_names(template, names)?;

@@ -8,12 +8,12 @@
 --   row_in                 such pairs are on the board
 --   named-exact            the numbers of such a chain make good just the pairs of NamedGood
 -- Assumes nothing.
-use mathlib.Core.Path.{◌≡◌, refl, sym, subst, ap, ap₂, ◌∙◌}
+use mathlib.Core.Path.{◌≡◌, refl, sym, ap, ap₂, ◌∙◌}
 use mathlib.Core.Logic.{⊎_elim}
 use mathlib.Core.List.{List}
 use Prim.Native.Nat.{ℕ, suc, ◌+◌, ◌-◌, ◌*◌, ◌/◌, ◌%◌, ◌≤◌, ◌<◌}
 use native.Mathlib.Omega.{arith}
-use lib.ListN.{get_or}
+use lib.ListN.{length, get_or, replicate, length-replicate, get_or-replicate}
 use borrow.Author.Tests.{eq-eqb, ne_eqb}
 use Rattle.board.specs.Work.{Work, Swept}
 use Rattle.words.proofs.Bools.{eq-or-ne}
@@ -22,8 +22,7 @@ use Rattle.words.specs.Limits.{max_kinds, max_labels, max_shapes}
 use Rattle.template.specs.Machine.{entry_at}
 use Rattle.typing.specs.Needs.{Ready}
 use Rattle.typing.proofs.Boards.{entries-bound}
-use Rattle.strikes.specs.Indexes.{half_entry, entry_key, name_keys, no_names, Table, NamesAsked}
-use Rattle.strikes.specs.declared.index.NameIndex.{NameIndex}
+use Rattle.strikes.specs.Indexes.{half_entry, entry_key, name_keys, Table, NamesAsked}
 use Rattle.strikes.specs.Strikes.{NamedGood}
 use Rattle.words.proofs.Places.{place_in, card-in, card-of, shape-in, shape_of}
 use Rattle.walks.proofs.Walks.{Later}
@@ -31,10 +30,22 @@ use Rattle.walks.proofs.Walks.{Later}
 pub ready-table : {script names : List ℕ} {shapes : ℕ} → Ready script names shapes → Table names shapes
 ready-table ready = record { few-shapes = ready.few-shapes; rows = ready.table; entries = entries-bound ready }
 
-pub names-asked : {script names : List ℕ} {shapes start : ℕ} {index : NameIndex} → Ready script names shapes
-    → start ≤ max_kinds → index ≡ no_names start → NamesAsked names shapes index
-names-asked {shapes = shapes} {index = index} ready half e =
-    subst (NamesAsked _ shapes) (sym e) (record { table = ready-table ready; half = half; blank = refl })
+pub names-asked : {names : List ℕ} {shapes start : ℕ} → Table names shapes → start ≤ max_kinds
+    → NamesAsked names start shapes (replicate name_keys 0) (replicate name_keys 0)
+names-asked table half =
+    let zero-at : (i : ℕ) → i < length {A = ℕ} (replicate name_keys 0) → get_or {A = ℕ} (replicate name_keys 0) i 0
+    ≡ 0 =
+    λ i l. get_or-replicate {A = ℕ} name_keys i 0 0 (omega (arith, length-replicate {A = ℕ} name_keys 0)) in
+    record {
+      table = table;
+      half = half;
+      keys = length-replicate {A = ℕ} name_keys 0;
+      blank = record {
+        zeros = zero-at;
+        room = omega (arith, length-replicate {A = ℕ} name_keys 0, table.few-shapes);
+      };
+      zeros = zero-at;
+    }
 
 module _ (names : List ℕ) (start p : ℕ) where
   -- the entry at a place of the half is read at its shape's row and its kind's label

@@ -4,16 +4,15 @@
 -- half_entry    the entry at a place of a half
 -- entry_key     by which a half's places are chained: a kind and the shape named for it; name_keys: how many such keys
 -- Table        a table of names with a row for each shape
--- no_names     the index of no names yet
 -- NamesAsked   what chaining the places of a half asks
--- IndexOf      the chains of a half's places; WayIndex: of the half of a way
+-- Indexed      the chains of a half's places; IndexOf: an index has them; WayIndex: of the half of a way
 -- IndexedBy    the indexes of a table
 -- Assumes nothing.
 use Rattle.std.specs.Prelude.{ℕ, ◌+◌, ◌-◌, ◌*◌, ◌/◌, ◌%◌, ◌≤◌, ◌<◌, ◌≡◌, List, cond, length, get_or, eqb}
-use Rattle.std.specs.Prelude.{replicate, Option, MatchOption}
+use Rattle.std.specs.Prelude.{Option, MatchOption}
 use Rattle.std.specs.Borrow.{Bor}
 use Rattle.words.specs.Limits.{max_kinds, max_labels, max_shapes}
-use Rattle.words.specs.Chain.{Chained}
+use Rattle.words.specs.Chain.{Chained, Blank}
 use Rattle.bags.specs.Label.{Way, outgoing, incoming, first_label}
 use Rattle.template.specs.Machine.{entry_at}
 use Rattle.sheet.specs.Opened.{OnlyOutgoing}
@@ -38,21 +37,23 @@ pub record Table (names : List ℕ) (shapes : ℕ) : Type 0 where
   pub rows : shapes * max_labels ≤ length names
   pub entries : (p : ℕ) → p < shapes * max_labels → get_or names p 0 ≤ max_shapes
 
--- The index of no names yet.
-abbrev pub no_names : ℕ → NameIndex
-no_names start = record { start = start; first = replicate name_keys 0; next = replicate name_keys 0 }
-
--- What chaining the places of a half asks.
-pub record NamesAsked (names : List ℕ) (shapes : ℕ) (index : NameIndex) : Type 0 where
+-- What chaining the places of a half asks: the table, and arrays of zeros.
+pub record NamesAsked (names : List ℕ) (start shapes : ℕ) (first next : List ℕ) : Type 0 where
   pub table : Table names shapes
-  pub half : index.start ≤ max_kinds
-  pub blank : index ≡ no_names index.start
+  pub half : start ≤ max_kinds
+  pub keys : length first ≡ name_keys
+  pub blank : Blank first next (shapes * max_kinds)
+  pub zeros : (i : ℕ) → i < length next → get_or next i 0 ≡ 0
 
 -- The places of a half are chained by their keys.
-pub record IndexOf (names : List ℕ) (shapes : ℕ) (index : NameIndex) : Type 0 where
-  pub keys : length index.first ≡ name_keys
-  pub places : shapes * max_kinds ≤ length index.next
-  pub chained : Chained (entry_key names index.start) index.first index.next (shapes * max_kinds)
+pub record Indexed (names : List ℕ) (start shapes : ℕ) (first next : List ℕ) : Type 0 where
+  pub keys : length first ≡ name_keys
+  pub places : shapes * max_kinds ≤ length next
+  pub chained : Chained (entry_key names start) first next (shapes * max_kinds)
+
+-- An index has them so.
+abbrev pub IndexOf : List ℕ → ℕ → NameIndex → Type 0
+IndexOf names shapes index = Indexed names index.start shapes index.first.now index.next.now
 
 -- The index is that of the half of a way.
 pub record WayIndex (names : List ℕ) (shapes : ℕ) (way : Way) (index : NameIndex) : Type 0 where

@@ -6,5 +6,5 @@
 mod index;
 mod strike;
 
-pub use index::{NameIndex, index_names};
-pub use strike::strike_needing;
+pub use index::{HALF_TABLE, NameIndex, index_names};
+pub use strike::{strike_needing, strike_sources};

@@ -31,13 +31,13 @@ fn strike_named(
 {
     let base = card * walk.shapes;
     let key = name_key(kind, u);
-    for p in Chain::new(index.first[key], &index.next) {
+    for p in Chain::new(index.first[key], index.next) {
         strike_one(grid, queue, base + p / MAX_KINDS);
     }
 }
 
 // Strikes the pairs at the start of a link to card m that need the shape u there, by the outgoing names.
-fn strike_sources(
+pub fn strike_sources(
     walk: &Walk,
     index: &NameIndex,
     m: usize,

@@ -1,7 +1,6 @@
 -- How the table of names is filled, shape by shape.
--- Filling          what holds before each shape: the rows before it are filled, the others are all 0
--- filling-start    it holds of a table that is all 0
--- filling-row      the row of the next shape has no names
+-- Filling          what holds before each shape: the rows before it are filled
+-- filling-start    it holds of any table
 -- filling-next     it holds after that shape was read into its row
 -- filling-…        one law for each answer after the loop or in it
 -- Assumes nothing.
@@ -12,8 +11,7 @@ use native.Mathlib.Omega.{arith}
 use native.Mathlib.Numerals.{add-one}
 use borrow.Author.Tests.{ltb-true, ltb-false}
 use borrow.Rule.Slice.PartMut.{mid_of, put_mid, same_len_mid, mid_len}
-use lib.ListN.{length, get_or, take, drop, replicate, length-replicate}
-use lib.Seq.{ext_get_or, get_or-take, get_or-drop}
+use lib.ListN.{length, get_or, drop}
 use lib.Dec.{ltb}
 use Rattle.bags.specs.Part.{Part}
 use Rattle.bags.specs.Named.{named}
@@ -21,11 +19,9 @@ use Rattle.words.specs.Limits.{max_labels, max_shapes}
 use Rattle.words.specs.Sizes.{table_size}
 use Rattle.words.specs.Reading.{accepted, Reading, turned_down}
 use Rattle.words.proofs.Bools.{bool_case}
-use Rattle.words.proofs.Cells.{put-before, put-inside, put-after}
+use Rattle.words.proofs.Cells.{put-before, put-inside}
 use Rattle.parts.specs.declared.Sizes.{Sizes}
 use Rattle.parts.specs.Placed.{Placed, placed}
-use Rattle.parts.specs.Reading.{no_names}
-use Rattle.parts.proofs.Trees.{no-entry}
 use Rattle.template.specs.Template.{read_shape, read_shapes}
 use Rattle.template.specs.Machine.{next_of, ShapeAnswer, ShapesAnswer}
 use Rattle.template.proofs.ShapeLaws.{refused-read, shapes-next, shapes-refused, shapes-more, shapes-end}
@@ -45,8 +41,6 @@ row_span t = row_end t - row_start t
 pub record Filling (sizes : Sizes) (words names : List ℕ) (at t : ℕ) : Type 0 where
   pub size : length names ≡ table_size
   pub within : t ≤ sizes.shapes
-  -- the rows from t on are all 0
-  pub rest : (j : ℕ) → t * max_labels ≤ j → get_or names j 0 ≡ 0
   -- the answer for the shapes that are left is the answer for all
   pub answer :
       next_of (read_shapes sizes words (sizes.shapes - t) at)
@@ -71,13 +65,12 @@ drop-first zero (x ∷ xs) a tail e = (cc, cc)
 drop-first (suc t) (x ∷ xs) a tail e = drop-first t xs a tail e
 
 pub filling-start :
-    (sizes : Sizes) (words names : List ℕ) → names ≡ replicate table_size 0 → Filling sizes words names 2 0
+    (sizes : Sizes) (words names : List ℕ) → length names ≡ table_size → Filling sizes words names 2 0
 filling-start sizes words names e =
     let z : sizes.shapes - 0 ≡ sizes.shapes = omega arith in
     record {
-      size = ap length e ∙ length-replicate {A = ℕ} table_size 0;
+      size = e;
       within = omega arith;
-      rest = λ j h. ap (λ (l : List ℕ). get_or l j 0) e ∙ no-entry table_size j;
       answer = rw z;
       left = λ all q. rw z q;
       filled = λ all q s k h i. absurd (omega arith);
@@ -87,16 +80,6 @@ module _ {sizes : Sizes} {words names : List ℕ} {at t : ℕ} (f : Filling size
   module _ (h : t < sizes.shapes) (i : sizes.shapes ≤ max_shapes) where
     row-bounds : (row_end t ≤ length names) × (row_span t ≡ max_labels)
     row-bounds = omega (arith, f.size)
-
-    pub filling-row : take (row_span t) (drop (row_start t) names) ≡ no_names
-    filling-row =
-        let l : length (mid_of (row_start t) (row_span t) names) ≡ row_span t
-        = mid_len (row_start t) (row_end t) names row-bounds.0 in
-        ext_get_or 0 _ no_names (l ∙ row-bounds.1)
-        (λ j b.
-        get_or-take (row_span t) (drop (row_start t) names) j 0 (omega (arith, l)) ∙ get_or-drop (row_start t)
-        names j 0
-        ∙ f.rest (t * max_labels + j) (omega arith) ∙ sym (no-entry max_labels j))
 
     one_less : sizes.shapes - t ≡ suc (sizes.shapes - (t + 1))
     one_less = omega arith
@@ -173,10 +156,6 @@ module _ {sizes : Sizes} {words names : List ℕ} {at t : ℕ} (f : Filling size
           record {
             size = same_len_mid (row_start t) (row_span t) names row b ∙ f.size;
             within = omega arith;
-            rest =
-                λ j l.
-                put-after (row_start t) (row_end t) names row j (omega arith) row-bounds.0 row-size (omega arith)
-                ∙ f.rest j (omega arith);
             answer =
                 shapes-next sizes words (sizes.shapes - (t + 1)) at next (sym o ∙ read.read)
                 ∙ ap (λ (n : ℕ). next_of (read_shapes sizes words n at)) (sym one_less) ∙ f.answer;

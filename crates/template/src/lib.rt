@@ -5,6 +5,7 @@
 ghost use Rattle.std.specs.Prelude.{◌≡◌, ◌+◌, ◌<◌, length};
 ghost use Rattle.words.specs.Reading.{accepted};
 ghost use Rattle.words.specs.Refused.{read_as};
+ghost use Rattle.words.specs.Sizes.{table_size};
 ghost use Rattle.template.specs.Answer.{template_said};
 ghost use Rattle.template.specs.Template.{open_at, part_at, read_shape, read_shapes, Template, read_template};
 ghost use Rattle.template.specs.Template.{template_says};
@@ -39,7 +40,8 @@ struct Reader<'a> {
 }
 
 impl Reader<'_> {
-    // Reads the shape at its place, and moves on behind it. The row then has the shape that it names for each label.
+    // Reads the shape at its place, and moves on behind it. The row, whatever it held, then has the shape that it names
+    // for each label.
     fn shape(&mut self, sizes: Sizes, row: &mut [u8]) -> Result<(), Refusal>
         requires { ShapeReadAsked sizes row.old }
         ensures stays { self.new.words ≡ self.old.words }
@@ -62,6 +64,7 @@ impl Reader<'_> {
         let end = start + count;
         let first = part_at(words, at);
         let shape = ShapeWords { words, end, sizes };
+        row.fill(0);
         let next = shape.part(first, MAX_DEPTH, row)?;
         if next < end {
             return Err(Refusal(Fault::WordsLeft, next));
@@ -71,7 +74,7 @@ impl Reader<'_> {
     }
 }
 
-// All shapes, and then the template's end. A table that is all 0 gets a row for each shape.
+// All shapes, and then the template's end. The table gets a row for each shape.
 fn all_shapes(words: &[u16], sizes: Sizes, names: &mut [u8]) -> Result<usize, Refusal>
     requires { ShapesReadAsked sizes names.old }
     ensures { ShapesAnswer (read_shapes sizes words.now sizes.shapes 2) (read_as result) names.new }
@@ -87,8 +90,9 @@ fn all_shapes(words: &[u16], sizes: Sizes, names: &mut [u8]) -> Result<usize, Re
     Ok(reader.at)
 }
 
-// Reads a template and fills the table of names, whatever it held.
-pub fn read_names(template: &[u16], names: &mut [u8; TABLE_SIZE]) -> Result<Sizes, Refusal>
+// Reads a template and fills the table of names, whatever it held. Only the rows of its shapes are written.
+pub fn read_names(template: &[u16], names: &mut [u8]) -> Result<Sizes, Refusal>
+    requires { length names.old ≡ table_size }
     ensures answer { template_said result ≡ template_says template.now }
     ensures table { (t : Template) → read_template template.now ≡ accepted t
         → Tabled t.parts names.new }
@@ -105,7 +109,6 @@ pub fn read_names(template: &[u16], names: &mut [u8; TABLE_SIZE]) -> Result<Size
         return Err(Refusal(Fault::ShapeCount, 1));
     }
     let sizes = Sizes { kinds, shapes };
-    *names = [0; TABLE_SIZE];
     all_shapes(template, sizes, names)?;
     Ok(sizes)
 }

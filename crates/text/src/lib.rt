@@ -106,21 +106,36 @@ impl Writer<'_> {
     }
 }
 
+// Writes a line into a buffer from a place on. Returns the next place.
+fn put_line_at(out: &mut [u8], at: usize, word: &[u8], numbers: &[usize]) -> usize
+    requires { Room out.old at (line_text word.now numbers.now) }
+    ensures { Wrote out.old at (line_text word.now numbers.now) out.new result }
+{
+    let mut text = Writer { out, end: at };
+    text.line(word, numbers);
+    text.end
+}
+
 // Writes a line to the front of a buffer. Returns its number of bytes.
 pub fn put_line(out: &mut [u8], word: &[u8], numbers: &[usize]) -> usize
     requires { Room out.old 0 (line_text word.now numbers.now) }
     ensures { Wrote out.old 0 (line_text word.now numbers.now) out.new result }
 {
-    let mut text = Writer { out, end: 0 };
-    text.line(word, numbers);
-    text.end
+    put_line_at(out, 0, word, numbers)
 }
 
-// Writes the line of a refusal, number and place, to the front of a buffer. Returns its number of bytes.
-pub fn put_refused(out: &mut [u8], refusal: Refusal) -> usize
+// Writes the line of a refusal, number and place, into a buffer from a place on. Returns the next place.
+pub fn put_refused(out: &mut [u8], at: usize, number: usize, place: usize) -> usize
+    requires { Room out.old at (refused_line number place) }
+    ensures { Wrote out.old at (refused_line number place) out.new result }
+{
+    put_line_at(out, at, b"refused", &[number, place])
+}
+
+// Writes the line of a refusal to the front of a buffer. Returns its number of bytes.
+pub fn put_refusal(out: &mut [u8], refusal: Refusal) -> usize
     requires { Room out.old 0 (refused_line (number refusal.0) refusal.1) }
     ensures { Wrote out.old 0 (refused_line (number refusal.0) refusal.1) out.new result }
 {
-    let number = usize::from(refusal.0.number());
-    put_line(out, b"refused", &[number, refusal.1])
+    put_refused(out, 0, usize::from(refusal.0.number()), refusal.1)
 }

@@ -12,7 +12,7 @@ ghost use Rattle.tidy_list.specs.TidyList.{tidied_words, list_text, tidy_text};
 ghost use Rattle.tidy_list.specs.Steps.{list_room, BufferFor, Tidying, SectionsLent};
 
 use input::{Sections, find_sections};
-use text::{Writer, put_refused};
+use text::{Writer, put_refusal};
 use tidy::tidy_bookings;
 use words::{Fault, MAX_BOOKINGS, MAX_INPUT, Refusal};
 
@@ -61,7 +61,7 @@ fn tidy_into(
 {
     match tidy_bookings(template, script, bookings, list) {
         Ok(count) => put_words(out, &list[0..count]),
-        Err(refusal) => put_refused(out, refusal),
+        Err(refusal) => put_refusal(out, refusal),
     }
 }
 
@@ -96,7 +96,7 @@ pub fn tidy_list(input: &[u8], out: &mut [u8; LIST_ROOM]) -> usize
     ensures inside { Counted out.new result }
 {
     match find_sections(input) {
-        None => put_refused(out, Refusal(Fault::InputLength, 0)),
+        None => put_refusal(out, Refusal(Fault::InputLength, 0)),
         Some(sections) => tidy_sections(input, sections, out),
     }
 }

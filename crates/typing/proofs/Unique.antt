@@ -1,6 +1,7 @@
 -- The contracts of the calls for the typings leave no choice: two answers to one call are the same.
 --   typing-unique           a typing is its pairs
 --   largest-found-unique, smallest-found-unique, both-found-unique   of one sheet there is one answer
+--   card_unique, shape-unique   a card, and a shape, is its number
 --   pair-unique, pair-plain   a card and a shape are what is said of them, which is no refusal at one place
 --   struck-unique, settled-unique, both-unique                       of one saying one thing found
 --   largest-said-unique, smallest-said-unique, both-said-unique      of one saying one answer
@@ -113,10 +114,10 @@ module _ {s : Sheet} {B : Board} (rep : Represents s B) where
         (l, m, em, el)
 
 -- ---- of one saying one answer
-card_unique : {n m : Card} → n.0 ≡ m.0 → n ≡ m
+pub card_unique : {n m : Card} → n.0 ≡ m.0 → n ≡ m
 card_unique e = ap (λ (x : ℕ). record { 0 = x }) e
 
-shape-unique : {t u : Shape} → t.0 ≡ u.0 → t ≡ u
+pub shape-unique : {t u : Shape} → t.0 ≡ u.0 → t ≡ u
 shape-unique e = ap (λ (x : ℕ). record { 0 = x }) e
 
 pub pair-unique : (number : ℕ) (p q : Card × Shape) → pair_said number p ≡ pair_said number q → p ≡ q

@@ -1,5 +1,5 @@
 -- `flood::flood_from` leaves the closure of what was queued. Assumes nothing.
-use mathlib.Core.Path.{◌≡◌, subst, sym, ◌∙◌}
+use mathlib.Core.Path.{subst, sym, ◌∙◌}
 use Prim.Native.Nat.{ℕ, ◌<◌, ◌≤◌, ◌*◌}
 use native.Mathlib.Omega.{arith}
 use lib.ListN.{length, get_or}
@@ -17,12 +17,17 @@ use Rattle.flood.proofs.flood_from.Goals.{After-at-q, At-loop-head}
 -- the invariant for one grid of fits
 Now : (l : At-loop-head)
     → Flooding (board_of l.args.walk.now.script.now l.args.walk.now.names.now l.args.walk.now.shapes l.args.grid.now)
-    (Queued (entry l.args.queue.now.places) l.args.queue.now.len) max_grid (work l.loop-head.grid l.loop-head.queue)
-    l.loop-head.head
+    (Queued (entry l.args.queue.now.places.now) l.args.queue.now.len) (length l.args.queue.now.places.now)
+    (work l.loop-head.grid l.loop-head.queue) l.loop-head.head
 Now l = l.loop-head.invariant.1 l.args.grid.now
 
 few-pairs : (l : At-loop-head) → get_or l.args.walk.now.script.now 0 0 * l.args.walk.now.shapes ≤ max_grid
 few-pairs l = pairs-bound l.requires.links.ready
+
+-- the queue has room for every pair
+room-in : (l : At-loop-head)
+    → get_or l.args.walk.now.script.now 0 0 * l.args.walk.now.shapes ≤ length l.args.queue.now.places.now
+room-in l = omega (arith, l.requires.full, l.requires.room)
 
 -- the pair that is read is one of the sheet
 read-in : (a : After-at-q) → a.at-q.result < get_or a.args.walk.now.script.now 0 0 * a.args.walk.now.shapes
@@ -32,11 +37,8 @@ read-in a =
 pub loop-head-init : goal.loop-head-init
 loop-head-init c = (
   omega arith,
-  λ fits.
-      let all : length c.args.queue.now.places ≡ max_grid = omega arith in
-      subst (λ (n : ℕ). Flooding (board_of c.args.walk.now.script.now c.args.walk.now.names.now c.args.walk.now.shapes
-      fits) (Queued (entry c.args.queue.now.places) c.args.queue.now.len) n (work c.args.grid.now c.args.queue.now) 0)
-      all (flood-start c.args.grid.now c.args.queue.now.places c.args.queue.now.len c.requires.full c.requires.listed),
+  λ fits. flood-start c.args.grid.now c.args.queue.now.places.now c.args.queue.now.len c.requires.full
+      c.requires.listed,
 )
 
 pub at-q-requires : goal.at-q-requires
@@ -45,8 +47,8 @@ at-q-requires c =
       arith,
       c.loop-head-test.true,
       flood-tail (Now (goal.at.at-q-requires c).At-loop-head),
-      few-pairs
-          (goal.at.at-q-requires c).At-loop-head,
+      (Now (goal.at.at-q-requires c).At-loop-head).space,
+      room-in (goal.at.at-q-requires c).At-loop-head,
     )
 
 pub overflow_add-head : goal.overflow_add-head
@@ -62,7 +64,7 @@ overflow_add-head c =
 pub led_card-n-requires : goal.led_card-n-requires
 led_card-n-requires c =
     let links = c.requires.links in
-    led-asked links.ready (read-in c) c.reciprocal-factor.ensures c.loop-head.invariant.0 links.leaving
+    led-asked links.ready (read-in (goal.at.led_card-n-requires c).After-at-q) c.reciprocal-factor.ensures c.loop-head.invariant.0 links.leaving
 
 pub follow_pair-requires : goal.follow_pair-requires
 follow_pair-requires c =
@@ -76,7 +78,7 @@ follow_pair-requires c =
             (goal.at.follow_pair-requires c).At-loop-head).full,
       );
       full = (Now (goal.at.follow_pair-requires c).At-loop-head).full;
-      room = flood-room (Now (goal.at.follow_pair-requires c).At-loop-head) (few-pairs
+      room = flood-room (Now (goal.at.follow_pair-requires c).At-loop-head) (room-in
           (goal.at.follow_pair-requires c).At-loop-head);
     }
 
@@ -96,12 +98,12 @@ loop-head-smaller c =
 pub loop-head-preserved : goal.loop-head-preserved
 loop-head-preserved c =
     let ready = c.requires.links.ready in
-    let q = get_or c.loop-head.queue.places c.loop-head.head 0 in
+    let q = get_or c.loop-head.queue.places.now c.loop-head.head 0 in
     let w = work c.loop-head.grid c.loop-head.queue in
     let v = work c.follow_pair.new.grid c.follow_pair.new.queue in
     let NeededBy = Needs c.args.walk.now.script.now c.args.walk.now.names.now c.args.walk.now.shapes in (
       card-last ready (read-in (goal.at.loop-head-preserved c).After-at-q) c.led_card-n.ensures,
-      λ fits. flood-turn (c.loop-head.invariant.1 fits) (few-pairs (goal.at.loop-head-preserved c).At-loop-head)
+      λ fits. flood-turn (c.loop-head.invariant.1 fits) (room-in (goal.at.loop-head-preserved c).At-loop-head)
           c.loop-head-test.true
           (λ p d. (needs-in ready q p d, d)) (λ p d. d)
           (subst (λ (x : ℕ). Swept (NeededBy x) w v) c.at-q.ensures c.follow_pair.ensures),

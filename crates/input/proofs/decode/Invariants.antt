@@ -1,9 +1,10 @@
--- `input::decode` fills a buffer with words. The invariant: those below `i` are those that stand in the bytes. Assumes
--- nothing.
+-- `input::decode` fills the front of `words`. The invariant: those below `i` are the words that stand in the bytes.
+-- Assumes nothing.
 use mathlib.Core.Path.{◌≡◌}
-use lib.ListN.{take}
+use lib.ListN.{length, take}
 use Rattle.input.specs.Input.{words_from}
 use Rattle.input.proofs.decode.Given as goal
 
 abbrev pub invariant-loop-i : goal.invariant-loop-i
-invariant-loop-i l = take l.i l.words ≡ words_from l.bytes 0 l.i
+invariant-loop-i l =
+    (length l.words ≡ length l.initial.words) × (take l.i l.words ≡ words_from l.bytes l.at l.i)

@@ -6,21 +6,21 @@ use Rattle.judge_line.proofs.Grids.{no-grid, grid-apart, grid-read, desk-is, gri
 use Rattle.judge_line.proofs.Lines.{line_refused, line-judged}
 use Rattle.judge_line.proofs.judge_front.Goals as goal
 
-pub put_refused-requires : goal.put_refused-requires
-put_refused-requires c = omega (arith, refused-bound 60 0)
+pub put_refusal-requires : goal.put_refusal-requires
+put_refusal-requires c = omega (arith, refused-bound 60 0)
 
 pub returns-then-input-start : goal.returns-then-input-start
 returns-then-input-start c =
-    line_refused (no-grid _ (c.end-end.ensures ∙ c.requires.laid.end) _ (omega arith)) c.put_refused.ensures
+    line_refused (no-grid _ (c.end-end.ensures ∙ c.requires.laid.end) _ (omega arith)) c.put_refusal.ensures
 
-pub put_refused-requires-then-input-grid_end : goal.put_refused-requires-then-input-grid_end
-put_refused-requires-then-input-grid_end c = omega (arith, refused-bound 60 0)
+pub put_refusal-requires-then-input-grid_end : goal.put_refusal-requires-then-input-grid_end
+put_refusal-requires-then-input-grid_end c = omega (arith, refused-bound 60 0)
 
 pub returns-then-input-grid_end : goal.returns-then-input-grid_end
 returns-then-input-grid_end c =
     line_refused
     (grid-apart _ (c.end-end.ensures ∙ c.requires.laid.end) c.count_at.ensures.same _ (omega arith) (omega arith))
-    c.put_refused-then-input-grid_end.ensures
+    c.put_refusal-then-input-grid_end.ensures
 
 pub returns : goal.returns
 returns c =

@@ -1,5 +1,5 @@
 -- `judge_line::put_judged` writes the line of a grid that is accepted, or of a pair that is not met. Assumes nothing.
-use mathlib.Core.Path.{◌≡◌, ◌∙◌, ap₂}
+use mathlib.Core.Path.{◌∙◌, ap₂}
 use mathlib.Core.List.{[], ◌∷◌}
 use Prim.Native.Nat.{ℕ}
 use native.Mathlib.Omega.{arith}

@@ -6,10 +6,10 @@ use Rattle.text.proofs.Lines.{verdict-refused, refused-bound}
 use Rattle.judge_line.proofs.Lines.{verdict-wrote}
 use Rattle.judge_line.proofs.put_verdict.Goals as goal
 
-pub put_refused-requires : goal.put_refused-requires
-put_refused-requires c = omega (arith, refused-bound (number c.in-Err.refusal.0) c.in-Err.refusal.1)
+pub put_refusal-requires : goal.put_refusal-requires
+put_refusal-requires c = omega (arith, refused-bound (number c.in-Err.refusal.0) c.in-Err.refusal.1)
 
 pub returns-in-Err : goal.returns-in-Err
 returns-in-Err c =
     verdict-wrote c.in-Err.is
-    (wrote-same (verdict-refused (number c.in-Err.refusal.0) c.in-Err.refusal.1) c.put_refused.ensures)
+    (wrote-same (verdict-refused (number c.in-Err.refusal.0) c.in-Err.refusal.1) c.put_refusal.ensures)

@@ -6,12 +6,12 @@ use Rattle.words.specs.Reading.{turned_down}
 use Rattle.printer.proofs.Writes.{refused_end, written-by}
 use Rattle.printer.proofs.print_sheet.Goals as goal
 
-pub put_refused-requires : goal.put_refused-requires
-put_refused-requires c = le_trans (refused_end _ _) (omega arith)
+pub put_refusal-requires : goal.put_refusal-requires
+put_refusal-requires c = le_trans (refused_end _ _) (omega arith)
 
 pub returns-in-None : goal.returns-in-None
 returns-in-None c =
-    let told = written-by c.args.input.now (turned_down 60 0) c.in-None.ensures.reads refl c.put_refused.ensures in
+    let told = written-by c.args.input.now (turned_down 60 0) c.in-None.ensures.reads refl c.put_refusal.ensures in
     record { writes = told.0; inside = told.1 }
 
 pub returns-in-Some : goal.returns-in-Some

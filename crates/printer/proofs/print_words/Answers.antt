@@ -11,8 +11,8 @@ use Rattle.printer.proofs.print_words.Goals.{After-grid_size-size}
 part_end : (c : After-grid_size-size) → c.grid_size-size.result ≤ max_grid
 part_end c = omega (arith, c.grid_size-size.ensures, few-pairs (c.in-Ok.ensures).known)
 
-pub put_refused-requires : goal.put_refused-requires
-put_refused-requires c = le_trans (refused_end _ _) (omega arith)
+pub put_refusal-requires : goal.put_refusal-requires
+put_refusal-requires c = le_trans (refused_end _ _) (omega arith)
 
 pub slice_bounds-radio-end : goal.slice_bounds-radio-end
 slice_bounds-radio-end c = part_end (goal.at.slice_bounds-radio-end c).After-grid_size-size
@@ -37,4 +37,4 @@ print_grids-requires c =
     }
 
 pub returns-in-Err : goal.returns-in-Err
-returns-in-Err c = refused-written c.in-Err.ensures c.put_refused.ensures
+returns-in-Err c = refused-written c.in-Err.ensures c.put_refusal.ensures

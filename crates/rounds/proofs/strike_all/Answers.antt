@@ -1,10 +1,10 @@
 -- `rounds::strike_all` indexes the names, lists the pairs that are off and strikes the rounds. Assumes nothing.
 use native.Mathlib.Omega.{arith}
-use Rattle.strikes.proofs.Names.{names-asked}
+use Rattle.strikes.proofs.Names.{ready-table}
 use Rattle.rounds.proofs.strike_all.Goals as goal
 
-pub index_names-requires : goal.index_names-requires
-index_names-requires c = names-asked c.requires.links.ready (omega arith) c.new-outgoing.ensures
+pub new-outgoing-requires : goal.new-outgoing-requires
+new-outgoing-requires c = (ready-table c.requires.links.ready, omega arith)
 
-pub index_names-requires-then-walk : goal.index_names-requires-then-walk
-index_names-requires-then-walk c = names-asked c.requires.links.ready (omega arith) c.new-incoming.ensures
+pub new-incoming-requires : goal.new-incoming-requires
+new-incoming-requires c = (ready-table c.requires.links.ready, omega arith)

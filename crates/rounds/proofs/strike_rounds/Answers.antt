@@ -23,7 +23,7 @@ read-in a =
 
 pub loop-head-init : goal.loop-head-init
 loop-head-init c = (
-  rounds-start c.requires.by.ready c.requires.full (omega arith) c.requires.listed,
+  rounds-start c.requires.by.ready c.requires.lent c.requires.listed,
   omega arith,
 )
 
@@ -31,12 +31,12 @@ pub at_head-requires : goal.at_head-requires
 at_head-requires c = rounds-few c.loop-head.invariant.0
 
 pub at-q-requires : goal.at-q-requires
-at-q-requires c = omega (arith, c.loop-head-test.true, (rounds-tail c.loop-head.invariant.0).1)
+at-q-requires c = omega (arith, c.loop-head-test.true, (rounds-tail c.loop-head.invariant.0).0)
 
 pub source_card-m-requires : goal.source_card-m-requires
 source_card-m-requires c =
     let out = c.requires.by in
-    source-asked out.ready (read-in c) c.reciprocal-factor.ensures c.loop-head.invariant.1
+    source-asked out.ready (read-in (goal.at.source_card-m-requires c).After-at-q) c.reciprocal-factor.ensures c.loop-head.invariant.1
     out.arriving
 
 pub strike_needing-requires : goal.strike_needing-requires
@@ -51,7 +51,7 @@ strike_needing-requires c =
     }
 
 pub loop-head-smaller : goal.loop-head-smaller
-loop-head-smaller c = omega (arith, c.loop-head-test.true, (rounds-tail c.loop-head.invariant.0).0)
+loop-head-smaller c = omega (arith, c.loop-head-test.true, (rounds-tail c.loop-head.invariant.0).1)
 
 pub loop-head-preserved : goal.loop-head-preserved
 loop-head-preserved c =

@@ -6,7 +6,8 @@ use Rattle.rounds.proofs.strike_rounds.Given as goal
 
 abbrev pub invariant-loop-head : goal.invariant-loop-head
 invariant-loop-head l =
-    Rounding l.walk.script.now l.walk.names.now l.walk.shapes l.initial.grid l.grid l.queue l.head l.tally ×
+    Rounding l.walk.script.now l.walk.names.now l.walk.shapes l.initial.grid l.initial.queue.places.now l.grid l.queue
+    l.head l.tally ×
     (l.last ≤ get_or l.walk.script.now 0 0 - 1)
 
 abbrev pub decreases-loop-head : goal.decreases-loop-head

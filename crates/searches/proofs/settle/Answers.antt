@@ -21,6 +21,7 @@ close-found-requires c =
       sized = bookings-sized e.cards e.shapes bookings _ c.requires.list;
       booked-in = bookings-each e.cards e.shapes bookings _ c.requires.list;
       full = c.requires.size;
+      room-in = omega (arith, c.requires.size, few-pairs k);
     })
 
 -- What the closure is, of the sheet.

@@ -1,6 +1,7 @@
 -- `searches::strike` leaves the largest typing of each sheet whose pairs that fit it was lent. Assumes nothing.
 use mathlib.Core.Path.{◌∙◌}
-use Rattle.lent.proofs.KnownSheet.{read}
+use native.Mathlib.Omega.{arith}
+use Rattle.lent.proofs.KnownSheet.{read, few-pairs}
 use Rattle.pairs.proofs.Links.{links-ready, links-arriving, among}
 use Rattle.pairs.proofs.Tested.{counted-as, full-words}
 use Rattle.searches.proofs.Striking.{struck-found}
@@ -12,7 +13,10 @@ strike_all-tally-requires c =
     rw c.walk_of-walk.ensures (record {
       links = links-ready t.known c.requires.some.links;
       arriving = links-arriving t.known c.requires.arriving;
-      full = full-words t;
+      lent = record {
+        full = full-words t;
+        room = omega (arith, t.fits.full, few-pairs t.known);
+      };
     })
 
 pub count_bare-bare-requires : goal.count_bare-bare-requires

@@ -10,7 +10,7 @@ pub returns : goal.returns
 returns g c =
     omega (
       arith,
-      ap length c.decode.ensures,
+      ap length c.decode_all.ensures,
       words-length c.in_ok-section.section.now 0 (length
           c.in_ok-section.section.now / 2),
     )

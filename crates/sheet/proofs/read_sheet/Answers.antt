@@ -10,7 +10,7 @@ use Rattle.template.specs.Template.{template_says}
 use Rattle.script.specs.Answer.{script_said}
 use Rattle.sheet.proofs.Openings.{sheet-opened, sheet-template, sheet-script}
 use Rattle.sheet.proofs.Ways.{ways-asked, all-outgoing}
-use borrow.Author.Rules.{rules}
+use native.Mathlib.Omega.{arith}
 use Rattle.sheet.proofs.read_sheet.Goals as goal
 use Rattle.sheet.proofs.read_sheet.Goals.{After-read_with_kinds}
 
@@ -21,7 +21,7 @@ said w = sym (ap template_said w.in_ok-sizes.was) ∙ w.read_names.ensures.answe
 
 -- The table is as long as before.
 full : (w : After-read_with_kinds) → length w.read_names.new.names ≡ table_size
-full w = search rules
+full w = omega arith
 
 pub names_incoming-incoming-requires : goal.names_incoming-incoming-requires
 names_incoming-incoming-requires c =

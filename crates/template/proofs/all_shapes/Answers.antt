@@ -3,10 +3,11 @@
 use Prim.Native.Nat.{◌<◌}
 use mathlib.Core.Path.{refl, ap, ◌∙◌}
 use native.Mathlib.Omega.{arith}
+use borrow.Rule.Slice.PartMut.{mid_len}
 use Rattle.template.specs.Template.{read_shape}
 use Rattle.template.specs.Machine.{ShapeAnswer, moved_to}
 use Rattle.std.proofs.lemmas.Result.{err_from_is_err_and}
-use Rattle.template.proofs.Table.{filling-start, filling-row, filling-next, filling-refused}
+use Rattle.template.proofs.Table.{filling-start, filling-next, filling-refused}
 use Rattle.template.proofs.Table.{filling-more, filling-end}
 use Rattle.template.proofs.all_shapes.Goals as goal
 use Rattle.template.proofs.all_shapes.Goals.{In-loop-t, After-shape}
@@ -21,14 +22,20 @@ read : (c : After-shape) → ShapeAnswer (read_shape c.args.sizes c.args.words.n
 read c = rw c.loop-t.invariant.0 at c.shape.ensures.reads
 
 pub loop-t-init : goal.loop-t-init
-loop-t-init c = (refl, filling-start c.args.sizes c.args.words.now c.args.names.now c.requires.unnamed)
+loop-t-init c = (refl, filling-start c.args.sizes c.args.words.now c.args.names.now c.requires.room)
 
 pub shape-requires : goal.shape-requires
 shape-requires c =
     record {
       kinds-high = c.requires.kinds-high;
       shapes-high = c.requires.shapes-high;
-      unnamed = filling-row c.loop-t.invariant.1 (below (goal.at.shape-requires c).In-loop-t) c.requires.shapes-high;
+      room = mid_len _ _ c.loop-t.names (omega (
+        arith,
+        below (goal.at.shape-requires c).In-loop-t,
+        c.requires.shapes-high,
+        c.loop-t.invariant.1.size,
+      ))
+          ∙ omega arith;
     }
 
 pub loop-t-preserved : goal.loop-t-preserved

@@ -28,6 +28,14 @@ few-kinds c = omega (arith, c.from.ensures, c.if-from-gt-MAX_KINDS.false)
 few-shapes : (c : Else-from-gt-MAX_SHAPES) → get_or c.args.template.now 1 0 ≤ max_shapes
 few-shapes c = omega (arith, c.from-else-shapes-lt1.ensures, c.if-from-gt-MAX_SHAPES.false)
 
+pub all_shapes-requires : goal.all_shapes-requires
+all_shapes-requires c =
+    record {
+      kinds-high = few-kinds (goal.at.all_shapes-requires c).Else-from-gt-MAX_KINDS;
+      shapes-high = few-shapes (goal.at.all_shapes-requires c).Else-from-gt-MAX_SHAPES;
+      room = c.requires;
+    }
+
 -- the three tests of the counts, each of two parts
 lengths : (c : Joined-then-template-lt2) → TemplateRead c.args.template.now (refusal 1 (0 ∷ [])) c.args.names.now
 lengths c =

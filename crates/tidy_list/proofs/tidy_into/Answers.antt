@@ -24,8 +24,8 @@ written : (k : In-Ok) → Told k.args.template.now k.args.script.now k.args.book
 written k = told k.args.template.now k.args.script.now k.args.bookings.now k.args.list.now
     k.tidy_bookings.new.out k.requires.sized (Ok k.in-Ok.count) k.in-Ok.ensures
 
-pub put_refused-requires : goal.put_refused-requires
-put_refused-requires c = omega (arith, refused-bound (number c.in-Err.refusal.0) c.in-Err.refusal.1)
+pub put_refusal-requires : goal.put_refusal-requires
+put_refusal-requires c = omega (arith, refused-bound (number c.in-Err.refusal.0) c.in-Err.refusal.1)
 
 pub slice_bounds-put_words-end : goal.slice_bounds-put_words-end
 slice_bounds-put_words-end c = (written (goal.at.slice_bounds-put_words-end c).In-Ok).2
@@ -46,7 +46,7 @@ put_words-requires c =
 
 pub returns-in-Err : goal.returns-in-Err
 returns-in-Err c =
-    refused-wrote (refused (goal.at.returns-in-Err c).In-Err) c.put_refused.ensures
+    refused-wrote (refused (goal.at.returns-in-Err c).In-Err) c.put_refusal.ensures
 
 pub returns-in-Ok : goal.returns-in-Ok
 returns-in-Ok c =

@@ -4,8 +4,8 @@ use Rattle.text.proofs.Lines.{refused-bound}
 use Rattle.tidy_list.proofs.Lists.{faulty-wrote}
 use Rattle.tidy_list.proofs.tidy_list.Goals as goal
 
-pub put_refused-requires : goal.put_refused-requires
-put_refused-requires c = omega (arith, refused-bound 60 0)
+pub put_refusal-requires : goal.put_refusal-requires
+put_refusal-requires c = omega (arith, refused-bound 60 0)
 
 pub returns-in-None-clause-writes : goal.returns-in-None-clause-writes
-returns-in-None-clause-writes c = faulty-wrote c.args.input.now c.in-None.ensures.reads c.put_refused.ensures
+returns-in-None-clause-writes c = faulty-wrote c.args.input.now c.in-None.ensures.reads c.put_refusal.ensures

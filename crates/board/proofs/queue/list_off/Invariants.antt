@@ -2,10 +2,11 @@
 use mathlib.Core.Path.{◌≡◌}
 use Prim.Native.Nat.{◌≤◌}
 use lib.ListN.{length}
-use Rattle.words.specs.Sizes.{max_grid}
 use Rattle.board.specs.Listing.{Listed}
 use Rattle.board.proofs.queue.list_off.Given as goal
 
 abbrev pub invariant-loop-place : goal.invariant-loop-place
 invariant-loop-place l =
-    (l.queue.len ≤ l.place) × (length l.queue.places ≡ max_grid) × Listed l.grid l.queue.places l.queue.len l.place
+    (l.queue.len ≤ l.place) × (length l.queue.places.now ≡ length l.initial.queue.places.now) ×
+    (l.queue.places.ghost_name ≡ l.initial.queue.places.ghost_name) ×
+    Listed l.grid l.queue.places.now l.queue.len l.place

@@ -19,7 +19,7 @@ push-requires c =
 
 pub returns-then-grid-place-eq1 : goal.returns-then-grid-place-eq1
 returns-then-grid-place-eq1 c =
-    rw c.push.ensures (sym (strike-hit (entered (goal.at.returns-then-grid-place-eq1 c).Start) c.args.place (on-yes
+    rw (c.push.ensures.places, c.push.ensures.len, c.push.ensures.lent) (sym (strike-hit (entered (goal.at.returns-then-grid-place-eq1 c).Start) c.args.place (on-yes
     c.args.grid.now c.args.place c.if-grid-place-eq1.true)))
 
 pub returns-else-grid-place-eq1 : goal.returns-else-grid-place-eq1

@@ -26,7 +26,7 @@ pair-in c =
 
 -- the key has a head
 key_in : (c : After-name_key-key)
-    → c.name_key-key.result < length c.args.index.now.first
+    → c.name_key-key.result < length c.args.index.now.first.now
 key_in c =
     omega (arith, c.name_key-key.ensures, c.requires.places.keys, c.requires.kind-in, c.requires.shape-in)
 

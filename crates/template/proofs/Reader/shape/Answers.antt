@@ -1,16 +1,17 @@
 -- `template::Reader::shape` meets its contract: a law of proofs/ShapeLaws for each answer.
 -- Assumes nothing.
-use Prim.Native.Nat.{◌+◌, ◌-◌, ◌≤◌, ◌<◌}
+use Prim.Native.Nat.{ℕ, ◌+◌, ◌-◌, ◌≤◌, ◌<◌}
 use native.Mathlib.Omega.{arith}
-use mathlib.Core.Path.{ap}
-use lib.ListN.{length}
+use mathlib.Core.Path.{◌≡◌, ap, ◌∙◌}
+use lib.ListN.{length, replicate}
 use Rattle.words.specs.Refused.{read_as}
+use Rattle.parts.specs.Reading.{no_names}
 use Rattle.std.proofs.lemmas.Result.{err_from_is_err_and}
 use Rattle.template.proofs.ShapeLaws.{shape-missing, shape-long, shape-empty, shape-left, shape-done}
 use Rattle.template.proofs.ShapeLaws.{shape-refused}
 use borrow.Author.Rules.{rules}
 use Rattle.template.proofs.Reader.shape.Goals as goal
-use Rattle.template.proofs.Reader.shape.Goals.{After-part, After-from-count}
+use Rattle.template.proofs.Reader.shape.Goals.{After-part, After-fill, After-from-count}
 
 -- the count stands inside the words, and so many words follow it
 inside : (c : After-from-count) → c.args.self.now.at < length c.args.self.now.words.now
@@ -18,6 +19,12 @@ inside c = omega arith
 
 follow : (p : After-part) → p.from-count.result ≤ length p.args.self.now.words.now - (p.args.self.now.at + 1)
 follow p = p.if-words-start.false
+
+-- the row names nothing when the part is read
+blank : (a : After-fill) → a.fill.new.self ≡ no_names
+blank a =
+    let filled : a.fill.new.self ≡ replicate (length a.args.row.now) 0 = search rules in
+    filled ∙ ap (λ (n : ℕ). replicate n 0) a.requires.room
 
 pub returns-then-words-at-clause-reads : goal.returns-then-words-at-clause-reads
 returns-then-words-at-clause-reads c =
@@ -38,7 +45,7 @@ returns-then-count-eq0-clause-reads c =
 
 pub part-requires : goal.part-requires
 part-requires c =
-    let e = ap length c.requires.unnamed in
+    let e = ap length (blank (goal.at.part-requires c).After-fill) in
     search rules
 
 pub returns-then-next-end-clause-reads : goal.returns-then-next-end-clause-reads
@@ -46,9 +53,10 @@ returns-then-next-end-clause-reads c =
     shape-left c.args.sizes c.args.self.now.words.now c.args.self.now.at c.from-count.result (inside
     (goal.at.returns-then-next-end-clause-reads
     c).After-from-count)
-    c.from-count.ensures (follow (goal.at.returns-then-next-end-clause-reads c).After-part) c.args.row.now
+    c.from-count.ensures (follow (goal.at.returns-then-next-end-clause-reads c).After-part) c.fill.new.self
     c.part_at-first.result (read_as c.part.result) _
-    c.requires.unnamed c.part_at-first.ensures c.part.ensures _ (ap read_as c.in_ok-next.was)
+    (blank (goal.at.returns-then-next-end-clause-reads c).After-fill) c.part_at-first.ensures c.part.ensures _
+    (ap read_as c.in_ok-next.was)
     c.if-next-end.true
 
 pub returns-clause-reads : goal.returns-clause-reads
@@ -56,9 +64,9 @@ returns-clause-reads c =
     shape-done c.args.sizes c.args.self.now.words.now c.args.self.now.at c.from-count.result (inside
     (goal.at.returns-clause-reads
     c).After-from-count)
-    c.from-count.ensures (follow (goal.at.returns-clause-reads c).After-part) c.args.row.now
+    c.from-count.ensures (follow (goal.at.returns-clause-reads c).After-part) c.fill.new.self
     c.part_at-first.result (read_as c.part.result) _
-    c.requires.unnamed c.part_at-first.ensures c.part.ensures _ c.requires.kinds-high
+    (blank (goal.at.returns-clause-reads c).After-fill) c.part_at-first.ensures c.part.ensures _ c.requires.kinds-high
     (ap read_as c.in_ok-next.was) c.if-next-end.false
 
 pub returns-in_err-next-clause-reads : goal.returns-in_err-next-clause-reads
@@ -68,6 +76,7 @@ returns-in_err-next-clause-reads c =
     (shape-refused c.args.sizes c.args.self.now.words.now c.args.self.now.at c.from-count.result (inside
     (goal.at.returns-in_err-next-clause-reads
     c).After-from-count)
-    c.from-count.ensures (follow (goal.at.returns-in_err-next-clause-reads c).After-part) c.args.row.now
+    c.from-count.ensures (follow (goal.at.returns-in_err-next-clause-reads c).After-part) c.fill.new.self
     c.part_at-first.result (read_as c.part.result) _
-    c.requires.unnamed c.part_at-first.ensures c.part.ensures _ _ (ap read_as c.in_err-next.was))
+    (blank (goal.at.returns-in_err-next-clause-reads c).After-fill) c.part_at-first.ensures c.part.ensures _ _
+    (ap read_as c.in_err-next.was))
