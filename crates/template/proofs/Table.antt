@@ -1,17 +1,20 @@
 -- How the table of names is filled, shape by shape.
--- Filling          what holds before each shape: the rows before it are filled
+-- Filling          what holds before each shape: the rows before it are filled, the others are as they were lent
 -- filling-start    it holds of any table
+-- filling-rest, filling-row   where a table that is all 0 was lent, the rows from the next shape on are all 0, and the
+--                  row of that shape has no names
 -- filling-next     it holds after that shape was read into its row
 -- filling-…        one law for each answer after the loop or in it
 -- Assumes nothing.
-use mathlib.Core.Path.{◌≡◌, ap, sym, ◌∙◌}
+use mathlib.Core.Path.{◌≡◌, refl, ap, sym, ◌∙◌}
 use mathlib.Core.List.{List, [], ◌∷◌}
 use Prim.Native.Nat.{ℕ, zero, suc, ◌+◌, ◌-◌, ◌*◌, ◌≤◌, ◌<◌}
 use native.Mathlib.Omega.{arith}
 use native.Mathlib.Numerals.{add-one}
 use borrow.Author.Tests.{ltb-true, ltb-false}
 use borrow.Rule.Slice.PartMut.{mid_of, put_mid, same_len_mid, mid_len}
-use lib.ListN.{length, get_or, drop}
+use lib.ListN.{length, get_or, take, drop, replicate}
+use lib.Seq.{ext_get_or, get_or-take, get_or-drop}
 use lib.Dec.{ltb}
 use Rattle.bags.specs.Part.{Part}
 use Rattle.bags.specs.Named.{named}
@@ -19,9 +22,11 @@ use Rattle.words.specs.Limits.{max_labels, max_shapes}
 use Rattle.words.specs.Sizes.{table_size}
 use Rattle.words.specs.Reading.{accepted, Reading, turned_down}
 use Rattle.words.proofs.Bools.{bool_case}
-use Rattle.words.proofs.Cells.{put-before, put-inside}
+use Rattle.words.proofs.Cells.{put-before, put-inside, put-after}
 use Rattle.parts.specs.declared.Sizes.{Sizes}
 use Rattle.parts.specs.Placed.{Placed, placed}
+use Rattle.parts.specs.Reading.{no_names}
+use Rattle.parts.proofs.Trees.{no-entry}
 use Rattle.template.specs.Template.{read_shape, read_shapes}
 use Rattle.template.specs.Machine.{next_of, ShapeAnswer, ShapesAnswer}
 use Rattle.template.proofs.ShapeLaws.{refused-read, shapes-next, shapes-refused, shapes-more, shapes-end}
@@ -37,10 +42,12 @@ row_end t = t * max_labels + max_labels
 abbrev row_span : ℕ → ℕ
 row_span t = row_end t - row_start t
 
--- What holds before the shape t, whose count of words stands at `at`.
-pub record Filling (sizes : Sizes) (words names : List ℕ) (at t : ℕ) : Type 0 where
+-- What holds before the shape t, whose count of words stands at `at`, of a table that was lent as `lent`.
+pub record Filling (sizes : Sizes) (words lent names : List ℕ) (at t : ℕ) : Type 0 where
   pub size : length names ≡ table_size
   pub within : t ≤ sizes.shapes
+  -- the rows from t on are as they were lent
+  pub rest : (j : ℕ) → t * max_labels ≤ j → get_or names j 0 ≡ get_or lent j 0
   -- the answer for the shapes that are left is the answer for all
   pub answer :
       next_of (read_shapes sizes words (sizes.shapes - t) at)
@@ -65,21 +72,35 @@ drop-first zero (x ∷ xs) a tail e = (cc, cc)
 drop-first (suc t) (x ∷ xs) a tail e = drop-first t xs a tail e
 
 pub filling-start :
-    (sizes : Sizes) (words names : List ℕ) → length names ≡ table_size → Filling sizes words names 2 0
+    (sizes : Sizes) (words names : List ℕ) → length names ≡ table_size → Filling sizes words names names 2 0
 filling-start sizes words names e =
     let z : sizes.shapes - 0 ≡ sizes.shapes = omega arith in
     record {
       size = e;
       within = omega arith;
+      rest = λ j h. refl;
       answer = rw z;
       left = λ all q. rw z q;
       filled = λ all q s k h i. absurd (omega arith);
     }
 
-module _ {sizes : Sizes} {words names : List ℕ} {at t : ℕ} (f : Filling sizes words names at t) where
+module _ {sizes : Sizes} {words lent names : List ℕ} {at t : ℕ} (f : Filling sizes words lent names at t) where
+  pub filling-rest : lent ≡ replicate table_size 0 → (j : ℕ) → t * max_labels ≤ j → get_or names j 0 ≡ 0
+  filling-rest e j l = f.rest j l ∙ ap (λ (table : List ℕ). get_or table j 0) e ∙ no-entry table_size j
+
   module _ (h : t < sizes.shapes) (i : sizes.shapes ≤ max_shapes) where
     row-bounds : (row_end t ≤ length names) × (row_span t ≡ max_labels)
     row-bounds = omega (arith, f.size)
+
+    pub filling-row : lent ≡ replicate table_size 0 → take (row_span t) (drop (row_start t) names) ≡ no_names
+    filling-row e =
+        let l : length (mid_of (row_start t) (row_span t) names) ≡ row_span t
+        = mid_len (row_start t) (row_end t) names row-bounds.0 in
+        ext_get_or 0 _ no_names (l ∙ row-bounds.1)
+        (λ j b.
+        get_or-take (row_span t) (drop (row_start t) names) j 0 (omega (arith, l)) ∙ get_or-drop (row_start t)
+        names j 0
+        ∙ filling-rest e (t * max_labels + j) (omega arith) ∙ sym (no-entry max_labels j))
 
     one_less : sizes.shapes - t ≡ suc (sizes.shapes - (t + 1))
     one_less = omega arith
@@ -151,11 +172,15 @@ module _ {sizes : Sizes} {words names : List ℕ} {at t : ℕ} (f : Filling size
           ∙ ap (λ (p : Part). named p k) (sym (next-parts all q).0)))
 
       pub filling-next :
-          Filling sizes words (put_mid (row_start t) (row_span t) names row) next (t + 1)
+          Filling sizes words lent (put_mid (row_start t) (row_span t) names row) next (t + 1)
       filling-next =
           record {
             size = same_len_mid (row_start t) (row_span t) names row b ∙ f.size;
             within = omega arith;
+            rest =
+                λ j l.
+                put-after (row_start t) (row_end t) names row j (omega arith) row-bounds.0 row-size (omega arith)
+                ∙ f.rest j (omega arith);
             answer =
                 shapes-next sizes words (sizes.shapes - (t + 1)) at next (sym o ∙ read.read)
                 ∙ ap (λ (n : ℕ). next_of (read_shapes sizes words n at)) (sym one_less) ∙ f.answer;

@@ -6,4 +6,4 @@ use Rattle.template.proofs.all_shapes.Given as goal
 
 abbrev pub invariant-loop-t : goal.invariant-loop-t
 invariant-loop-t l =
-    (l.reader.words.now ≡ l.words) × Filling l.sizes l.words l.names l.reader.at l.t
+    (l.reader.words.now ≡ l.words) × Filling l.sizes l.words l.initial.names l.names l.reader.at l.t
