@@ -64,7 +64,8 @@ overflow_add-head c =
 pub led_card-n-requires : goal.led_card-n-requires
 led_card-n-requires c =
     let links = c.requires.links in
-    led-asked links.ready (read-in (goal.at.led_card-n-requires c).After-at-q) c.reciprocal-factor.ensures c.loop-head.invariant.0 links.leaving
+    led-asked links.ready (read-in (goal.at.led_card-n-requires c).After-at-q) c.reciprocal-factor.ensures
+    c.loop-head.invariant.0 links.leaving
 
 pub follow_pair-requires : goal.follow_pair-requires
 follow_pair-requires c =

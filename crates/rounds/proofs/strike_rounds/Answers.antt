@@ -36,8 +36,8 @@ at-q-requires c = omega (arith, c.loop-head-test.true, (rounds-tail c.loop-head.
 pub source_card-m-requires : goal.source_card-m-requires
 source_card-m-requires c =
     let out = c.requires.by in
-    source-asked out.ready (read-in (goal.at.source_card-m-requires c).After-at-q) c.reciprocal-factor.ensures c.loop-head.invariant.1
-    out.arriving
+    source-asked out.ready (read-in (goal.at.source_card-m-requires c).After-at-q) c.reciprocal-factor.ensures
+    c.loop-head.invariant.1 out.arriving
 
 pub strike_needing-requires : goal.strike_needing-requires
 strike_needing-requires c =

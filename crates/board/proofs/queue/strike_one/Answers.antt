@@ -19,8 +19,9 @@ push-requires c =
 
 pub returns-then-grid-place-eq1 : goal.returns-then-grid-place-eq1
 returns-then-grid-place-eq1 c =
-    rw (c.push.ensures.places, c.push.ensures.len, c.push.ensures.lent) (sym (strike-hit (entered (goal.at.returns-then-grid-place-eq1 c).Start) c.args.place (on-yes
-    c.args.grid.now c.args.place c.if-grid-place-eq1.true)))
+    let before = entered (goal.at.returns-then-grid-place-eq1 c).Start in
+    let stands = on-yes c.args.grid.now c.args.place c.if-grid-place-eq1.true in
+    rw (c.push.ensures.places, c.push.ensures.len, c.push.ensures.lent) (sym (strike-hit before c.args.place stands))
 
 pub returns-else-grid-place-eq1 : goal.returns-else-grid-place-eq1
 returns-else-grid-place-eq1 c =

@@ -30,8 +30,9 @@ loop-link-preserved c =
     let off = c.loop-link.invariant in
     let further : 1 + 3 * c.loop-link.link + 3 ≡ 1 + 3 * (c.loop-link.link + 1) = omega arith in
     elim c.if-kind-links.branch [
-      | then-kind-links+else-kind-links-2 w ↦ rw w.count-is (subst (CountedOff c.args.links.now c.args.kind (c.loop-link.count + 1))
-          further (off-same rise off (omega arith) (omega arith)))
+      | then-kind-links+else-kind-links-2 w ↦ rw w.count-is
+          (subst (CountedOff c.args.links.now c.args.kind (c.loop-link.count + 1)) further
+          (off-same rise off (omega arith) (omega arith)))
       | else-kind-links w ↦ rw w.count-is (subst (CountedOff c.args.links.now c.args.kind c.loop-link.count)
           further (off-other rise off (omega arith) (omega arith)))
     ]
